@@ -1,0 +1,63 @@
+//! Access units to measure on: a temporal delimiter, a frame header and four tile groups.
+
+use crate::input::{Kind, Random};
+use crate::plain;
+
+const DELIMITER: u8 = 2;
+const FRAME_HEADER: u8 = 3;
+const TILE_GROUP: u8 = 4;
+const HAS_SIZE: u8 = 2;
+
+const FRAME_HEADER_BYTES: usize = 18;
+const TILE_GROUPS: usize = 4;
+
+/// OBUs back to back, and their lengths.
+pub struct ObuList {
+    pub bytes: Vec<u8>,
+    pub lengths: Vec<usize>,
+}
+
+/// A list of `len` bytes in all, whose OBUs' contents are of the given kind.
+pub fn obu_list(kind: Kind, len: usize, random: &mut Random) -> ObuList {
+    let mut list = ObuList {
+        bytes: vec![DELIMITER << 3 | HAS_SIZE, 0],
+        lengths: vec![2],
+    };
+    let header = list.bytes.len() + leading(FRAME_HEADER_BYTES);
+    add(&mut list, FRAME_HEADER, FRAME_HEADER_BYTES, kind, random);
+    // The first bit, show_existing_frame, is 0: tile groups follow.
+    list.bytes[header] &= 0x7F;
+    for left in (1..=TILE_GROUPS).rev() {
+        let share = (len - list.bytes.len()) / left;
+        add(&mut list, TILE_GROUP, share, kind, random);
+    }
+    list
+}
+
+/// The list as a carried unit, by the plain C writer.
+pub fn carried(list: &ObuList) -> Vec<u8> {
+    let mut unit = vec![0; list.bytes.len() / 2 * 3 + 3 * list.lengths.len()];
+    let answer = plain::write_unit(&list.bytes, &list.lengths, &mut unit);
+    assert_eq!(answer.number, 0, "the list is a legal one");
+    unit.truncate(answer.count as usize);
+    unit
+}
+
+/// Adds an OBU of `len` bytes: header, size, content.
+fn add(list: &mut ObuList, obu_type: u8, len: usize, kind: Kind, random: &mut Random) {
+    let width = leading(len) - 1;
+    let size = len - 1 - width;
+    list.bytes.push(obu_type << 3 | HAS_SIZE);
+    for k in 0..width {
+        let more = if k + 1 < width { 0x80 } else { 0 };
+        list.bytes.push((size >> (7 * k) & 0x7F) as u8 | more);
+    }
+    list.bytes.extend(kind.bytes(size, random));
+    list.lengths.push(len);
+}
+
+/// The bytes before the content of an OBU of `len` bytes: header and the shortest size that fits.
+fn leading(len: usize) -> usize {
+    let width = (1..8).find(|&width| len - 1 - width < 1 << (7 * width));
+    1 + width.expect("an OBU is at most 1 MiB")
+}

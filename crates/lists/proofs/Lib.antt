@@ -1,0 +1,5 @@
+pub mod Tests
+pub mod Picks
+pub mod Parts
+pub mod Writing
+pub mod Tables

@@ -1,0 +1,75 @@
+-- Laws of verdicts: of a try from its test, and of the tries from a verdict that passed. Assumes nothing.
+use Prim.Native.Nat.{ℕ, suc}
+use mathlib.Core.Bool.{Bool, true, false}
+use mathlib.Core.Path.{_≡_, refl, sym, ap, _∙_}
+use mathlib.Core.List.{List, [], _∷_}
+use native.Mathlib.Omega.{arith}
+use Rattle.lists.specs.Lists.{pick}
+use Rattle.refusal.specs.Verdict.{Verdict, passed, refused, _>>=_, _>>_, NoValue, given, atPlace, inTurn}
+
+-- ---- a try, from its test
+pub refuse : {B : Type 0} {t : Bool} (number : ℕ) (v : Verdict B) → t ≡ true → refused number 0 ≡ (given number t >> v)
+unfolding given pick _>>_
+refuse number v e = rw e
+
+pub pass-on : {B : Type 0} {t : Bool} {r v : Verdict B} (number : ℕ) → t ≡ false → r ≡ v → r ≡ (given number t >> v)
+unfolding given pick _>>_
+pass-on number e p = rw e p
+
+-- the same of a try with a place of its own
+pub refuse-at : {B : Type 0} {t : Bool} (place number : ℕ) (v : Verdict B) → t ≡ true → refused number place ≡ (atPlace place (given number t) >> v)
+unfolding given pick _>>_ atPlace
+refuse-at place number v e = rw e
+
+pub pass-at : {B : Type 0} {t : Bool} {r v : Verdict B} (place number : ℕ) → t ≡ false → r ≡ v → r ≡ (atPlace place (given number t) >> v)
+unfolding given pick _>>_ atPlace
+pass-at place number e p = rw e p
+
+-- ---- the tries, from a verdict that passed
+never : {A P : Type 0} {number place : ℕ} {a : A} → _≡_ {A = Verdict A} (refused number place) (passed a) → P
+never e = let z : _≡_ {A = ℕ} 0 1 = cc in absurd (omega arith)
+
+pub passed-same : {A : Type 0} (a b : A) → _≡_ {A = Verdict A} (passed a) (passed b) → a ≡ b
+passed-same a b e = cc
+
+-- the first part passed, and the second from there
+pub passed-then : {A B : Type 0} (v : Verdict A) (f : A → Verdict B) (b : B) → (v >>= f) ≡ passed b → (a : A) × (v ≡ passed a) × (f a ≡ passed b)
+unfolding _>>=_
+passed-then (passed a) f b e = (a, refl, e)
+passed-then (refused number place) f b e = never e
+
+pub passed-after : {B : Type 0} (v : Verdict NoValue) (w : Verdict B) (b : B) → (v >> w) ≡ passed b → (v ≡ passed tt) × (w ≡ passed b)
+unfolding _>>_
+passed-after (passed a) w b e = (refl, e)
+passed-after (refused number place) w b e = never e
+
+pub given-passed : (number : ℕ) (t : Bool) → given number t ≡ passed tt → t ≡ false
+unfolding given pick
+given-passed number true e = never e
+given-passed number false e = refl
+
+pub not-given : (number : ℕ) (t : Bool) → t ≡ false → given number t ≡ passed tt
+unfolding given pick
+not-given number t e = rw e
+
+at-passed : (place : ℕ) (v : Verdict NoValue) → atPlace place v ≡ passed tt → v ≡ passed tt
+unfolding atPlace
+at-passed place (passed a) e = refl
+at-passed place (refused number _) e = never e
+
+-- each element passed
+abbrev pub All : {A : Type 0} → (A → Type 0) → List A → Type 0
+All P [] = Unit {0}
+All P (a ∷ l) = P a × All P l
+
+pub turns-passed : {A : Type 0} (judge : A → Verdict NoValue) (index : ℕ) (l : List A) → inTurn judge index l ≡ passed tt → All (λ a. judge a ≡ passed tt) l
+unfolding inTurn
+turns-passed judge index [] e = tt
+turns-passed judge index (a ∷ l) e =
+    let h = passed-after (atPlace index (judge a)) (inTurn judge (suc index) l) tt e in
+    (at-passed index (judge a) (h .0), turns-passed judge (suc index) l (h .1))
+
+pub all-turns : {A : Type 0} (judge : A → Verdict NoValue) (index : ℕ) (l : List A) → All (λ a. judge a ≡ passed tt) l → inTurn judge index l ≡ passed tt
+unfolding inTurn atPlace _>>_
+all-turns judge index [] h = refl
+all-turns judge index (a ∷ l) h = rw (h .0) (all-turns judge (suc index) l (h .1))

@@ -1,0 +1,6 @@
+//! An independent implementation of the rules, straight from their sentences.
+//!
+//! Each function stands under the sentence it says. Nothing here uses the library or its binding.
+
+pub mod payload;
+pub mod refusal;

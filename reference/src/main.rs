@@ -1,0 +1,48 @@
+//! The differential suites: the library, through its binding, against the second implementation.
+//!
+//! With names of suites on the command line only those run.
+
+mod kit;
+mod suites;
+
+use std::process::ExitCode;
+
+/// The number of cases that each suite must at least run: `name count` a line.
+const COUNTS: &str = include_str!("../counts.txt");
+
+fn stored_count(name: &str) -> Option<u64> {
+    for line in COUNTS.lines() {
+        if let Some((stored, count)) = line.split_once(' ')
+            && stored == name
+        {
+            return count.trim().parse().ok();
+        }
+    }
+    None
+}
+
+fn main() -> ExitCode {
+    let chosen: Vec<String> = std::env::args().skip(1).collect();
+    for name in &chosen {
+        if !suites::ALL.iter().any(|suite| suite.name == name) {
+            println!("no suite has the name {name}");
+            println!("0 passed, 1 failed");
+            return ExitCode::FAILURE;
+        }
+    }
+    let mut passed = 0;
+    let mut failed = 0;
+    for suite in suites::ALL {
+        if chosen.is_empty() || chosen.iter().any(|name| name == suite.name) {
+            let outcome = kit::Suite::run(suite, stored_count(suite.name));
+            passed += outcome.passed;
+            failed += outcome.failed;
+        }
+    }
+    println!("{passed} passed, {failed} failed");
+    if failed == 0 {
+        ExitCode::SUCCESS
+    } else {
+        ExitCode::FAILURE
+    }
+}
