@@ -2,5 +2,8 @@
 //!
 //! Each function stands under the sentence it says. Nothing here uses the library or its binding.
 
+pub mod obu;
+pub mod order;
 pub mod payload;
 pub mod refusal;
+pub mod unit;

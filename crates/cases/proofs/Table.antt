@@ -1,21 +1,46 @@
 -- Every case of the table holds: a test that antt computes over the whole table, and that the test is sound at each case. Assumes nothing.
 use Prim.Native.Nat.{ℕ, _<_}
 use mathlib.Core.Bool.{Bool, true, false, not, _&&_}
-use mathlib.Core.Path.{_≡_, refl}
+use mathlib.Core.Path.{_≡_, refl, ap₂}
 use mathlib.Core.List.{List, [], _∷_}
 use borrow.Author.Tests.{eqb-true, not-true}
 use lib.Dec.{eqb}
 use lib.ListN.{length, getD}
-use Rattle.lists.specs.Lists.{same, all}
-use Rattle.lists.proofs.Tests.{and-both, same-bytes}
+use Rattle.lists.specs.Lists.{pick, same, all}
+use Rattle.lists.proofs.Tests.{and-both, clash, same-bytes}
 use Rattle.lists.proofs.Tables.{each}
+use Rattle.refusal.specs.Verdict.{Verdict, passed, refused, _>>=_, _>>_, NoValue, given}
 use Rattle.emulation.specs.Payload.{escape, escapeAfter, unescape, dropped, legal, forbidden, above3, firstForbidden}
-use Rattle.cases.specs.Cases.{Case, escapes, unescapes, illegal, Holds, cases}
+use Rattle.obu.specs.Leb128.{leb128, lebWithin, lowFirst, inRange}
+use Rattle.obu.specs.Header.{obuRefusal, judged, headerOf, sizedHeader, sizeOf, headerWith, fixedBytes}
+use Rattle.cases.specs.Cases.{Case, escapes, unescapes, illegal, passes, refuses, Holds, cases}
+
+isPassed : Verdict NoValue → Bool
+isPassed (passed _) = true
+isPassed (refused number place) = false
+
+isRefused : ℕ → Verdict NoValue → Bool
+isRefused number (passed _) = false
+isRefused number (refused n place) = eqb n number && eqb place 0
 
 test : Case → Bool
 test (escapes obu w) = same (escape obu) w
 test (unescapes payload w d) = legal payload && (same (unescape payload) w && eqb (dropped payload) d)
+test (passes obu) = isPassed (obuRefusal obu)
+test (refuses obu number) = isRefused number (obuRefusal obu)
 test (illegal payload place) = not (legal payload) && eqb (firstForbidden payload) place
+
+is-passed : (v : Verdict NoValue) → isPassed v ≡ true → v ≡ passed tt
+unfolding isPassed
+is-passed (passed _) e = refl
+is-passed (refused number place) e = clash e refl
+
+is-refused : (number : ℕ) (v : Verdict NoValue) → isRefused number v ≡ true → v ≡ refused number 0
+unfolding isRefused
+is-refused number (passed _) e = clash e refl
+is-refused number (refused n place) e =
+    let h = and-both (eqb n number) (eqb place 0) e in
+    ap₂ refused (eqb-true n number (h .0)) (eqb-true place 0 (h .1))
 
 sound : (c : Case) → test c ≡ true → Holds c
 unfolding test
@@ -24,13 +49,15 @@ sound (unescapes payload w d) e =
     let h = and-both (legal payload) (same (unescape payload) w && eqb (dropped payload) d) e in
     let k = and-both (same (unescape payload) w) (eqb (dropped payload) d) (h .1) in
     (h .0, same-bytes (unescape payload) w (k .0), eqb-true (dropped payload) d (k .1))
+sound (passes obu) e = is-passed (obuRefusal obu) e
+sound (refuses obu number) e = is-refused number (obuRefusal obu) e
 sound (illegal payload place) e =
     let h = and-both (not (legal payload)) (eqb (firstForbidden payload) place) e in
     (not-true (legal payload) (h .0), eqb-true (firstForbidden payload) place (h .1))
 
 -- the table passes, by computation
 tested : all test cases ≡ true
-unfolding all test same cases escapeAfter unescape dropped legal forbidden above3 firstForbidden
+unfolding all test same cases escapeAfter unescape dropped legal forbidden above3 firstForbidden isPassed isRefused judged headerOf sizedHeader sizeOf headerWith fixedBytes leb128 lebWithin lowFirst inRange given pick _>>_ _>>=_
 tested = refl
 
 -- the one statement: every case of the table holds of the definitions

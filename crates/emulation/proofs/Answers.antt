@@ -49,6 +49,9 @@ unescaping-illegal p room q r h e k =
 pub judged-legal : (p : Bytes) (q : Judged) (d : ℕ) → judgedSays q ≡ judging p → q ≡ judged.Legal d → (legal p ≡ true) × (d ≡ dropped p)
 judged-legal p q d e k = legal-judged p d (sym (ap judgedSays k) ∙ e)
 
+pub judged-illegal : (p : Bytes) (q : Judged) (r : Refused) → judgedSays q ≡ judging p → q ≡ judged.Illegal r → legal p ≡ false
+judged-illegal p q r e k = illegal-judged p (numberOf (r .why)) (r .place) (sym (ap judgedSays k) ∙ e) .0
+
 -- the length of what a legal payload unescapes to
 pub left-after : (p : Bytes) (q : Judged) (d : ℕ) → judgedSays q ≡ judging p → q ≡ judged.Legal d → (d ≤ length p) × (length p - d ≡ length (unescape p))
 left-after p q d e k =

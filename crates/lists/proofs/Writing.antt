@@ -3,15 +3,16 @@
 --     start      nothing is written
 --     room       the next element has its place
 --     put        one more
+--     append     some more, written by a call that was lent the rest of the slice
 --     done       all is written
 -- `Prefix` is the same of as much of `whole` as `out₀` has room for. Assumes nothing.
 use Prim.Native.Nat.{ℕ, suc, _+_, _-_, _≤_, _<_, zero-le}
 use mathlib.Core.Path.{_≡_, refl, sym, ap, subst, _∙_}
-use mathlib.Core.List.{List, [], _∷_, _++_, append-nil}
+use mathlib.Core.List.{List, [], _∷_, _++_, append-nil, append-assoc}
 use native.Mathlib.Omega.{arith}
 use native.Mathlib.Numerals.{add-one}
 use lib.ListN.{length, take, drop, set, length-append, length-set, length-take, length-drop, take-append-drop}
-use lib.Seq.{length-take-le, take-suc-set, append-snoc, drop-set-lt, drop-drop, take-nil}
+use lib.Seq.{length-take-le, take-suc-set, append-snoc, drop-set-lt, drop-drop, take-nil, take-append-add, drop-append-add, take-append-seam, drop-append-seam}
 use Rattle.lists.specs.Lists.{over}
 
 pub record Part (out₀ whole : List ℕ) (n : ℕ) (rest out : List ℕ) : Type 0 where
@@ -40,6 +41,28 @@ put {out₀} {whole} {rest} {out} {n} {b} h fits =
           ∙ drop-drop 1 n out₀;
       long = length-set out n b ∙ h .long;
       within = rw length-set (omega arith);
+    }
+
+-- w over what stands from n on: its elements more
+pub append : {out₀ whole rest out : List ℕ} {n : ℕ} (w : List ℕ) → Part out₀ whole n (w ++ rest) out → length whole ≤ length out₀
+    → Part out₀ whole (n + length w) rest (take n out ++ over w (drop n out))
+append {out₀} {whole} {rest} {out} {n} w h fits =
+    let a = length-take-le n out (h .within) in
+    let t : take (n + length w) (take n out ++ over w (drop n out)) ≡ take n out ++ w =
+    ap (λ (k : ℕ). take (k + length w) (take n out ++ over w (drop n out))) (sym a) ∙ take-append-add (take n out) (over w (drop n out)) (length w)
+    ∙ ap (λ (l : List ℕ). take n out ++ l) (take-append-seam w (drop (length w) (drop n out))) in
+    let d : drop (n + length w) (take n out ++ over w (drop n out)) ≡ drop (length w) (drop n out) =
+    ap (λ (k : ℕ). drop (k + length w) (take n out ++ over w (drop n out))) (sym a) ∙ drop-append-add (take n out) (over w (drop n out)) (length w)
+    ∙ drop-append-seam w (drop (length w) (drop n out)) in
+    let r = counted h in
+    let l : length (take n out ++ over w (drop n out)) ≡ length out =
+    omega
+    (arith, length-append (take n out) (over w (drop n out)), a, length-append w (drop (length w) (drop n out)), length-drop (length w) (drop n out), length-drop n out, length-append w rest, h .long) in
+    record {
+      front = ap (λ (x : List ℕ). x ++ rest) t ∙ append-assoc (take n out) w rest ∙ h .front;
+      back = d ∙ ap (λ (x : List ℕ). drop (length w) x) (h .back) ∙ drop-drop (length w) n out₀;
+      long = l ∙ h .long;
+      within = omega (arith, r, length-append w rest, h .long);
     }
 
 pub done : {out₀ whole out : List ℕ} {n : ℕ} → Part out₀ whole n [] out → out ≡ over whole out₀

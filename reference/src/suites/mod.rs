@@ -1,5 +1,9 @@
 //! The suites, one module each; `payload` holds what the suites of payloads share.
 
+mod demand_3;
+mod leb128;
+mod obu;
+mod order;
 mod payload;
 mod payload_exhaustive;
 mod payload_limits;
@@ -13,4 +17,8 @@ pub const ALL: &[&Definition] = &[
     &payload_exhaustive::SUITE,
     &payload_random::SUITE,
     &payload_limits::SUITE,
+    &leb128::SUITE,
+    &obu::SUITE,
+    &order::SUITE,
+    &demand_3::SUITE,
 ];

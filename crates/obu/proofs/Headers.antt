@@ -1,0 +1,124 @@
+-- The header of an OBU lies within it, its first ten bytes decide it (`judged-first`), and its type is the one that gives the kind. Assumes nothing.
+use Prim.Native.Nat.{ℕ, _+_, _-_, _≤_, _<_, zero-le}
+use mathlib.Core.Bool.{Bool, true, false, _&&_}
+use mathlib.Core.Path.{_≡_, refl, sym, ap, subst, _∙_}
+use native.Mathlib.Omega.{arith}
+use borrow.Author.Tests.{eqb-false, ne-eqb, leb-true, leb-false}
+use lib.Dec.{eqb, leb}
+use lib.ListN.{length, take, drop, length-drop}
+use lib.Seq.{length-take-le, getD-take, take-all}
+use Rattle.lists.specs.Lists.{Bytes, pick}
+use Rattle.lists.specs.Bytes.{byte}
+use Rattle.lists.proofs.Tests.{case}
+use Rattle.lists.proofs.Parts.{to-end, drop-take}
+use Rattle.refusal.specs.Verdict.{passed, given}
+use Rattle.refusal.proofs.Verdicts.{passed-then, passed-after, passed-same, given-passed, never}
+use Rattle.obu.specs.declared.leb128.Leb.{Leb}
+use Rattle.obu.specs.declared.leb128.Leb.the-variants.{Number, Bad}
+use Rattle.obu.specs.declared.header.Size.{Size}
+use Rattle.obu.specs.declared.header.Size.the-variants.{Absent, Present}
+use Rattle.obu.specs.declared.header.Header.{Header}
+use Rattle.obu.specs.Leb128.{leb128}
+use Rattle.obu.specs.Header.{forbiddenBit, extensionBit, typeBits, hasSizeBit, fixedBytes, extensionMissing, sizeSaid, sizeOf, sizeBytes, headerWith, sizedHeader, headerOf, judged, mostHeader}
+use Rattle.obu.specs.Order.{kindOf, kindOfType}
+use Rattle.obu.proofs.Lebs.{leb-taken, first-eight}
+
+-- ---- the fixed bytes
+pub fixed-most : (first : ℕ) → fixedBytes first ≤ 2
+unfolding fixedBytes pick
+fixed-most first = elim (extensionBit first) as (λ t. pick t 2 1 ≤ 2) [ true ↦ omega arith | false ↦ omega arith ]
+
+fixed-by : (t : Bool) (n : ℕ) → (t && eqb n 1) ≡ false → (n ≡ 0 → ⊥) → pick t 2 1 ≤ n
+unfolding pick
+fixed-by true n e h = omega (arith, eqb-false n 1 e)
+fixed-by false n e h = omega arith
+
+pub fixed-within : (first n fixed : ℕ) → extensionMissing first n ≡ false → (n ≡ 0 → ⊥) → fixed ≡ fixedBytes first → fixed ≤ n
+unfolding fixedBytes
+fixed-within first n fixed e h f = rw f (fixed-by (extensionBit first) n e h)
+
+-- what is lent from behind them on
+pub behind-fixed : (first fixed : ℕ) (obu : Bytes) → fixed ≡ fixedBytes first
+    → sizedHeader first (take (length obu - fixed) (drop fixed obu)) ≡ sizedHeader first (drop (fixedBytes first) obu)
+behind-fixed first fixed obu e = ap (sizedHeader first) (to-end obu fixed ∙ ap (λ (k : ℕ). drop k obu) e)
+
+-- ---- the content begins within the OBU, so that none of the bytes that remain is lost in the difference
+said-within : (leb : Leb) (rest : Bytes) (size : Size) → leb128 rest ≡ leb → sizeSaid leb ≡ passed size → sizeBytes size ≤ length rest
+said-within (Number value width) rest size e p =
+    subst (λ (z : Size). sizeBytes z ≤ length rest) (passed-same (Present value width) size p) (leb-taken rest value width e .1)
+said-within Bad rest size e p = never p
+
+size-within : (t : Bool) (rest : Bytes) (size : Size) → pick t (sizeSaid (leb128 rest)) (passed Absent) ≡ passed size → sizeBytes size ≤ length rest
+unfolding pick
+size-within true rest size e = said-within (leb128 rest) rest size refl e
+size-within false rest size e = subst (λ (z : Size). sizeBytes z ≤ length rest) (passed-same Absent size e) zero-le
+
+sized-within : (first : ℕ) (rest : Bytes) (h : Header) → sizedHeader first rest ≡ passed h → h .content ≤ fixedBytes first + length rest
+unfolding sizedHeader headerWith sizeOf
+sized-within first rest h e =
+    let p = passed-then (sizeOf first rest) (λ size. passed (headerWith first size)) h e in
+    subst (λ (x : Header). x .content ≤ fixedBytes first + length rest) (passed-same (headerWith first (p .0)) h (p .2))
+    (omega (arith, size-within (hasSizeBit first) rest (p .0) (p .1)))
+
+pub content-within : (s : Bytes) (h : Header) → headerOf s ≡ passed h → h .content ≤ length s
+unfolding headerOf
+content-within s h e =
+    let first : ℕ = byte s 0 in
+    let p = passed-after (given 3 (eqb (length s) 0)) _ h e in
+    let q = passed-after (given 4 (forbiddenBit first)) _ h (p .1) in
+    let r = passed-after (given 4 (extensionMissing first (length s))) _ h (q .1) in
+    let some = eqb-false (length s) 0 (given-passed 3 _ (p .0)) in
+    let fixed = fixed-within first (length s) (fixedBytes first) (given-passed 4 _ (r .0)) some refl in
+    omega (arith, sized-within first (drop (fixedBytes first) s) h (r .1), length-drop (fixedBytes first) s, fixed)
+
+-- ---- of an OBU's first bytes, those after the tenth change nothing
+sized-first : (first k : ℕ) (rest : Bytes) → 8 ≤ k → sizedHeader first (take k rest) ≡ sizedHeader first rest
+unfolding sizedHeader sizeOf
+sized-first first k rest h = rw (first-eight k rest h)
+
+header-long : (k : ℕ) (s : Bytes) → mostHeader ≤ k → k < length s → headerOf (take k s) ≡ headerOf s
+unfolding headerOf
+header-long k s h j =
+    let n : length (take k s) ≡ k = length-take-le k s (omega arith) in
+    let b : byte (take k s) 0 ≡ byte s 0 = getD-take k s 0 0 (omega arith) in
+    let m : fixedBytes (byte s 0) ≤ 2 = fixed-most (byte s 0) in
+    let f : ℕ = fixedBytes (byte s 0) in
+    let d : drop f (take k s) ≡ take (k - f) (drop f s) = drop-take f k s (omega arith) in
+    rw (n, b, d, ne-eqb k 0 (λ e. omega arith), ne-eqb k 1 (λ e. omega arith), ne-eqb (length s) 0 (λ e. omega arith), ne-eqb (length s) 1 (λ e. omega arith))
+    (rw (sized-first (byte s 0) (k - f) (drop f s) (omega arith)))
+
+pub header-first : (k : ℕ) (s : Bytes) → mostHeader ≤ k → headerOf (take k s) ≡ headerOf s
+header-first k s h =
+    case (leb (length s) k)
+    (λ e. ap headerOf (take-all k s (leb-true (length s) k e)))
+    (λ e. header-long k s h (leb-false (length s) k e))
+
+pub judged-first : (k : ℕ) (s : Bytes) (n : ℕ) → mostHeader ≤ k → judged (take k s) n ≡ judged s n
+unfolding judged
+judged-first k s n h = rw (header-first k s h)
+
+-- ---- the header of an OBU has the type that gives its kind
+with-type : (first : ℕ) (rest : Bytes) (h : Header) → sizedHeader first rest ≡ passed h → h .«obu_type» ≡ typeBits first
+unfolding sizedHeader headerWith
+with-type first rest h e =
+    let p = passed-then (sizeOf first rest) (λ size. passed (headerWith first size)) h e in
+    sym (ap (λ (x : Header). x .«obu_type») (passed-same (headerWith first (p .0)) h (p .2)))
+
+pub header-type : (s : Bytes) (h : Header) → headerOf s ≡ passed h → h .«obu_type» ≡ typeBits (byte s 0)
+unfolding headerOf
+header-type s h e =
+    with-type (byte s 0) (drop (fixedBytes (byte s 0)) s) h
+    (passed-after _ _ h (passed-after _ _ h (passed-after _ _ h e .1) .1) .1)
+
+pub header-kind : (s : Bytes) (h : Header) → headerOf s ≡ passed h → kindOf s ≡ kindOfType (h .«obu_type»)
+header-kind s h e = ap kindOfType (sym (header-type s h e))
+
+-- and so has an OBU that passed
+pub judged-header : (s : Bytes) (n : ℕ) (h : Header) → judged s n ≡ passed h → headerOf s ≡ passed h
+unfolding judged
+judged-header s n h e =
+    let p = passed-then (headerOf s) _ h e in
+    p .1 ∙ passed-after _ _ h (passed-after _ _ h (passed-after _ _ h (p .2) .1) .1) .1
+
+pub judged-kind : (s : Bytes) (n : ℕ) (h : Header) → judged s n ≡ passed h → kindOf s ≡ kindOfType (h .«obu_type»)
+judged-kind s n h e = header-kind s h (judged-header s n h e)

@@ -1,0 +1,6 @@
+pub mod Lebs
+pub mod Headers
+pub mod Types
+pub mod Steps
+pub mod Orders
+pub mod Meaning

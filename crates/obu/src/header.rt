@@ -1,0 +1,190 @@
+// The header of one OBU, and the refusals of one OBU.
+ghost use mathlib.Core.Path.{_≡_};
+ghost use Prim.Native.Nat.{_≤_};
+ghost use Rattle.refusal.specs.Verdict.{refused};
+ghost use Rattle.refusal.specs.Number.{numberOf};
+ghost use Rattle.obu.specs.Header.{forbiddenBit, typeBits, extensionBit, hasSizeBit, fixedBytes, extensionMissing, sizeBytes, headerWith, sizedHeader, headerOf, bytesRemaining, sizeWrong, delimiterWithContent, judged, judgedSays};
+use crate::leb128::Leb;
+use crate::leb128::read_leb128;
+use refusal::Refusal;
+use refusal::Refused;
+
+// The most bytes that a header has: the first, an extension byte, and a leb128 of 8.
+pub const HEADER_BYTES: usize = 10;
+
+// The size that a header tells, and how many bytes its leb128 takes.
+pub enum Size {
+    Absent,
+    Present { value: u64, width: usize },
+}
+
+// A header. `content` is where the content begins.
+pub struct Header {
+    pub obu_type: u8,
+    pub extension: bool,
+    pub size: Size,
+    pub content: usize,
+}
+
+// The header of an OBU, or the refusal.
+pub enum Judged {
+    Passed(Header),
+    Refused(Refused),
+}
+
+fn refuse(why: Refusal) -> Judged
+    ensures { λ r. ⌜ judgedSays r ≡ refused (numberOf why) 0 ⌝ }
+{
+    Judged::Refused(Refused { why, place: 0 })
+}
+
+// The fields of a header's first byte.
+fn forbidden_bit(first: u8) -> bool
+    ensures { λ r. ⌜ r ≡ forbiddenBit first ⌝ }
+{
+    first / 128 % 2 == 1
+}
+
+fn type_bits(first: u8) -> u8
+    ensures { λ r. ⌜ r ≡ typeBits first ⌝ }
+{
+    first / 8 % 16
+}
+
+fn extension_bit(first: u8) -> bool
+    ensures { λ r. ⌜ r ≡ extensionBit first ⌝ }
+{
+    first / 4 % 2 == 1
+}
+
+fn has_size_bit(first: u8) -> bool
+    ensures { λ r. ⌜ r ≡ hasSizeBit first ⌝ }
+{
+    first / 2 % 2 == 1
+}
+
+// The bytes before the leb128: the first, and with extension set a second.
+fn fixed_bytes(first: u8) -> usize
+    ensures { λ r. ⌜ r ≡ fixedBytes first ⌝ }
+{
+    if extension_bit(first) {
+        return 2;
+    }
+    1
+}
+
+fn extension_missing(first: u8, length: usize) -> bool
+    ensures { λ r. ⌜ r ≡ extensionMissing first length ⌝ }
+{
+    if extension_bit(first) {
+        return length == 1;
+    }
+    false
+}
+
+fn size_bytes(size: Size) -> usize
+    ensures { λ r. ⌜ r ≡ sizeBytes size ⌝ }
+{
+    match size {
+        Size::Absent => 0,
+        Size::Present { value: _, width } => width,
+    }
+}
+
+fn header_with(first: u8, size: Size) -> Header
+    requires { ⌜ sizeBytes size ≤ 8 ⌝ }
+    ensures { λ r. ⌜ r ≡ headerWith first size ⌝ }
+{
+    let content = fixed_bytes(first) + size_bytes(size);
+    Header {
+        obu_type: type_bits(first),
+        extension: extension_bit(first),
+        size,
+        content,
+    }
+}
+
+// The header with the size that follows its fixed bytes, or 5.
+fn sized_header(first: u8, rest: &[u8]) -> Judged
+    ensures { λ r. ⌜ judgedSays r ≡ sizedHeader first (now (rest .entry)) ⌝ }
+{
+    if !has_size_bit(first) {
+        return Judged::Passed(header_with(first, Size::Absent));
+    }
+    let leb = read_leb128(rest);
+    match leb {
+        Leb::Bad => refuse(Refusal::ObuSize),
+        Leb::Number { value, width } => {
+            Judged::Passed(header_with(first, Size::Present { value, width }))
+        }
+    }
+}
+
+// The header of an OBU; 3, 4, 5 for a bad leb128.
+pub fn read_header(obu: &[u8]) -> Judged
+    ensures { λ r. ⌜ judgedSays r ≡ headerOf (now (obu .entry)) ⌝ }
+{
+    if obu.len() == 0 {
+        return refuse(Refusal::EmptyObu);
+    }
+    let first = obu[0];
+    if forbidden_bit(first) {
+        return refuse(Refusal::ObuHeader);
+    }
+    if extension_missing(first, obu.len()) {
+        return refuse(Refusal::ObuHeader);
+    }
+    let fixed = fixed_bytes(first);
+    sized_header(first, &obu[fixed..])
+}
+
+// How many bytes remain behind the header, in an OBU of so many bytes.
+fn remaining(header: Header, length: usize) -> usize
+    ensures { λ r. ⌜ r ≡ bytesRemaining header length ⌝ }
+{
+    let content = header.content;
+    if length < content {
+        return 0;
+    }
+    length - content
+}
+
+fn size_wrong(header: Header, length: usize) -> bool
+    ensures { λ r. ⌜ r ≡ sizeWrong header length ⌝ }
+{
+    let remain = remaining(header, length);
+    let size = header.size;
+    match size {
+        Size::Absent => false,
+        Size::Present { value, width: _ } => value != remain as u64,
+    }
+}
+
+fn delimiter_with_content(header: Header, length: usize) -> bool
+    ensures { λ r. ⌜ r ≡ delimiterWithContent header length ⌝ }
+{
+    if header.obu_type != 2 {
+        return false;
+    }
+    0 < remaining(header, length)
+}
+
+// The header of an OBU of so many bytes that begins with prefix; 3, 4, 5, 6. HEADER_BYTES bytes of it, or all if there are fewer, are enough.
+pub fn judge(prefix: &[u8], length: usize) -> Judged
+    ensures { λ r. ⌜ judgedSays r ≡ judged (now (prefix .entry)) length ⌝ }
+{
+    let read = read_header(prefix);
+    let Judged::Passed(header) = read else {
+        return read;
+    };
+    if size_wrong(header, length) {
+        return refuse(Refusal::ObuSize);
+    }
+    if delimiter_with_content(header, length) {
+        return refuse(Refusal::ObuSize);
+    }
+    if header.obu_type == 8 {
+        return refuse(Refusal::TileList);
+    }
+    Judged::Passed(header)
+}

@@ -1,0 +1,15 @@
+// One OBU (AV1, 5.3) and the order of OBUs in an access unit (document 01, "One access unit").
+mod header;
+mod leb128;
+mod ordering;
+
+pub use header::HEADER_BYTES;
+pub use header::Header;
+pub use header::Judged;
+pub use header::Size;
+pub use header::judge;
+pub use header::read_header;
+pub use leb128::Leb;
+pub use leb128::read_leb128;
+pub use ordering::Ordered;
+pub use ordering::order;

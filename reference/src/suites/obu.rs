@@ -1,0 +1,168 @@
+//! One OBU: what the check accepts is exactly what can be put together, without the library.
+
+use super::leb128::{form, shortest};
+use crate::kit::{Definition, Suite, hex, labels};
+use reference::obu;
+use std::collections::HashSet;
+
+pub const SUITE: Definition = Definition {
+    name: "obu",
+    labels: || {
+        let mut list = labels(CONDITIONS);
+        list.extend(labels(&["accepted", "put together", "worked"]));
+        list
+    },
+    run,
+};
+
+/// The conditions of 3 to 6, as the check names them.
+pub const CONDITIONS: &[&str] = &[
+    "3: no bytes",
+    "4: forbidden bit",
+    "4: extension byte missing",
+    "5: leb128 cut short",
+    "5: leb128 over 8 bytes",
+    "5: leb128 value over 4,294,967,295",
+    "5: size above what remains",
+    "5: size below what remains",
+    "5: delimiter with content",
+    "6: tile list",
+];
+
+/// An OBU put together from its parts; `width` is that of the size field, 0 for none.
+pub fn build(
+    obu_type: u8,
+    low: u8,
+    extension: Option<u8>,
+    width: usize,
+    content: &[u8],
+) -> Vec<u8> {
+    let extension_bit = if extension.is_some() { 4 } else { 0 };
+    let size_bit = if width > 0 { 2 } else { 0 };
+    let mut bytes = vec![obu_type * 8 + extension_bit + size_bit + low];
+    bytes.extend(extension);
+    if width > 0 {
+        bytes.extend(form(content.len() as u64, width));
+    }
+    bytes.extend(content);
+    bytes
+}
+
+/// Every string of a length over an alphabet.
+pub fn strings(alphabet: &[u8], len: usize) -> Vec<Vec<u8>> {
+    let mut all = vec![Vec::new()];
+    for _ in 0..len {
+        let mut longer = Vec::new();
+        for string in &all {
+            for &byte in alphabet {
+                let mut next = string.clone();
+                next.push(byte);
+                longer.push(next);
+            }
+        }
+        all = longer;
+    }
+    all
+}
+
+/// Every OBU of `len` bytes that can be put together with header, extension and content bytes of
+/// the alphabet.
+fn constructed(alphabet: &[u8], len: usize) -> HashSet<Vec<u8>> {
+    let mut all = HashSet::new();
+    for content_len in 0..len {
+        let contents = strings(alphabet, content_len);
+        for obu_type in 0..16 {
+            if obu_type == obu::TILE_LIST {
+                continue;
+            }
+            if obu_type == obu::TEMPORAL_DELIMITER && content_len > 0 {
+                continue;
+            }
+            let mut extensions = vec![None];
+            extensions.extend(alphabet.iter().map(|&byte| Some(byte)));
+            for extension in extensions {
+                let so_far = 1 + usize::from(extension.is_some()) + content_len;
+                let Some(width) = len.checked_sub(so_far) else {
+                    continue;
+                };
+                if width > 8 || (width > 0 && width < shortest(content_len as u64)) {
+                    continue;
+                }
+                for low in 0..2 {
+                    if !alphabet.contains(&build(obu_type, low, extension, width, &[])[0]) {
+                        continue;
+                    }
+                    for content in &contents {
+                        all.insert(build(obu_type, low, extension, width, content));
+                    }
+                }
+            }
+        }
+    }
+    all
+}
+
+fn compare(suite: &mut Suite, alphabet: &[u8], len: usize) {
+    let accepted = constructed(alphabet, len);
+    for string in strings(alphabet, len) {
+        let got = obu::check(&string, 5);
+        let label = match &got {
+            Err(refusal) => refusal.condition,
+            Ok(_) => "accepted",
+        };
+        let passed = match &got {
+            Err(refusal) => !accepted.contains(&string) && refusal.place == 5,
+            Ok(obu_type) => accepted.contains(&string) && *obu_type == (string[0] >> 3) & 15,
+        };
+        suite.case(&[label], passed, || format!("{got:?} {}", hex(&string)));
+    }
+    for string in accepted {
+        let passed = obu::check(&string, 0).is_ok();
+        suite.case(&["put together"], passed, || hex(&string));
+    }
+}
+
+fn run(suite: &mut Suite) {
+    let every: Vec<u8> = (0..=255).collect();
+    for len in 0..=2 {
+        compare(suite, &every, len);
+    }
+    let headers = [
+        0x00, 0x01, 0x02, 0x03, 0x10, 0x12, 0x16, 0x32, 0x34, 0x42, 0x80, 0x81, 0x82, 0xB2,
+    ];
+    for len in 3..=5 {
+        compare(suite, &headers, len);
+    }
+    for len in 6..=8 {
+        compare(suite, &[0x01, 0x02, 0x32, 0x80, 0x83], len);
+    }
+    for len in 9..=12 {
+        compare(suite, &[0x00, 0x36, 0x80], len);
+    }
+
+    // The worked cases.
+    for (bytes, number) in [
+        (&[0x32, 0x82, 0x00, 0xAA, 0xBB][..], 0),
+        (&[0x32, 0x02, 0xAA], 5),
+        (&[0x40], 6),
+        (&[0x12, 0x00], 0),
+        (&[0x10], 0),
+        (&[0x16, 0xFF, 0x00], 0),
+        (&[0x14, 0x00, 0x00], 5),
+        (&[0x12, 0x01, 0x00], 5),
+        (&[0x32, 0xFF, 0xFF, 0xFF, 0xFF, 0x10], 5),
+        (&[0x32, 0x80, 0x80, 0x80, 0x80, 0x80, 0x80, 0x80, 0x00], 0),
+        (
+            &[0x32, 0x80, 0x80, 0x80, 0x80, 0x80, 0x80, 0x80, 0x80, 0x00],
+            5,
+        ),
+        (&[0xC0], 4),
+        (&[0x44], 4),
+        (&[0x42, 0x01], 5),
+        (&[], 3),
+    ] {
+        let got = obu::check(bytes, 0);
+        let passed = got.as_ref().map_or_else(|refusal| refusal.number, |_| 0) == number;
+        suite.case(&["worked"], passed, || format!("{got:?} {}", hex(bytes)));
+    }
+}
