@@ -1,4 +1,9 @@
+pub mod Outputs
 pub mod Steps
 pub mod Answers
 pub mod Machine
 pub mod Theorems
+pub mod Clean
+pub mod Judging
+pub mod Inserting
+pub mod Giving

@@ -1,14 +1,13 @@
 -- Steps of the definitions of specs/Payload.antt, at a test's value. Assumes nothing.
-use Prim.Native.Nat.{ℕ, zero, suc, _+_, _-_, _≤_, _<_}
-use mathlib.Core.Bool.{Bool, true, false, not, _&&_, _||_, true≢false, and-false}
-use mathlib.Core.Path.{_≡_, refl, sym, ap, ap₂, subst, _∙_}
-use mathlib.Core.List.{List, [], _∷_, _++_}
+use Prim.Native.Nat.{ℕ, suc, _+_, _-_, _≤_, _<_}
+use mathlib.Core.Bool.{Bool, true, false, _&&_, _||_, true≢false}
+use mathlib.Core.Path.{_≡_, refl, sym, ap, subst, _∙_}
+use mathlib.Core.List.{[], _∷_}
 use native.Mathlib.Omega.{arith}
-use native.Mathlib.Numerals.{add-one}
-use lib.ListN.{length, take, drop, getD, drop-of-length-le, length-drop}
-use lib.Seq.{drop-cons, drop-drop}
-use borrow.Author.Tests.{eqb-true}
+use lib.ListN.{length, drop, getD, drop-of-length-le, length-drop}
+use lib.Seq.{drop-drop}
 use lib.Dec.{leb, ltb, eqb}
+use borrow.Author.Tests.{eqb-true}
 use Rattle.lists.specs.Lists.{Bytes}
 use Rattle.lists.proofs.Tests.{case, and-both}
 use Rattle.lists.proofs.Parts.{next, next3}
@@ -23,29 +22,6 @@ pub escape-plain : (p q b : ℕ) (s : Bytes) → stuffed p q b ≡ false → esc
 unfolding escapeAfter
 escape-plain p q b s e = rw (e, escapeAfter)
 
--- the 03 alone: what comes next is as after it
-pub escape-three : (p q b : ℕ) (s : Bytes) → stuffed p q b ≡ true → escapeAfter p q (b ∷ s) ≡ 3 ∷ escapeAfter p 3 (b ∷ s)
-escape-three p q b s e =
-    let n : stuffed p 3 b ≡ false = ap (λ (t : Bool). t && leb b 3) (and-false (eqb p 0)) in
-    escape-stuffed p q b s e ∙ ap (λ (l : Bytes). 3 ∷ l) (sym (escape-plain p 3 b s n))
-
--- the same at the code's place i
-pub escape-at-three : (s : Bytes) (p q i : ℕ) → i < length s → stuffed p q (getD s i 0) ≡ true
-    → escapeAfter p q (drop i s) ≡ 3 ∷ escapeAfter p 3 (drop i s)
-escape-at-three s p q i h e = rw (next s i h) (escape-three p q (getD s i 0) (drop (i + 1) s) e)
-
-pub escape-at-stuffed : (s : Bytes) (p q i : ℕ) → i < length s → stuffed p q (getD s i 0) ≡ true
-    → escapeAfter p q (drop i s) ≡ 3 ∷ getD s i 0 ∷ escapeAfter 3 (getD s i 0) (drop (i + 1) s)
-escape-at-stuffed s p q i h e = rw (next s i h) (escape-stuffed p q (getD s i 0) (drop (i + 1) s) e)
-
-pub escape-at-plain : (s : Bytes) (p q i : ℕ) → i < length s → stuffed p q (getD s i 0) ≡ false
-    → escapeAfter p q (drop i s) ≡ getD s i 0 ∷ escapeAfter q (getD s i 0) (drop (i + 1) s)
-escape-at-plain s p q i h e = rw (next s i h) (escape-plain p q (getD s i 0) (drop (i + 1) s) e)
-
-pub escape-end : (s : Bytes) (p q i : ℕ) → length s ≤ i → escapeAfter p q (drop i s) ≡ []
-unfolding escapeAfter
-escape-end s p q i h = rw (drop-of-length-le s h)
-
 -- ---- three bytes at the head
 pub marked-is : (a b c : ℕ) → marked3 a b c ≡ true → (a ≡ 0) × (b ≡ 0) × (c ≡ 3)
 marked-is a b c e =
@@ -53,22 +29,12 @@ marked-is a b c e =
     let k = and-both (eqb a 0) (eqb b 0) (h .0) in
     (eqb-true a 0 (k .0), eqb-true b 0 (k .1), eqb-true c 3 (h .1))
 
-marked-short : (l : Bytes) → length l < 3 → marked l ≡ false
-unfolding marked
-marked-short [] h = refl
-marked-short (a ∷ []) h = refl
-marked-short (a ∷ b ∷ []) h = refl
-marked-short (a ∷ b ∷ c ∷ s) h = absurd (omega arith)
-
 forbidden-short : (l : Bytes) → length l < 3 → forbidden l ≡ false
 unfolding forbidden
 forbidden-short [] h = refl
 forbidden-short (a ∷ []) h = refl
 forbidden-short (a ∷ b ∷ []) h = refl
 forbidden-short (a ∷ b ∷ c ∷ s) h = absurd (omega arith)
-
-pub marked-at-end : (s : Bytes) (i : ℕ) → length s - i < 3 → marked (drop i s) ≡ false
-marked-at-end s i h = marked-short (drop i s) (rw length-drop h)
 
 pub forbidden-at-end : (s : Bytes) (i : ℕ) → length s - i < 3 → forbidden (drop i s) ≡ false
 forbidden-at-end s i h = forbidden-short (drop i s) (rw length-drop h)
@@ -128,6 +94,13 @@ marked-long (a ∷ []) e = absurd (true≢false (sym e))
 marked-long (a ∷ b ∷ []) e = absurd (true≢false (sym e))
 marked-long (a ∷ b ∷ c ∷ s) e = omega arith
 
+pub forbidden-long : (l : Bytes) → forbidden l ≡ true → 3 ≤ length l
+unfolding forbidden
+forbidden-long [] e = absurd (true≢false (sym e))
+forbidden-long (a ∷ []) e = absurd (true≢false (sym e))
+forbidden-long (a ∷ b ∷ []) e = absurd (true≢false (sym e))
+forbidden-long (a ∷ b ∷ c ∷ s) e = omega arith
+
 pub marked3-rest : (a b c : ℕ) → a ≡ 0 → b ≡ 0 → marked3 a b c ≡ eqb c 3
 marked3-rest a b c p q = rw (p, q)
 
@@ -147,14 +120,6 @@ dropped-at-plain s i h e = rw (next s i h) (dropped-plain (getD s i 0) (drop (i 
 pub marked-fits : (s : Bytes) (i : ℕ) → i ≤ length s → marked (drop i s) ≡ true → i + 3 ≤ length s
 marked-fits s i h e = omega (arith, marked-long (drop i s) e, length-drop i s)
 
-pub unescape-end : (s : Bytes) (i : ℕ) → length s ≤ i → unescape (drop i s) ≡ []
-unfolding unescape
-unescape-end s i h = rw (drop-of-length-le s h)
-
-pub dropped-end : (s : Bytes) (i : ℕ) → length s ≤ i → dropped (drop i s) ≡ 0
-unfolding dropped
-dropped-end s i h = rw (drop-of-length-le s h)
-
 pub first-found : (s : Bytes) (i : ℕ) → i < length s → forbidden (drop i s) ≡ true → firstForbidden (drop i s) ≡ 0
 unfolding firstForbidden
 first-found s i h e = rw (next s i h) (rw (rw (next s i h) at e, firstForbidden))
@@ -162,10 +127,6 @@ first-found s i h e = rw (next s i h) (rw (rw (next s i h) at e, firstForbidden)
 pub first-next : (s : Bytes) (i : ℕ) → i < length s → forbidden (drop i s) ≡ false → firstForbidden (drop i s) ≡ suc (firstForbidden (drop (i + 1) s))
 unfolding firstForbidden
 first-next s i h e = rw (next s i h) (rw (rw (next s i h) at e, firstForbidden))
-
-pub first-end : (s : Bytes) (i : ℕ) → length s ≤ i → firstForbidden (drop i s) ≡ 0
-unfolding firstForbidden
-first-end s i h = rw (drop-of-length-le s h)
 
 -- ---- whole payloads
 -- each byte of a payload is given or dropped
@@ -179,11 +140,11 @@ given-or-dropped (a ∷ b ∷ c ∷ s) =
     (λ e. omega (arith, ap length (unescape-marked (a ∷ b ∷ c ∷ s) e), dropped-marked (a ∷ b ∷ c ∷ s) e, given-or-dropped s))
     (λ e. omega (arith, ap length (unescape-plain a (b ∷ c ∷ s) e), dropped-plain a (b ∷ c ∷ s) e, given-or-dropped (b ∷ c ∷ s)))
 
-first-yes : (a : ℕ) (l : Bytes) → forbidden (a ∷ l) ≡ true → firstForbidden (a ∷ l) ≡ 0
+pub first-yes : (a : ℕ) (l : Bytes) → forbidden (a ∷ l) ≡ true → firstForbidden (a ∷ l) ≡ 0
 unfolding firstForbidden
 first-yes a l e = rw (e, firstForbidden)
 
-first-no : (a : ℕ) (l : Bytes) → forbidden (a ∷ l) ≡ false → firstForbidden (a ∷ l) ≡ suc (firstForbidden l)
+pub first-no : (a : ℕ) (l : Bytes) → forbidden (a ∷ l) ≡ false → firstForbidden (a ∷ l) ≡ suc (firstForbidden l)
 unfolding firstForbidden
 first-no a l e = rw (e, firstForbidden)
 
@@ -211,60 +172,3 @@ legal-after (a ∷ l) h =
     case (forbidden (a ∷ l))
     (λ e. absurd (omega (arith, first-yes a l e)))
     (λ e. legal-no a l e ∙ legal-after l (omega (arith, first-no a l e)))
-
--- ---- one pass that judges a payload: `d` bytes are dropped before i, and nothing forbidden begins there
-pub record Judging (s : Bytes) (d i : ℕ) : Type 0 where
-  pub within : i ≤ length s
-  pub fewer : d ≤ i
-  pub drops : d + dropped (drop i s) ≡ dropped s
-  pub first : i + firstForbidden (drop i s) ≡ firstForbidden s
-
-pub judging-start : (s : Bytes) → Judging s 0 0
-judging-start s = record { within = omega arith; fewer = omega arith; drops = omega arith; first = omega arith }
-
-pub judging-plain : (s : Bytes) (d i : ℕ) → Judging s d i → i < length s → forbidden (drop i s) ≡ false → marked (drop i s) ≡ false → Judging s d (i + 1)
-judging-plain s d i j h f m =
-    record {
-      within = omega arith;
-      fewer = omega (arith, j .fewer);
-      drops = omega (arith, j .drops, dropped-at-plain s i h m);
-      first = omega (arith, j .first, first-next s i h f);
-    }
-
--- neither of the two last bytes of 00 00 03 begins a forbidden sequence
-after-mark : (t : Bytes) → firstForbidden (0 ∷ 3 ∷ t) ≡ suc (suc (firstForbidden t))
-unfolding forbidden
-after-mark [] = first-no 0 (3 ∷ []) refl ∙ ap suc (first-no 3 [] refl)
-after-mark (x ∷ []) = first-no 0 (3 ∷ x ∷ []) refl ∙ ap suc (first-no 3 (x ∷ []) refl)
-after-mark (x ∷ y ∷ t) = first-no 0 (3 ∷ x ∷ y ∷ t) refl ∙ ap suc (first-no 3 (x ∷ y ∷ t) refl)
-
-first-marked : (l : Bytes) → marked l ≡ true → forbidden l ≡ false → firstForbidden l ≡ suc (suc (suc (firstForbidden (drop 3 l))))
-unfolding marked
-first-marked [] m f = absurd (true≢false (sym m))
-first-marked (a ∷ []) m f = absurd (true≢false (sym m))
-first-marked (a ∷ b ∷ []) m f = absurd (true≢false (sym m))
-first-marked (a ∷ b ∷ c ∷ t) m f =
-    let h = marked-is a b c m in
-    first-no a (b ∷ c ∷ t) f ∙ ap suc (ap₂ (λ (x y : ℕ). firstForbidden (x ∷ y ∷ t)) (h .1) (h .2) ∙ after-mark t)
-
-pub judging-marked : (s : Bytes) (d i : ℕ) → Judging s d i → forbidden (drop i s) ≡ false → marked (drop i s) ≡ true → Judging s (d + 1) (i + 3)
-judging-marked s d i j f m =
-    let e : firstForbidden (drop i s) ≡ suc (suc (suc (firstForbidden (drop (i + 3) s)))) =
-    first-marked (drop i s) m f ∙ rw (drop-drop 3 i s) in
-    record {
-      within = marked-fits s i (j .within) m;
-      fewer = omega (arith, j .fewer);
-      drops = omega (arith, j .drops, dropped-at-marked s i m);
-      first = omega (arith, j .first);
-    }
-
--- a forbidden sequence begins at i
-pub judging-found : (s : Bytes) (d i : ℕ) → Judging s d i → i < length s → forbidden (drop i s) ≡ true → (legal s ≡ false) × (firstForbidden s ≡ i)
-judging-found s d i j h f =
-    let e : firstForbidden s ≡ i = omega (arith, j .first, first-found s i h f) in
-    (illegal-before s (omega arith), e)
-
--- the pass has come to the end
-pub judging-end : (s : Bytes) (d i : ℕ) → Judging s d i → length s ≤ i → (legal s ≡ true) × (d ≡ dropped s)
-judging-end s d i j h =
-    (legal-after s (omega (arith, j .first, first-end s i h)), omega (arith, j .drops, dropped-end s i h))

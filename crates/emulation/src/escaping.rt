@@ -1,12 +1,23 @@
 // Escaping one OBU.
 ghost use mathlib.Core.Path.{_≡_};
-ghost use Prim.Native.Nat.{_≤_};
+ghost use Prim.Native.Nat.{_+_, _≤_, _<_};
 ghost use lib.ListN.{length, take};
 ghost use Rattle.lists.specs.Lists.{over};
 ghost use Rattle.refusal.specs.Verdict.{leaves};
-ghost use Rattle.emulation.specs.Payload.{stuffed};
 ghost use Rattle.emulation.specs.Payload.{escape as Payload·escape};
+ghost use Rattle.emulation.specs.Payload.{inserted as Payload·inserted};
+ghost use Rattle.emulation.specs.Parts.{Gives, Inserts};
 ghost use Rattle.emulation.specs.Answer.{mostEscaped, measuring, escaping, escapedSays};
+use crate::blocks::BLOCK;
+use crate::blocks::Reached;
+use crate::blocks::block_end;
+use crate::blocks::clean;
+use crate::blocks::critical_at;
+use crate::blocks::places;
+use crate::writing::copy;
+use crate::writing::copy_clean;
+use crate::writing::copy_rest;
+use crate::writing::put;
 use refusal::Refusal;
 use refusal::Refused;
 
@@ -19,17 +30,48 @@ pub enum Escaped {
     Refused(Refused),
 }
 
-// A 03 goes before b, where p and q were written last.
-fn stuffs(p: u8, q: u8, b: u8) -> bool
-    ensures { λ r. ⌜ r ≡ stuffed p q b ⌝ }
+// Goes over the places of obu from i to end and counts the bytes that escaping puts there. `next` is the place to be looked at next; the one after a
+// place at which a 03 is put is passed over. The reads go on by one place a turn and wait for no test.
+fn inserted_places(obu: &[u8], i: usize, end: usize) -> Reached
+    requires { ⌜ (i < end) × (end + 2 ≤ length (now obu)) ⌝ }
+    ensures { λ r. ⌜ Inserts (now (obu .entry)) i (r .place) (r .count) ⌝ }
+    ensures { λ r. ⌜ i < r .place ⌝ }
 {
-    if p != 0 {
-        return false;
+    let mut count: usize = 0;
+    let mut next = i;
+    let mut place = i;
+    while place < end {
+        let here = place;
+        place += 1;
+        if here == next {
+            if critical_at(obu, here) {
+                count += 1;
+                next += 2;
+            } else {
+                next += 1;
+            }
+        }
     }
-    if q != 0 {
-        return false;
+    Reached { place: next, count }
+}
+
+// How many bytes escaping puts into obu.
+fn inserted(obu: &[u8]) -> usize
+    ensures { λ r. ⌜ r ≡ Payload·inserted (now (obu .entry)) ⌝ }
+{
+    let last = places(obu);
+    let mut count: usize = 0;
+    let mut i: usize = 0;
+    while i < last {
+        if clean(obu, i) {
+            i += BLOCK;
+        } else {
+            let reached = inserted_places(obu, i, block_end(i, last));
+            count += reached.count;
+            i = reached.place;
+        }
     }
-    b <= 3
+    count
 }
 
 // How many bytes the escaped form of obu has.
@@ -37,23 +79,7 @@ fn measure(obu: &[u8]) -> usize
     requires { ⌜ length (now obu) ≤ mostEscaped ⌝ }
     ensures { λ r. ⌜ r ≡ length (Payload·escape (now (obu .entry))) ⌝ }
 {
-    let mut p: u8 = 1;
-    let mut q: u8 = 1;
-    let mut n: usize = 0;
-    let mut i: usize = 0;
-    while i < obu.len() {
-        let b = obu[i];
-        i += 1;
-        if stuffs(p, q, b) {
-            n += 2;
-            p = 3; // counted: the 03 ends a run of zeros
-        } else {
-            n += 1;
-            p = q;
-        }
-        q = b;
-    }
-    n
+    obu.len() + inserted(obu)
 }
 
 // How many bytes the escaped form of obu has, or 2.
@@ -69,33 +95,65 @@ pub fn escaped_length(obu: &[u8]) -> Escaped
     Escaped::Bytes(measure(obu))
 }
 
+// The escaped form of obu between place i and place end, as far as there is room, into out from n on.
+fn escape_places(obu: &[u8], i: usize, end: usize, out: &mut [u8], n: usize) -> Reached
+    requires { ⌜ (i < end) × (end + 2 ≤ length (now obu)) × (n < length (now out)) ⌝ }
+    ensures { λ r. ⌜ Gives Payload·escape (now (obu .entry)) i (now (out .entry)) n (r .place) (r .count) (now (out .exit)) ⌝ }
+    ensures { λ r. ⌜ n < r .count ⌝ }
+{
+    let mut count = n;
+    let mut place = i;
+    while place < end {
+        if out.len() <= count {
+            return Reached { place, count };
+        }
+        if critical_at(obu, place) {
+            count = put(out, count, 0);
+            count = put(out, count, 0);
+            count = put(out, count, 3);
+            place += 2; // the 03 ends a run of zeros: what follows is looked at anew
+        } else {
+            count = put(out, count, obu[place]);
+            place += 1;
+        }
+    }
+    Reached { place, count }
+}
+
 // As much of the escaped form of obu as out has room for, over the front of out; answers how many bytes that is.
 pub fn escape_prefix(obu: &[u8], out: &mut [u8]) -> usize
     ensures { λ r. ⌜ r ≡ length (take (length (now (out .entry))) (Payload·escape (now (obu .entry)))) ⌝ }
     ensures { λ r. ⌜ now (out .exit) ≡ over (take (length (now (out .entry))) (Payload·escape (now (obu .entry)))) (now (out .entry)) ⌝ }
 {
-    let mut p: u8 = 1;
-    let mut q: u8 = 1;
+    let last = places(obu);
     let mut n: usize = 0;
     let mut i: usize = 0;
-    while i < obu.len() {
+    while i < last {
         if out.len() <= n {
             return n;
         }
-        let b = obu[i];
-        if stuffs(p, q, b) {
-            out[n] = 3;
-            n += 1;
-            q = 3; // written: the 03 ends a run of zeros
+        if copy_clean(obu, i, out, n) {
+            n += BLOCK;
+            i += BLOCK;
         } else {
-            out[n] = b;
-            n += 1;
-            i += 1;
-            p = q;
-            q = b;
+            let reached = escape_places(obu, i, block_end(i, last), out, n);
+            n = reached.count;
+            i = reached.place;
         }
     }
-    n
+    copy_rest(obu, i, out, n)
+}
+
+// The escaped form of obu, which has n bytes and room, over the front of out.
+fn escape_whole(obu: &[u8], n: usize, out: &mut [u8])
+    requires { ⌜ (n ≡ length (Payload·escape (now obu))) × (n ≤ length (now out)) ⌝ }
+    ensures { λ _. ⌜ now (out .exit) ≡ over (Payload·escape (now (obu .entry))) (now (out .entry)) ⌝ }
+{
+    if n == obu.len() {
+        copy(obu, out);
+        return;
+    }
+    escape_prefix(obu, out);
 }
 
 // The escaped form of obu over the front of out; 2, then 8.
@@ -116,6 +174,6 @@ pub fn escape(obu: &[u8], out: &mut [u8]) -> Escaped
             place: 0,
         });
     }
-    escape_prefix(obu, out);
+    escape_whole(obu, n, out);
     Escaped::Bytes(n)
 }

@@ -1,6 +1,8 @@
 // Escaping and unescaping of one OBU (000, 3.2; document 01, "Payload bytes").
+mod blocks;
 mod escaping;
 mod unescaping;
+mod writing;
 
 pub use escaping::Escaped;
 pub use escaping::escape;

@@ -104,7 +104,21 @@ unfolding inTurn atPlace _>>_
 all-turns judge index [] h = refl
 all-turns judge index (a ∷ l) h = rw (h .0) (all-turns judge (suc index) l (h .1))
 
+-- each in turn: the first passed, or it refused
+module _ {A : Type 0} (judge : A → Verdict NoValue) (index : ℕ) (a : A) (l : List A) where
+  pub turn-passed : judge a ≡ passed tt → inTurn judge index (a ∷ l) ≡ inTurn judge (suc index) l
+  unfolding inTurn atPlace _>>_
+  turn-passed e = rw e
+
+  pub turn-refused : (number place : ℕ) → judge a ≡ refused number place → inTurn judge index (a ∷ l) ≡ refused number index
+  unfolding inTurn atPlace _>>_
+  turn-refused number place e = rw e
+
 -- a refusal leaves an output as it was
 pub refused-leaves : {A : Type 0} {v : Verdict A} {number place : ℕ} (w out : List ℕ) → v ≡ refused number place → out ≡ leaves v w out
 unfolding leaves
 refused-leaves w out e = rw e
+
+-- two names of one verdict leave the same
+pub leaves-as : {A : Type 0} {v v′ : Verdict A} (w out : List ℕ) → v ≡ v′ → leaves v w out ≡ leaves v′ w out
+leaves-as w out e = ap (λ x. leaves x w out) e

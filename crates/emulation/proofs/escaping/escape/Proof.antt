@@ -1,11 +1,9 @@
 -- The refusals are tried in order; then the escaped form, which has room, is written whole.
 use borrow.Author.Needs.{needs}
-use native.Mathlib.Omega.{arith}
-use mathlib.Core.Path.{_≡_, refl, ap, _∙_}
 use borrow.Author.Tests.{lt-ltb, le-ltb}
+use native.Mathlib.Omega.{arith}
+use mathlib.Core.Path.{refl, ap}
 use lib.ListN.{length}
-use lib.Seq.{take-all}
-use Rattle.lists.specs.Lists.{Bytes, over}
 use Rattle.refusal.specs.Verdict.{passed, leaves}
 use Rattle.refusal.proofs.Verdicts.{refuse, pass-on}
 use Rattle.emulation.specs.Payload.{escape}
@@ -27,8 +25,8 @@ returns-2 c =
     let o = c .before .before .before .before .before .args .out .now in
     (pass-on 2 (le-ltb _ _ (c .before .before .if1 .left)) (refuse 8 _ (lt-ltb (length o) (length (escape s)) (omega arith))), refl)
 
-escape-prefix-requires : tie.Need-escape-prefix-requires
-escape-prefix-requires c κs = search needs
+escape-whole-requires : tie.Need-escape-whole-requires
+escape-whole-requires c κs = (c .before .before .measure .ensures, omega arith)
 
 same-length : tie.Need-same-length
 same-length c = search needs
@@ -41,10 +39,10 @@ returns-3 c =
     let o = start .args .out .now in (
       pass-on 2 (le-ltb mostEscaped (length s) (omega arith))
           (pass-on 8 (le-ltb (length o) (length (escape s)) (omega arith)) (ap passed (c .before .before .before .before .before .measure .ensures))),
-      c .before .before .escape-prefix .ensures .1 ∙ ap (λ (w : Bytes). over w o) (take-all (length o) (escape s) (omega arith)),
+      c .before .before .escape-whole .ensures,
     )
 
 pub escape-spec : {M : Type 1} → statement M
 escape-spec =
     tie.close
-    (tie.spec returns measure-requires returns-2 escape-prefix-requires same-length returns-3)
+    (tie.spec returns measure-requires returns-2 escape-whole-requires same-length returns-3)

@@ -1,7 +1,7 @@
 -- The limit is tried first, then the answer is what `measure` gives.
 use borrow.Author.Needs.{needs}
-use mathlib.Core.Path.{refl, ap}
 use borrow.Author.Tests.{lt-ltb, le-ltb}
+use mathlib.Core.Path.{ap}
 use Rattle.refusal.specs.Verdict.{passed}
 use Rattle.refusal.proofs.Verdicts.{refuse, pass-on}
 use Rattle.emulation.specs.Answer.{measuring}

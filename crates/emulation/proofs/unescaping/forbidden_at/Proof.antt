@@ -1,9 +1,10 @@
-use native.Mathlib.Omega.{arith}
-use Prim.Native.Nat.{ℕ, _+_, _-_, _≤_, _<_}
-use mathlib.Core.Path.{_≡_, refl, sym, ap, _∙_}
-use lib.ListN.{length, drop, getD}
+-- The tests of the definition, one after the other; at the end of the bytes there are fewer to look at.
 use borrow.Author.Needs.{needs}
 use borrow.Author.Tests.{eq-eqb, ne-eqb, le-leb, lt-leb}
+use native.Mathlib.Omega.{arith}
+use Prim.Native.Nat.{_+_, _<_}
+use mathlib.Core.Path.{sym}
+use lib.ListN.{length}
 use Rattle.emulation.proofs.Steps.{forbidden-at, forbidden-at-end, above3-at, above3-end}
 use Rattle.emulation.proofs.unescaping.forbidden_at.Statement.{statement}
 use Rattle.emulation.proofs.unescaping.forbidden_at.Tie as tie

@@ -1,39 +1,27 @@
-use native.Mathlib.Omega.{arith}
-use Prim.Native.Nat.{ℕ, _+_, _-_, _≤_, _<_}
-use mathlib.Core.Path.{_≡_, refl, sym, ap, _∙_}
-use lib.ListN.{length, drop, getD}
+-- The tests of the definition, one after the other.
 use borrow.Author.Needs.{needs}
-use borrow.Author.Tests.{eq-eqb, ne-eqb, le-leb, lt-leb}
-use Rattle.emulation.proofs.Steps.{marked-at, marked-at-end, marked3-rest}
+use borrow.Author.Tests.{eq-eqb, ne-eqb}
+use Prim.Native.Nat.{_+_}
+use mathlib.Core.Path.{sym, _∙_}
+use lib.ListN.{getD}
+use Rattle.emulation.proofs.Steps.{marked-at, marked3-rest}
 use Rattle.emulation.proofs.unescaping.marked_at.Statement.{statement}
 use Rattle.emulation.proofs.unescaping.marked_at.Tie as tie
 
-sub-if1 : tie.Need-sub-if1
-sub-if1 c = search needs
+shared-slice-read-if1 : tie.Need-shared-slice-read-if1
+shared-slice-read-if1 c = search needs
 
 returns : tie.Need-returns
-returns c = sym (marked-at-end (c .before .args .s .now) (c .before .args .i) (c .if1 .taken))
+returns c = simp (marked-at, c .before .before .pre, ne-eqb _ _ (c .if1 .taken))
+
+add-if2 : tie.Need-add-if2
+add-if2 c = search needs
 
 shared-slice-read-if2 : tie.Need-shared-slice-read-if2
 shared-slice-read-if2 c = search needs
 
 returns-2 : tie.Need-returns-2
-returns-2 c =
-    let s = c .before .before .before .args .s .now in
-    let i = c .before .before .before .args .i in
-    let h : i + 2 < length s = omega arith in simp (marked-at, ne-eqb _ _ (c .if2 .taken))
-
-add-if3 : tie.Need-add-if3
-add-if3 c = search needs
-
-shared-slice-read-if3 : tie.Need-shared-slice-read-if3
-shared-slice-read-if3 c = search needs
-
-returns-3 : tie.Need-returns-3
-returns-3 c =
-    let s = c .before .before .before .before .before .args .s .now in
-    let i = c .before .before .before .before .before .args .i in
-    let h : i + 2 < length s = omega arith in simp (marked-at, eq-eqb _ _ (c .before .before .if2 .left), ne-eqb _ _ (c .if3 .taken))
+returns-2 c = simp (marked-at, c .before .before .before .before .pre, eq-eqb _ _ (c .before .before .if1 .left), ne-eqb _ _ (c .if2 .taken))
 
 add-result : tie.Need-add-result
 add-result c = search needs
@@ -41,21 +29,22 @@ add-result c = search needs
 shared-slice-read-result : tie.Need-shared-slice-read-result
 shared-slice-read-result c = search needs
 
-returns-4 : tie.Need-returns-4
-returns-4 c =
-    sym (marked-at (c .before .before .before .before .before .before .args .s .now) (c .before .before .before .before .before .before .args .i) (omega arith) ∙ marked3-rest _ _ (getD (c .before .before .before .before .before .before .args .s .now) (c .before .before .before .before .before .before .args .i + 2) 0) (c .before .before .before .if2 .left) (c .before .if3 .left))
+returns-3 : tie.Need-returns-3
+returns-3 c =
+    let start = c .before .before .before .before .before in
+    let s = start .args .s .now in
+    let i = start .args .i in
+    sym (marked-at s i (start .pre) ∙ marked3-rest _ _ (getD s (i + 2) 0) (c .before .before .before .if1 .left) (c .before .if2 .left))
 
 pub marked-at-spec : {M : Type 1} → statement M
 marked-at-spec =
     tie.close
     (tie.spec
-    sub-if1
+    shared-slice-read-if1
     returns
+    add-if2
     shared-slice-read-if2
     returns-2
-    add-if3
-    shared-slice-read-if3
-    returns-3
     add-result
     shared-slice-read-result
-    returns-4)
+    returns-3)

@@ -1,14 +1,10 @@
 -- The limit is tried, then the payload is judged, then the room; a legal payload that has room is unescaped whole.
 use borrow.Author.Needs.{needs}
-use native.Mathlib.Omega.{arith}
-use mathlib.Core.Path.{_≡_, refl, ap, _∙_}
 use borrow.Author.Tests.{lt-ltb}
-use lib.ListN.{length}
-use lib.Seq.{take-all}
-use Rattle.lists.specs.Lists.{Bytes, over}
+use native.Mathlib.Omega.{arith}
+use mathlib.Core.Path.{refl}
 use Rattle.refusal.specs.Verdict.{leaves}
 use Rattle.refusal.proofs.Verdicts.{refuse}
-use Rattle.emulation.specs.Payload.{unescape}
 use Rattle.emulation.specs.Answer.{unescaping}
 use Rattle.emulation.proofs.Answers.{judged-legal, left-after, unescaping-illegal, unescaping-short, unescaping-fits}
 use Rattle.emulation.proofs.unescaping.unescape.Statement.{statement}
@@ -38,8 +34,11 @@ returns-2 c =
     let l = left-after _ _ _ judged legal in
     (unescaping-short _ _ (omega arith) (judged-legal _ _ _ judged legal .0) (omega (arith, l .1)), refl)
 
-unescape-prefix-requires : tie.Need-unescape-prefix-requires
-unescape-prefix-requires c κs = search needs
+unescape-whole-requires : tie.Need-unescape-whole-requires
+unescape-whole-requires c κs =
+    let judged = c .before .before .before .before .before .judge .ensures in
+    let legal = c .before .before .before .judged2 .given .1 in
+    (judged-legal _ _ _ judged legal .1, omega (arith, left-after _ _ _ judged legal .1))
 
 returns-3 : tie.Need-returns-3
 unfolding leaves
@@ -59,7 +58,7 @@ returns-4 c =
     let l = left-after _ _ _ judged legal in
     let j = judged-legal _ _ _ judged legal in (
       unescaping-fits _ _ _ _ (omega arith) (j .0) (omega (arith, l .1)) (l .1) (j .1),
-      c .before .before .unescape-prefix .ensures .1 ∙ ap (λ (w : Bytes). over w o) (take-all (length o) (unescape s) (omega (arith, l .1))),
+      c .before .before .unescape-whole .ensures,
     )
 
 pub unescape-spec : {M : Type 1} → statement M
@@ -72,7 +71,7 @@ unescape-spec =
     enum-known-judged-2
     sub-written
     returns-2
-    unescape-prefix-requires
+    unescape-whole-requires
     returns-3
     same-length
     returns-4)

@@ -1,108 +1,75 @@
--- What is written, then what the rest of the payload unescapes to, is what the whole unescapes to, as far as there is room.
+-- One pass, by blocks: what is given of the bytes up to i stands in the output. A clean block is copied where it has room; another, or one without
+-- room, goes place by place.
 use borrow.Author.Needs.{needs}
 use native.Mathlib.Omega.{arith}
-use Prim.Native.Nat.{_+_, _-_, _≤_, _<_}
-use mathlib.Core.Path.{_≡_, sym, _∙_}
-use mathlib.Core.List.{_∷_}
-use lib.ListN.{length, drop, set, length-set}
-use Rattle.lists.proofs.Writing.{Prefix, prefix-start, prefix-put, prefix-full, prefix-end}
+use Prim.Native.Nat.{_-_}
+use mathlib.Core.Path.{ap, _∙_}
+use lib.ListN.{length}
 use Rattle.emulation.specs.Payload.{unescape}
-use Rattle.emulation.proofs.Steps.{unescape-at-marked, unescape-at-plain, unescape-end, marked-fits}
+use Rattle.emulation.specs.Parts.{Gives}
+use Rattle.emulation.proofs.Clean.{unescape-keeps}
+use Rattle.emulation.proofs.Giving.{gives-start, gives-then, gives-clean, gives-rest, gives-full}
 use Rattle.emulation.proofs.unescaping.unescape_prefix.Statement.{statement}
 use Rattle.emulation.proofs.unescaping.unescape_prefix.Tie as tie
 
 abbrev Inv-loop : tie.InvT-loop
-Inv-loop payload out₀ n₀ i₀ out n i = (i ≤ length payload) × Prefix out₀ (unescape payload) n (unescape (drop i payload)) out
+Inv-loop payload out₀ last n₀ i₀ out n i = Gives unescape payload 0 out₀ 0 i n out
 
 abbrev μ-loop : tie.MeasureT-loop
-μ-loop payload out₀ n₀ i₀ out n i = length payload - i
+μ-loop payload out₀ last n₀ i₀ out n i = length out₀ - n
 
--- where 00 00 03 stands: the first 00 is written
-first-zero : (c : tie.Then2 Inv-loop μ-loop)
-    → let s = c .before .before .before .before .before .before .before .args .payload .now in
-    let at = c .before .before .before .before .loop in
-    Prefix (c .before .before .before .before .before .before .before .args .out .now) (unescape s) (at .n + 1) (0 ∷ unescape (drop (at .i + 3) s)) (set (at .out) (at .n) 0)
-first-zero c =
-    let s = c .before .before .before .before .before .before .before .args .payload .now in
-    let at = c .before .before .before .before .loop in
-    let e = unescape-at-marked s (at .i) (sym (c .before .marked-at .ensures) ∙ c .if2 .taken) in
-    prefix-put (rw e at (at .inv .1)) (omega arith)
+places-requires : tie.Need-places-requires Inv-loop μ-loop
+places-requires c κs = search needs
 
 loop-holds : tie.Need-loop-holds Inv-loop μ-loop
-loop-holds c = (omega arith, prefix-start _ _)
+loop-holds c = gives-start unescape _ _ 0 0 (omega arith) (omega arith)
 
 same-length : tie.Need-same-length Inv-loop μ-loop
-same-length c = c .before .before .loop .inv .1 .part .long
+same-length c = c .before .before .loop .inv .written .long
 
 returns : tie.Need-returns Inv-loop μ-loop
-returns c = prefix-full (c .before .before .loop .inv .1) (c .if1 .taken)
+returns c = gives-full (c .before .before .loop .inv) (c .if1 .taken)
 
-marked-at-requires : tie.Need-marked-at-requires Inv-loop μ-loop
-marked-at-requires c κs = search needs
-
-slice-write-out : tie.Need-slice-write-out Inv-loop μ-loop
-slice-write-out c = omega arith
-
-add-n : tie.Need-add-n Inv-loop μ-loop
-add-n c = omega arith
-
-same-length-2 : tie.Need-same-length-2 Inv-loop μ-loop
-same-length-2 c = first-zero (c .before) .part .long
-
-returns-2 : tie.Need-returns-2 Inv-loop μ-loop
-returns-2 c = prefix-full (first-zero (c .before)) (c .if3 .taken)
-
-slice-write-out-2 : tie.Need-slice-write-out-2 Inv-loop μ-loop
-slice-write-out-2 c = omega arith
-
-add-n-2 : tie.Need-add-n-2 Inv-loop μ-loop
-add-n-2 c = omega arith
-
-add-i : tie.Need-add-i Inv-loop μ-loop
-add-i c =
-    let s = c .before .before .before .before .before .before .before .before .args .payload .now in
-    let at = c .before .before .before .before .before .loop in
-    omega (arith, marked-fits s (at .i) (at .inv .0) (sym (c .before .before .marked-at .ensures) ∙ c .before .if2 .taken))
-
-loop-less : tie.Need-loop-less Inv-loop μ-loop
-loop-less c = omega arith
+copy-clean-requires : tie.Need-copy-clean-requires Inv-loop μ-loop
+copy-clean-requires c κs = (c .before .before .before .loop .inv .within, c .before .before .before .loop .inv .written .within)
 
 loop-again : tie.Need-loop-again Inv-loop μ-loop
 loop-again c =
-    let s = c .before .before .before .before .before .before .before .before .args .payload .now in
-    let at = c .before .before .before .before .before .loop in
-    let e : at .n + 1 + 1 ≡ at .n + 2 = omega arith in
-    (marked-fits s (at .i) (at .inv .0) (sym (c .before .before .marked-at .ensures) ∙ c .before .if2 .taken), prefix-put (first-zero (c .before)) (omega arith))
+    gives-clean unescape-keeps (c .before .before .before .before .before .before .before .loop .inv) (c .before .before .before .copy-clean .ensures .0 (c .if2 .taken))
 
-shared-slice-read-out : tie.Need-shared-slice-read-out Inv-loop μ-loop
-shared-slice-read-out c = omega arith
+add-n : tie.Need-add-n Inv-loop μ-loop
+add-n c = omega (arith, loop-again c .written .within)
 
-slice-write-out-3 : tie.Need-slice-write-out-3 Inv-loop μ-loop
-slice-write-out-3 c = omega arith
+add-i : tie.Need-add-i Inv-loop μ-loop
+add-i c = omega (arith, loop-again c .within)
 
-add-n-3 : tie.Need-add-n-3 Inv-loop μ-loop
-add-n-3 c = omega arith
+loop-less : tie.Need-loop-less Inv-loop μ-loop
+loop-less c = omega (arith, loop-again c .written .within, loop-again c .written .long)
 
-add-i-2 : tie.Need-add-i-2 Inv-loop μ-loop
-add-i-2 c = omega arith
+block-end-requires : tie.Need-block-end-requires Inv-loop μ-loop
+block-end-requires c κs = search needs
+
+unescape-places-requires : tie.Need-unescape-places-requires Inv-loop μ-loop
+unescape-places-requires c κs =
+    (omega arith, omega arith, omega (arith, ap length (c .before .before .before .before .before .copy-clean .ensures .1 (c .before .before .if2 .left))))
 
 loop-less-2 : tie.Need-loop-less-2 Inv-loop μ-loop
-loop-less-2 c = omega arith
+loop-less-2 c =
+    omega (arith, c .before .before .unescape-places .ensures .1, c .before .before .before .before .before .before .before .before .before .before .before .before .loop .inv .written .long)
 
 loop-again-2 : tie.Need-loop-again-2 Inv-loop μ-loop
 loop-again-2 c =
-    let s = c .before .before .before .before .before .before .before .before .args .payload .now in
-    let at = c .before .before .before .before .before .loop in
-    let e = unescape-at-plain s (at .i) (omega arith) (sym (c .before .before .marked-at .ensures) ∙ c .before .if2 .left) in
-    (omega arith, prefix-put (rw e at (at .inv .1)) (omega arith))
+    let same = c .before .before .before .before .before .before .before .before .copy-clean .ensures .1 (c .before .before .before .before .before .if2 .left) in
+    gives-then (c .before .before .before .before .before .before .before .before .before .before .before .before .loop .inv) (rw same at (c .before .before .unescape-places .ensures .0))
 
-same-length-3 : tie.Need-same-length-3 Inv-loop μ-loop
-same-length-3 c = c .before .loop .inv .1 .part .long
+copy-rest-requires : tie.Need-copy-rest-requires Inv-loop μ-loop
+copy-rest-requires c κs = (c .before .before .loop .inv .within, c .before .before .loop .inv .written .within)
 
-returns-3 : tie.Need-returns-3 Inv-loop μ-loop
-returns-3 c =
-    let s = c .before .before .before .before .args .payload .now in
-    prefix-end (rw (unescape-end s (c .before .loop .i) (omega arith)) at (c .before .loop .inv .1))
+same-length-2 : tie.Need-same-length-2 Inv-loop μ-loop
+same-length-2 c = c .before .before .copy-rest .ensures .long ∙ c .before .before .before .before .before .loop .inv .written .long
+
+returns-2 : tie.Need-returns-2 Inv-loop μ-loop
+returns-2 c = gives-rest unescape-keeps (c .before .before .before .before .before .loop .inv) (omega arith) (c .before .before .copy-rest .ensures)
 
 pub unescape-prefix-spec : {M : Type 1} → statement M
 unescape-prefix-spec =
@@ -110,24 +77,19 @@ unescape-prefix-spec =
     (tie.spec
     Inv-loop
     μ-loop
+    places-requires
     loop-holds
     same-length
     returns
-    marked-at-requires
-    slice-write-out
+    copy-clean-requires
     add-n
-    same-length-2
-    returns-2
-    slice-write-out-2
-    add-n-2
     add-i
     loop-less
     loop-again
-    shared-slice-read-out
-    slice-write-out-3
-    add-n-3
-    add-i-2
+    block-end-requires
+    unescape-places-requires
     loop-less-2
     loop-again-2
-    same-length-3
-    returns-3)
+    copy-rest-requires
+    same-length-2
+    returns-2)

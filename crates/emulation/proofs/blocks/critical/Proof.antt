@@ -1,6 +1,7 @@
+-- The tests of the definition, one after the other.
 use borrow.Author.Tests.{ne-eqb, eq-eqb}
-use Rattle.emulation.proofs.escaping.stuffs.Statement.{statement}
-use Rattle.emulation.proofs.escaping.stuffs.Tie as tie
+use Rattle.emulation.proofs.blocks.critical.Statement.{statement}
+use Rattle.emulation.proofs.blocks.critical.Tie as tie
 
 returns : tie.Need-returns
 returns c = simp (ne-eqb _ _ (c .if1 .taken))
@@ -11,5 +12,5 @@ returns-2 c = simp (eq-eqb _ _ (c .before .if1 .left), ne-eqb _ _ (c .if2 .taken
 returns-3 : tie.Need-returns-3
 returns-3 c = simp (eq-eqb _ _ (c .before .if1 .left), eq-eqb _ _ (c .if2 .left))
 
-pub stuffs-spec : {M : Type 1} → statement M
-stuffs-spec = tie.close (tie.spec returns returns-2 returns-3)
+pub critical-spec : {M : Type 1} → statement M
+critical-spec = tie.close (tie.spec returns returns-2 returns-3)

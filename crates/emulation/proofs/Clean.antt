@@ -1,0 +1,200 @@
+-- Places at which 00 00 and a byte of 0 to 3 stand (`critical`), and blocks without one (`clean`). At any other place escaping and unescaping give the
+-- byte as it is (`KeepsUncritical`), nothing is dropped and no forbidden sequence begins; so they pass a clean block as it is. Assumes nothing.
+use Prim.Native.Nat.{ℕ, zero, suc, _+_, _-_, _≤_, _<_}
+use mathlib.Core.Bool.{Bool, true, false, _&&_, _||_, true≢false}
+use mathlib.Core.Path.{_≡_, refl, sym, ap, ap₂, subst, _∙_}
+use mathlib.Core.List.{[], _∷_, _++_}
+use native.Mathlib.Omega.{arith}
+use native.Mathlib.Numerals.{add-one}
+use lib.ListN.{length, take, drop, getD, length-drop}
+use lib.Seq.{drop-drop}
+use lib.Dec.{leb, eqb}
+use borrow.Author.Tests.{eqb-true, leb-true, leb-false, le-leb, lt-leb, ne-eqb}
+use Rattle.lists.specs.Lists.{Bytes}
+use Rattle.lists.proofs.Tests.{case, clash, and-both}
+use Rattle.lists.proofs.Parts.{next, next3}
+use Rattle.emulation.specs.Payload.{stuffed, escape, escapeAfter, unescape, forbidden, above3}
+use Rattle.emulation.specs.Parts.{marked, critical, criticals, block, clean}
+use Rattle.emulation.proofs.Steps.{escape-stuffed, escape-plain, unescape-plain}
+use Rattle.emulation.proofs.Machine.{stuffed-is, stuffed-of, marked-of, unmarked-of-plain}
+
+-- ---- what begins at such a place alone
+pub uncritical-unmarked : (l : Bytes) → critical l ≡ false → marked l ≡ false
+unfolding critical marked
+uncritical-unmarked [] e = refl
+uncritical-unmarked (a ∷ []) e = refl
+uncritical-unmarked (a ∷ b ∷ []) e = refl
+uncritical-unmarked (a ∷ b ∷ c ∷ s) e = unmarked-of-plain a b c e
+
+above : (c : ℕ) (x : Bool) → leb c 3 ≡ false → leb c 2 || (eqb c 3 && x) ≡ false
+above c x e =
+    let h : 3 < c = leb-false c 3 e in
+    rw (lt-leb c 2 (omega arith), ne-eqb c 3 (λ k. absurd (omega arith)))
+
+pub uncritical-lawful : (l : Bytes) → critical l ≡ false → forbidden l ≡ false
+unfolding critical forbidden
+uncritical-lawful [] e = refl
+uncritical-lawful (a ∷ []) e = refl
+uncritical-lawful (a ∷ b ∷ []) e = refl
+uncritical-lawful (a ∷ b ∷ c ∷ s) e = case (eqb a 0 && eqb b 0) (λ t. rw (t, above c (above3 s) (rw t at e))) (λ t. rw t)
+
+-- where no forbidden sequence begins at such a place, it is 00 00 03
+pub critical-marked : (l : Bytes) → critical l ≡ true → forbidden l ≡ false → marked l ≡ true
+unfolding critical forbidden marked
+critical-marked [] e f = absurd (true≢false (sym e))
+critical-marked (a ∷ []) e f = absurd (true≢false (sym e))
+critical-marked (a ∷ b ∷ []) e f = absurd (true≢false (sym e))
+critical-marked (a ∷ b ∷ c ∷ s) e f =
+    let h = stuffed-is a b c e in
+    case (leb c 2)
+    (λ t. let k : forbidden (a ∷ b ∷ c ∷ s) ≡ true = rw (h .0, h .1, t) in clash k f)
+    (λ t. let k = leb-false c 2 t in marked-of a b c (h .0) (h .1) (omega arith))
+
+-- ---- escaping by the bytes to come: `escape` goes by the bytes written last, of which there are none at first
+-- a 03 before the byte written last counts as little as nothing before it
+after-three : (q : ℕ) (s : Bytes) → escapeAfter 3 q s ≡ escapeAfter 1 q s
+unfolding escapeAfter
+after-three q [] = refl
+after-three q (b ∷ s) = refl
+
+escape-uncritical : (a : ℕ) (s : Bytes) → critical (a ∷ s) ≡ false → escape (a ∷ s) ≡ a ∷ escape s
+unfolding critical escapeAfter
+escape-uncritical a [] e = refl
+escape-uncritical a (b ∷ []) e = refl
+escape-uncritical a (b ∷ c ∷ s) e = ap (λ (l : Bytes). a ∷ b ∷ l) (escape-plain a b c s e)
+
+escape-zeros : (c : ℕ) (s : Bytes) → c ≤ 3 → escape (0 ∷ 0 ∷ c ∷ s) ≡ 0 ∷ 0 ∷ 3 ∷ escape (c ∷ s)
+unfolding escapeAfter
+escape-zeros c s h =
+    ap (λ (l : Bytes). 0 ∷ 0 ∷ l) (escape-stuffed 0 0 c s (stuffed-of 0 0 c refl refl h)) ∙ ap (λ (l : Bytes). 0 ∷ 0 ∷ 3 ∷ c ∷ l) (after-three c s)
+
+escape-critical : (l : Bytes) → critical l ≡ true → escape l ≡ 0 ∷ 0 ∷ 3 ∷ escape (drop 2 l)
+unfolding critical
+escape-critical [] e = absurd (true≢false (sym e))
+escape-critical (a ∷ []) e = absurd (true≢false (sym e))
+escape-critical (a ∷ b ∷ []) e = absurd (true≢false (sym e))
+escape-critical (a ∷ b ∷ c ∷ s) e =
+    let h = stuffed-is a b c e in ap₂ (λ (x y : ℕ). escape (x ∷ y ∷ c ∷ s)) (h .0) (h .1) ∙ escape-zeros c s (h .2)
+
+-- ---- at the code's place i
+pub critical-at : (s : Bytes) (i : ℕ) → i + 2 < length s → critical (drop i s) ≡ stuffed (getD s i 0) (getD s (i + 1) 0) (getD s (i + 2) 0)
+unfolding critical
+critical-at s i h = rw (next3 s i h)
+
+critical-long : (l : Bytes) → critical l ≡ true → 3 ≤ length l
+unfolding critical
+critical-long [] e = absurd (true≢false (sym e))
+critical-long (a ∷ []) e = absurd (true≢false (sym e))
+critical-long (a ∷ b ∷ []) e = absurd (true≢false (sym e))
+critical-long (a ∷ b ∷ c ∷ s) e = omega arith
+
+pub critical-fits : (s : Bytes) (i : ℕ) → i ≤ length s → critical (drop i s) ≡ true → i + 3 ≤ length s
+critical-fits s i h e = omega (arith, critical-long (drop i s) e, length-drop i s)
+
+pub escape-at-critical : (s : Bytes) (i : ℕ) → critical (drop i s) ≡ true → escape (drop i s) ≡ 0 ∷ 0 ∷ 3 ∷ escape (drop (i + 2) s)
+escape-at-critical s i e = escape-critical (drop i s) e ∙ rw (drop-drop 2 i s)
+
+pub escape-at-uncritical : (s : Bytes) (i : ℕ) → i < length s → critical (drop i s) ≡ false → escape (drop i s) ≡ getD s i 0 ∷ escape (drop (i + 1) s)
+escape-at-uncritical s i h e = rw (next s i h) (escape-uncritical (getD s i 0) (drop (i + 1) s) (rw (next s i h) at e))
+
+-- ---- how many such places there are
+criticals-yes : (n a : ℕ) (s : Bytes) → critical (a ∷ s) ≡ true → criticals (suc n) (a ∷ s) ≡ suc (criticals n s)
+unfolding criticals
+criticals-yes n a s e = rw (e, criticals)
+
+criticals-no : (n a : ℕ) (s : Bytes) → critical (a ∷ s) ≡ false → criticals (suc n) (a ∷ s) ≡ criticals n s
+unfolding criticals
+criticals-no n a s e = rw (e, criticals)
+
+-- one place more, at the end
+abbrev pub one : Bool → ℕ
+one true = 1
+one false = 0
+
+criticals-more : (n : ℕ) (l : Bytes) → criticals (suc n) l ≡ criticals n l + one (critical (drop n l))
+unfolding criticals critical
+criticals-more zero [] = refl
+criticals-more zero (a ∷ l) =
+    case (critical (a ∷ l)) (λ t. rw (t, criticals)) (λ t. rw (t, criticals))
+criticals-more (suc n) [] = refl
+criticals-more (suc n) (a ∷ l) =
+    case (critical (a ∷ l))
+    (λ t. omega (arith, criticals-yes (suc n) a l t, criticals-yes n a l t, criticals-more n l))
+    (λ t. omega (arith, criticals-no (suc n) a l t, criticals-no n a l t, criticals-more n l))
+
+pub criticals-at : (s : Bytes) (i j : ℕ) (t : Bool) → critical (drop (i + j) s) ≡ t → criticals (j + 1) (drop i s) ≡ criticals j (drop i s) + one t
+criticals-at s i j t e =
+    let d : critical (drop j (drop i s)) ≡ t = rw drop-drop e in
+    rw add-one (criticals-more j (drop i s) ∙ ap (λ (x : Bool). criticals j (drop i s) + one x) d)
+
+-- where there is none, there is none at the first place and none after it
+none-first : (n a : ℕ) (s : Bytes) → criticals (suc n) (a ∷ s) ≡ 0 → (critical (a ∷ s) ≡ false) × (criticals n s ≡ 0)
+none-first n a s e =
+    case (critical (a ∷ s))
+    (λ t. absurd (omega (arith, criticals-yes n a s t)))
+    (λ t. (t, omega (arith, criticals-no n a s t)))
+
+-- ---- a clean block
+pub clean-short : (s : Bytes) (i : ℕ) → length s - i < block + 2 → clean (drop i s) ≡ false
+unfolding clean
+clean-short s i h = rw (length-drop, lt-leb (block + 2) (length s - i) h)
+
+pub clean-counted : (s : Bytes) (i : ℕ) → block + 2 ≤ length s - i → clean (drop i s) ≡ eqb (criticals block (drop i s)) 0
+unfolding clean
+clean-counted s i h = rw (length-drop, le-leb (block + 2) (length s - i) h)
+
+pub is-clean : (s : Bytes) (i : ℕ) → clean (drop i s) ≡ true → (i + block + 2 ≤ length s) × (criticals block (drop i s) ≡ 0)
+unfolding clean
+is-clean s i e =
+    let h = and-both (leb (block + 2) (length (drop i s))) (eqb (criticals block (drop i s)) 0) e in
+    let k = leb-true (block + 2) (length (drop i s)) (h .0) in
+    (omega (arith, length-drop i s), eqb-true (criticals block (drop i s)) 0 (h .1))
+
+-- what each place that is not critical keeps, a clean block keeps
+keeps : (s : Bytes) (P : ℕ → Type 0) → ((j : ℕ) → j < length s → critical (drop j s) ≡ false → P j → P (j + 1))
+    → (n i : ℕ) → i + n ≤ length s → criticals n (drop i s) ≡ 0 → P i → P (i + n)
+keeps s P step zero i h e p = let z : i ≡ i + 0 = omega arith in subst P z p
+keeps s P step (suc n) i h e p =
+    let z : i + 1 + n ≡ i + suc n = omega arith in
+    let d : drop i s ≡ getD s i 0 ∷ drop (i + 1) s = next s i (omega arith) in
+    let k = none-first n (getD s i 0) (drop (i + 1) s) (rw d at e) in
+    subst P z (keeps s P step n (i + 1) (omega arith) (k .1) (step i (omega arith) (rw d (k .0)) p))
+
+pub clean-keeps : (s : Bytes) (P : ℕ → Type 0) → ((j : ℕ) → j < length s → critical (drop j s) ≡ false → P j → P (j + 1))
+    → (i : ℕ) → clean (drop i s) ≡ true → P i → P (i + block)
+clean-keeps s P step i e p = let h = is-clean s i e in keeps s P step block i (omega (arith, h .0)) (h .1) p
+
+-- ---- what gives each byte as it is where the place is not critical, gives a clean block as it is, and the last two bytes
+pub record KeepsUncritical (f : Bytes → Bytes) : Type 0 where
+  pub nothing : f [] ≡ []
+  pub byte : (a : ℕ) (s : Bytes) → critical (a ∷ s) ≡ false → f (a ∷ s) ≡ a ∷ f s
+
+pub escape-keeps : KeepsUncritical escape
+unfolding escapeAfter
+escape-keeps = record { nothing = refl; byte = escape-uncritical }
+
+pub unescape-keeps : KeepsUncritical unescape
+unfolding unescape
+unescape-keeps = record { nothing = refl; byte = λ a s e. unescape-plain a s (uncritical-unmarked (a ∷ s) e) }
+
+module _ (f : Bytes → Bytes) (k : KeepsUncritical f) where
+  passes : (n : ℕ) (s : Bytes) → n ≤ length s → criticals n s ≡ 0 → f s ≡ take n s ++ f (drop n s)
+  passes zero s h e = refl
+  passes (suc n) [] h e = absurd (omega arith)
+  passes (suc n) (a ∷ s) h e =
+      let m = none-first n a s e in k .byte a s (m .0) ∙ ap (λ (l : Bytes). a ∷ l) (passes n s (omega arith) (m .1))
+
+  pub clean-passes : (s : Bytes) (i : ℕ) → clean (drop i s) ≡ true → f (drop i s) ≡ take block (drop i s) ++ f (drop (i + block) s)
+  clean-passes s i e =
+      let h = is-clean s i e in
+      passes block (drop i s) (omega (arith, h .0, length-drop i s)) (h .1) ∙ ap (λ (l : Bytes). take block (drop i s) ++ f l) (drop-drop block i s)
+
+  short : (l : Bytes) → length l < 3 → f l ≡ l
+  unfolding critical
+  short [] h = k .nothing
+  short (a ∷ []) h = k .byte a [] refl ∙ ap (λ (l : Bytes). a ∷ l) (k .nothing)
+  short (a ∷ b ∷ []) h = k .byte a (b ∷ []) refl ∙ ap (λ (l : Bytes). a ∷ l) (k .byte b [] refl ∙ ap (λ (l : Bytes). b ∷ l) (k .nothing))
+  short (a ∷ b ∷ c ∷ s) h = absurd (omega arith)
+
+  pub last-passes : (s : Bytes) (i : ℕ) → length s - 2 ≤ i → f (drop i s) ≡ drop i s
+  last-passes s i h = short (drop i s) (omega (arith, length-drop i s))

@@ -1,0 +1,71 @@
+-- One pass, by blocks: the bytes put up to i are counted. A clean block is passed over; `inserted_places` counts those of another.
+use borrow.Author.Needs.{needs}
+use native.Mathlib.Omega.{arith}
+use Prim.Native.Nat.{_-_}
+use mathlib.Core.Path.{sym, _∙_}
+use lib.ListN.{length}
+use Rattle.emulation.specs.Parts.{Inserts}
+use Rattle.emulation.proofs.Inserting.{inserts-start, inserts-then, inserts-clean, inserts-end}
+use Rattle.emulation.proofs.escaping.inserted.Statement.{statement}
+use Rattle.emulation.proofs.escaping.inserted.Tie as tie
+
+abbrev Inv-loop : tie.InvT-loop
+Inv-loop obu last count₀ i₀ count i = Inserts obu 0 i count
+
+abbrev μ-loop : tie.MeasureT-loop
+μ-loop obu last count₀ i₀ count i = length obu - i
+
+places-requires : tie.Need-places-requires Inv-loop μ-loop
+places-requires c κs = search needs
+
+loop-holds : tie.Need-loop-holds Inv-loop μ-loop
+loop-holds c = inserts-start _ _ (omega arith)
+
+clean-requires : tie.Need-clean-requires Inv-loop μ-loop
+clean-requires c κs = search needs
+
+loop-again : tie.Need-loop-again Inv-loop μ-loop
+loop-again c = inserts-clean _ _ _ _ (c .before .before .before .loop .inv) (sym (c .before .clean .ensures) ∙ c .if1 .taken)
+
+add-i : tie.Need-add-i Inv-loop μ-loop
+add-i c = omega (arith, loop-again c .within)
+
+loop-less : tie.Need-loop-less Inv-loop μ-loop
+loop-less c = omega (arith, loop-again c .within)
+
+block-end-requires : tie.Need-block-end-requires Inv-loop μ-loop
+block-end-requires c κs = search needs
+
+inserted-places-requires : tie.Need-inserted-places-requires Inv-loop μ-loop
+inserted-places-requires c κs = search needs
+
+add-count : tie.Need-add-count Inv-loop μ-loop
+add-count c = omega arith
+
+loop-less-2 : tie.Need-loop-less-2 Inv-loop μ-loop
+loop-less-2 c = omega arith
+
+loop-again-2 : tie.Need-loop-again-2 Inv-loop μ-loop
+loop-again-2 c = inserts-then _ _ _ _ _ _ (c .before .before .before .before .before .before .loop .inv) (c .before .inserted-places .ensures .0)
+
+returns : tie.Need-returns Inv-loop μ-loop
+returns c = inserts-end _ _ _ (c .before .loop .inv) (omega arith)
+
+pub inserted-spec : {M : Type 1} → statement M
+inserted-spec =
+    tie.close
+    (tie.spec
+    Inv-loop
+    μ-loop
+    places-requires
+    loop-holds
+    clean-requires
+    add-i
+    loop-less
+    loop-again
+    block-end-requires
+    inserted-places-requires
+    add-count
+    loop-less-2
+    loop-again-2
+    returns)

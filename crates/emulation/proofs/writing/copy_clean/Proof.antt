@@ -1,0 +1,55 @@
+-- A clean block that has room is copied; otherwise nothing is done.
+use borrow.Author.Needs.{needs}
+use native.Mathlib.Omega.{arith}
+use mathlib.Core.Path.{_≡_, refl, sym, _∙_}
+use mathlib.Core.Bool.{true}
+use lib.ListN.{drop, length-drop}
+use Rattle.lists.proofs.Tests.{clash}
+use Rattle.emulation.specs.Parts.{block, clean}
+use Rattle.emulation.proofs.Outputs.{writes-paste}
+use Rattle.emulation.proofs.Clean.{is-clean}
+use Rattle.emulation.proofs.writing.copy_clean.Statement.{statement}
+use Rattle.emulation.proofs.writing.copy_clean.Tie as tie
+
+sub-if1 : tie.Need-sub-if1
+sub-if1 c = search needs
+
+returns : tie.Need-returns
+returns c = ((λ e. clash e refl), (λ e. refl))
+
+clean-requires : tie.Need-clean-requires
+clean-requires c κs = search needs
+
+copy-block-requires : tie.Need-copy-block-requires
+copy-block-requires c κs =
+    let start = c .before .before .before .before .before .before in
+    let h = is-clean (start .args .s .now) (start .args .i) (sym (c .before .before .clean .ensures) ∙ c .before .if2 .taken) in (omega (arith, h .0), omega arith)
+
+same-length : tie.Need-same-length
+same-length c = search needs
+
+returns-2 : tie.Need-returns-2
+returns-2 c =
+    let start = c .before .before .before .before .before .before .before .before .before in
+    let s = start .args .s .now in
+    let i = start .args .i in
+    let o = start .args .out .now in
+    let n = start .args .n in
+    let t : clean (drop i s) ≡ true = sym (c .before .before .before .before .before .clean .ensures) ∙ c .before .before .before .before .if2 .taken in
+    let h = is-clean s i t in
+    let k = length-drop i s in (
+      (λ e.
+          record {
+            tested = t;
+            written = λ rest. rw (c .before .before .copy-block .ensures) (writes-paste o (drop i s) rest n block (omega arith) (omega (arith, h .0)));
+          }),
+      (λ e. clash refl e),
+    )
+
+returns-3 : tie.Need-returns-3
+returns-3 c = ((λ e. clash e refl), (λ e. refl))
+
+pub copy-clean-spec : {M : Type 1} → statement M
+copy-clean-spec =
+    tie.close
+    (tie.spec sub-if1 returns clean-requires copy-block-requires same-length returns-2 returns-3)
