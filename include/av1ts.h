@@ -29,6 +29,34 @@ av1ts_answer av1ts_escape(const uint8_t *obu, size_t obu_len, uint8_t *out, size
  * is too short. */
 av1ts_answer av1ts_unescape(const uint8_t *payload, size_t payload_len, uint8_t *out, size_t out_len);
 
+/* The carried unit of OBUs that are lent back to back with their lengths. count: the bytes written.
+ * Refuses: 1 no OBU, or more than 64; 2 more than 1,048,576 bytes, or lengths that don't add up to the bytes; at the OBU's index, 3 an OBU of no bytes, 4
+ * forbidden bit or extension byte missing, 5 bad leb128, size wrong or a delimiter with content, 6 tile list; 7 order broken, at the index that breaks it or
+ * at the OBU count if the list ends too soon; 8 the output is too short, which is said exactly where it is too short for every string that reads as these
+ * OBUs: the one written is the shortest. */
+av1ts_answer av1ts_write_unit(const uint8_t *obus, size_t obus_len, const size_t *lengths, size_t lengths_len, uint8_t *out, size_t out_len);
+
+/* The OBUs of a carried unit, back to back, and their lengths. count: the OBUs; bytes: the bytes written; dropped: the bytes dropped in all.
+ * Refuses: 2 more than 1,573,056 bytes; 9 no start code at the head; 1 more than 64 OBUs; at the OBU's index 3, 10 an illegal payload, 4, 5, 6; 2 OBUs of more
+ * than 1,048,576 bytes together; 7; 8 an output is too short (bytes or lengths). A refusal leaves both outputs. */
+av1ts_answer av1ts_read_unit(const uint8_t *unit, size_t unit_len, uint8_t *out, size_t out_len, size_t *lengths, size_t lengths_len);
+
+/* The same verdict and figures with no output: all refusals of reading but 8. */
+av1ts_answer av1ts_check_unit(const uint8_t *unit, size_t unit_len);
+
+/* A walk over a carried unit hands out one payload at a time. Its state is a place in the unit. */
+typedef struct {
+    uint64_t number, place, end, start, length, next_at;
+} av1ts_step;
+
+/* next_at: the place of the first step. Refuses: 9 no start code at the head (then next_at is 0). */
+av1ts_step av1ts_walk_start(const uint8_t *unit, size_t unit_len);
+
+/* The step at a place: a payload is the length bytes from start on, and next_at the place of the next step; or end is 1. At the end, and where a step refused, next_at
+ * is the place handed in: the walk stays. Refuses, at the OBU's index: 3 an OBU of no bytes; 10 an illegal payload. A place that no walk over these bytes reaches is
+ * answered by 9, or from the unit's length on by the end. */
+av1ts_step av1ts_walk_step(const uint8_t *unit, size_t unit_len, size_t at);
+
 #ifdef __cplusplus
 }
 #endif

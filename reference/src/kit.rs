@@ -55,7 +55,7 @@ impl Random {
 const GUARD: usize = 64;
 
 /// Elements with a fixed pattern, two kinds of it, for buffers that are lent.
-pub trait Pattern: Copy + PartialEq + 'static {
+pub trait Pattern: Copy + Default + PartialEq + 'static {
     fn pattern(kind: usize) -> &'static [Self];
 }
 
@@ -72,7 +72,7 @@ fn make_pattern<T>(kind: usize, len: usize, from: fn(u64) -> T) -> Vec<T> {
 impl Pattern for u8 {
     fn pattern(kind: usize) -> &'static [u8] {
         static PATTERNS: [OnceLock<Vec<u8>>; 2] = [const { OnceLock::new() }; 2];
-        PATTERNS[kind].get_or_init(|| make_pattern(kind, 1 << 21, |word| word as u8))
+        PATTERNS[kind].get_or_init(|| make_pattern(kind, 13 << 20, |word| word as u8))
     }
 }
 
@@ -80,6 +80,13 @@ impl Pattern for usize {
     fn pattern(kind: usize) -> &'static [usize] {
         static PATTERNS: [OnceLock<Vec<usize>>; 2] = [const { OnceLock::new() }; 2];
         PATTERNS[kind].get_or_init(|| make_pattern(kind, 1 << 12, |word| word as usize))
+    }
+}
+
+impl Pattern for u64 {
+    fn pattern(kind: usize) -> &'static [u64] {
+        static PATTERNS: [OnceLock<Vec<u64>>; 2] = [const { OnceLock::new() }; 2];
+        PATTERNS[kind].get_or_init(|| make_pattern(kind, 1 << 12, |word| word))
     }
 }
 

@@ -1,7 +1,15 @@
 // The C interface. include/av1ts.h says of each function what it refuses and what it leaves; a slice is passed as a pointer and a length.
+mod access_unit;
 mod answer;
 mod payload;
+mod walk;
 
+pub use access_unit::av1ts_check_unit;
+pub use access_unit::av1ts_read_unit;
+pub use access_unit::av1ts_write_unit;
 pub use answer::Answer;
 pub use payload::av1ts_escape;
 pub use payload::av1ts_unescape;
+pub use walk::WalkStep;
+pub use walk::av1ts_walk_start;
+pub use walk::av1ts_walk_step;

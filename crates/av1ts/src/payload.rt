@@ -4,7 +4,7 @@ ghost use lib.ListN.{length};
 ghost use Rattle.refusal.specs.Verdict.{leaves};
 ghost use Rattle.emulation.specs.Payload.{escape, unescape};
 ghost use Rattle.emulation.specs.Answer.{escaping, unescaping};
-ghost use Rattle.av1ts.specs.Answers.{escapeAnswer, unescapeAnswer};
+ghost use Rattle.av1ts.specs.Answers.{countAnswer, unescapeAnswer};
 use crate::answer::Answer;
 use crate::answer::refusal;
 use emulation::Escaped;
@@ -12,7 +12,7 @@ use emulation::Unescaped;
 
 #[no_mangle]
 pub extern "C" fn av1ts_escape(obu: &[u8], out: &mut [u8]) -> Answer
-    ensures { λ r. ⌜ r ≡ escapeAnswer (escaping (now (obu .entry)) (length (now (out .entry)))) ⌝ }
+    ensures { λ r. ⌜ r ≡ countAnswer (escaping (now (obu .entry)) (length (now (out .entry)))) ⌝ }
     ensures { λ r. ⌜ now (out .exit) ≡ leaves (escaping (now (obu .entry)) (length (now (out .entry)))) (escape (now (obu .entry))) (now (out .entry)) ⌝ }
 {
     let answer = emulation::escape(obu, out);

@@ -3,3 +3,10 @@ pub mod Closings
 pub mod Lengths
 pub mod Acceptance
 pub mod Theorem
+pub mod Places
+pub mod Steps
+pub mod Readings
+pub mod Checking
+pub mod Rests
+pub mod Tries
+pub mod Writings

@@ -1,2 +1,5 @@
 pub mod Unit
 pub mod Demand3
+pub mod Answer
+pub mod Walk
+pub mod Parts

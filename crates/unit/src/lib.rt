@@ -1,1 +1,18 @@
-// One access unit (document 01, "One access unit"): specs/ says what reading and writing mean and states demand 3, proofs/ has its theorem.
+// One access unit (document 01, "One access unit").
+mod codes;
+mod reading;
+mod walking;
+mod writing;
+
+pub use reading::Counts;
+pub use reading::UnitRead;
+pub use reading::check;
+pub use reading::read;
+pub use walking::Part;
+pub use walking::Started;
+pub use walking::Step;
+pub use walking::payload;
+pub use walking::start;
+pub use walking::step_at;
+pub use writing::Written;
+pub use writing::write;

@@ -5,6 +5,8 @@
 //! A module declares the C functions of its topic and has one safe function for each.
 
 pub mod payload;
+pub mod unit;
+pub mod walk;
 
 /// `av1ts_answer`: number 0 is success; in a refusal all but number and place is 0.
 #[repr(C)]

@@ -5,7 +5,7 @@ use Rattle.refusal.specs.Verdict.{Verdict, leaves}
 use Rattle.emulation.specs.Payload.{escape}
 use Rattle.emulation.specs.Answer.{escapedSays}
 use Prim.Native.Nat.{ℕ}
-use Rattle.av1ts.specs.Answers.{escapeAnswer}
+use Rattle.av1ts.specs.Answers.{countAnswer}
 use Rattle.av1ts.proofs.payload.av1ts_escape.Statement.{statement}
 use Rattle.av1ts.proofs.payload.av1ts_escape.Tie as tie
 
@@ -29,7 +29,7 @@ returns c =
     let start = c .before .before .before .before .before .before .before .before .before in
     let e = c .before .before .before .before .before .escape .ensures in
     let k = ap escapedSays (c .before .answer .given .1) in
-    (ap escapeAnswer (sym k ∙ e .0), e .1 ∙ ap (λ (v : Verdict ℕ). leaves v (escape (start .args .obu .now)) (start .args .out .now)) (e .0))
+    (ap countAnswer (sym k ∙ e .0), e .1 ∙ ap (λ (v : Verdict ℕ). leaves v (escape (start .args .obu .now)) (start .args .out .now)) (e .0))
 
 same-length-2 : tie.Need-same-length-2
 same-length-2 c = search needs
@@ -39,7 +39,7 @@ returns-2 c =
     let start = c .before .before .before .before .before .before .before .before .before .before in
     let e = c .before .before .before .before .before .before .escape .ensures in
     let k = ap escapedSays (c .before .before .answer2 .given .1) in (
-      c .refusal .ensures ∙ ap escapeAnswer (sym k ∙ e .0),
+      c .refusal .ensures ∙ ap countAnswer (sym k ∙ e .0),
       e .1 ∙ ap (λ (v : Verdict ℕ). leaves v (escape (start .args .obu .now)) (start .args .out .now)) (e .0),
     )
 

@@ -1,0 +1,61 @@
+// Reading, checking and writing an access unit.
+ghost use mathlib.Core.Path.{_≡_};
+ghost use mathlib.Core.List.{map, flatten};
+ghost use lib.ListN.{length};
+ghost use Rattle.refusal.specs.Verdict.{leaves};
+ghost use Rattle.unit.specs.Unit.{obusIn, obusOf, carried, writeUnit};
+ghost use Rattle.unit.specs.Answer.{checking, reading, readSays};
+ghost use Rattle.av1ts.specs.Answers.{countAnswer, unitAnswer};
+use crate::answer::Answer;
+use crate::answer::refusal;
+use unit::UnitRead;
+use unit::Written;
+
+fn unit_answer(read: UnitRead) -> Answer
+    ensures { λ r. ⌜ r ≡ unitAnswer (readSays read) ⌝ }
+{
+    match read {
+        UnitRead::Obus(counts) => Answer {
+            number: 0,
+            place: 0,
+            count: counts.obus as u64,
+            bytes: counts.bytes as u64,
+            dropped: counts.dropped as u64,
+        },
+        UnitRead::Refused(refused) => refusal(refused),
+    }
+}
+
+#[no_mangle]
+pub extern "C" fn av1ts_write_unit(obus: &[u8], lengths: &[usize], out: &mut [u8]) -> Answer
+    ensures { λ r. ⌜ r ≡ countAnswer (writeUnit (now (lengths .entry)) (now (obus .entry)) (length (now (out .entry)))) ⌝ }
+    ensures { λ r. ⌜ now (out .exit) ≡ leaves (writeUnit (now (lengths .entry)) (now (obus .entry)) (length (now (out .entry)))) (carried (obusOf (now (lengths .entry)) (now (obus .entry)))) (now (out .entry)) ⌝ }
+{
+    let answer = unit::write(obus, lengths, out);
+    match answer {
+        Written::Bytes(n) => Answer {
+            number: 0,
+            place: 0,
+            count: n as u64,
+            bytes: 0,
+            dropped: 0,
+        },
+        Written::Refused(refused) => refusal(refused),
+    }
+}
+
+#[no_mangle]
+pub extern "C" fn av1ts_read_unit(unit: &[u8], out: &mut [u8], lengths: &mut [usize]) -> Answer
+    ensures { λ r. ⌜ r ≡ unitAnswer (reading (now (unit .entry)) (length (now (out .entry))) (length (now (lengths .entry)))) ⌝ }
+    ensures { λ r. ⌜ now (out .exit) ≡ leaves (reading (now (unit .entry)) (length (now (out .entry))) (length (now (lengths .entry)))) (flatten (obusIn (now (unit .entry)))) (now (out .entry)) ⌝ }
+    ensures { λ r. ⌜ now (lengths .exit) ≡ leaves (reading (now (unit .entry)) (length (now (out .entry))) (length (now (lengths .entry)))) (map length (obusIn (now (unit .entry)))) (now (lengths .entry)) ⌝ }
+{
+    unit_answer(unit::read(unit, out, lengths))
+}
+
+#[no_mangle]
+pub extern "C" fn av1ts_check_unit(unit: &[u8]) -> Answer
+    ensures { λ r. ⌜ r ≡ unitAnswer (checking (now (unit .entry))) ⌝ }
+{
+    unit_answer(unit::check(unit))
+}

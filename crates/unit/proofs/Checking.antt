@@ -1,0 +1,163 @@
+-- Checking, try by try. Assumes nothing.
+use Prim.Native.Nat.{ℕ, _≤_, _<_}
+use mathlib.Core.Bool.{Bool, true, false, not, _||_, or-true}
+use mathlib.Core.Path.{_≡_, refl, sym, ap, ap₂, _∙_}
+use mathlib.Core.List.{List, [], _∷_, map, flatten}
+use native.Mathlib.Omega.{arith}
+use borrow.Author.Tests.{lt-ltb, le-ltb, ltb-false}
+use lib.Dec.{ltb}
+use lib.ListN.{length, take, length-map}
+use Rattle.lists.specs.Lists.{Bytes}
+use Rattle.refusal.specs.Verdict.{Verdict, passed, refused, _>>=_, _>>_, NoValue, given, inTurn}
+use Rattle.refusal.proofs.Verdicts.{refuse, pass-on, follows, stops, then-bind, then-refused, never, passed-after, passed-same, passed-then}
+use Rattle.emulation.specs.Payload.{unescape}
+use Rattle.obu.specs.Order.{Kind, kindOf, kindOfType, orderRefusal}
+use Rattle.unit.specs.Unit.{mostCarried, mostObus, mostObuBytes, atStartCode, payloads, obusIn, sum, tsobuRefusal, readUnit, droppedIn}
+use Rattle.unit.specs.Answer.{checking, reading, readSays}
+use Rattle.unit.specs.Parts.{obuType, endsFrom, payloadCounts, wholeCounts, JudgedUnit}
+use Rattle.unit.specs.declared.reading.Counts.{Counts}
+use Rattle.unit.specs.declared.reading.UnitRead.{UnitRead}
+use Rattle.unit.specs.declared.reading.Judged.{Judged}
+use Rattle.unit.proofs.Acceptance.{Reads, reads}
+use Rattle.unit.proofs.Lengths.{sum-lengths}
+
+abbrev pub counts : Bytes → Counts
+counts s = record { obus = length (obusIn s); bytes = sum (map length (obusIn s)); dropped = droppedIn s }
+
+-- the kinds of the OBUs, by the types in their payloads
+kinds : (ps : List Bytes) → map kindOfType (map obuType ps) ≡ map kindOf (map unescape ps)
+kinds [] = refl
+kinds (p ∷ ps) = ap (λ (l : List Kind). kindOf (unescape p) ∷ l) (kinds ps)
+
+module _ (s : Bytes) where
+  -- the tries of checking in a row
+  tries : Verdict Counts
+  tries =
+      given 2 (ltb mostCarried (length s))
+      >> given 9 (not (atStartCode s))
+      >> given 1 (ltb mostObus (length (payloads s)))
+      >> inTurn tsobuRefusal 0 (payloads s)
+      >> given 2 (ltb mostObuBytes (sum (map length (obusIn s))))
+      >> orderRefusal (map kindOf (obusIn s))
+      >> passed (counts s)
+
+  tries-are : tries ≡ checking s
+  unfolding tries checking readUnit _>>=_
+  tries-are =
+      sym
+      (then-bind (given 2 (ltb mostCarried (length s))) _ _
+      ∙ ap (λ (v : Verdict Counts). given 2 (ltb mostCarried (length s)) >> v)
+      (then-bind (given 9 (not (atStartCode s))) _ _
+      ∙ ap (λ (v : Verdict Counts). given 9 (not (atStartCode s)) >> v)
+      (then-bind (given 1 (ltb mostObus (length (payloads s)))) _ _
+      ∙ ap (λ (v : Verdict Counts). given 1 (ltb mostObus (length (payloads s))) >> v)
+      (then-bind (inTurn tsobuRefusal 0 (payloads s)) _ _
+      ∙ ap (λ (v : Verdict Counts). inTurn tsobuRefusal 0 (payloads s) >> v)
+      (then-bind (given 2 (ltb mostObuBytes (sum (map length (obusIn s))))) _ _
+      ∙ ap (λ (v : Verdict Counts). given 2 (ltb mostObuBytes (sum (map length (obusIn s)))) >> v)
+      (then-bind (orderRefusal (map kindOf (obusIn s))) _ _))))))
+
+  pub check-long : mostCarried < length s → refused 2 0 ≡ checking s
+  unfolding tries
+  check-long h = refuse 2 _ (lt-ltb mostCarried (length s) h) ∙ tries-are
+
+  pub check-headless : length s ≤ mostCarried → atStartCode s ≡ false → refused 9 0 ≡ checking s
+  unfolding tries
+  check-headless h e = pass-on 2 (le-ltb mostCarried (length s) h) (refuse 9 _ (ap not e)) ∙ tries-are
+
+  pub check-many : length s ≤ mostCarried → atStartCode s ≡ true → true ≡ ltb mostObus (length (payloads s)) → refused 1 0 ≡ checking s
+  unfolding tries
+  check-many h e m = pass-on 2 (le-ltb mostCarried (length s) h) (pass-on 9 (ap not e) (refuse 1 _ (sym m))) ∙ tries-are
+
+  module _ (h : length s ≤ mostCarried) (e : atStartCode s ≡ true) (m : false ≡ ltb mostObus (length (payloads s))) where
+    behind : {v : Verdict Counts}
+        → v ≡ (inTurn tsobuRefusal 0 (payloads s) >> given 2 (ltb mostObuBytes (sum (map length (obusIn s)))) >> orderRefusal (map kindOf (obusIn s)) >> passed (counts s))
+        → v ≡ checking s
+    unfolding tries
+    behind k = pass-on 2 (le-ltb mostCarried (length s) h) (pass-on 9 (ap not e) (pass-on 1 (sym m) k)) ∙ tries-are
+
+    pub check-refused : (number place : ℕ) → refused number place ≡ payloadCounts s → refused number place ≡ checking s
+    unfolding payloadCounts
+    check-refused number place k = behind (stops _ (then-refused (inTurn tsobuRefusal 0 (payloads s)) _ number place (sym k)))
+
+    -- the payloads passed
+    pub counts-are : (c : Counts) → passed c ≡ payloadCounts s → (inTurn tsobuRefusal 0 (payloads s) ≡ passed tt) × (c ≡ counts s)
+    unfolding payloadCounts
+    counts-are c k =
+        let p = passed-after (inTurn tsobuRefusal 0 (payloads s)) _ c (sym k) in
+        let n : length (payloads s) ≡ length (obusIn s) = sym (length-map (payloads s) unescape) in
+        (p .0, sym (passed-same _ c (p .1)) ∙ λ i. record { obus = n i; bytes = sum (map length (obusIn s)); dropped = droppedIn s })
+
+    pub check-whole : (c : Counts) (types : List ℕ) → passed c ≡ payloadCounts s → take (length (payloads s)) types ≡ map obuType (payloads s) → wholeCounts c types ≡ checking s
+    unfolding wholeCounts
+    check-whole c types k t =
+        let n = counts-are c k in
+        let m : c .obus ≡ length (payloads s) = ap (λ (x : Counts). x .obus) (n .1) ∙ length-map (payloads s) unescape in
+        let o : map kindOfType (take (c .obus) types) ≡ map kindOf (obusIn s) =
+        ap (λ (i : ℕ). map kindOfType (take i types)) m ∙ ap (map kindOfType) t ∙ kinds (payloads s) in
+        behind
+        (follows (n .0)
+        (ap (λ (x : Counts). given 2 (ltb mostObuBytes (x .bytes)) >> orderRefusal (map kindOfType (take (c .obus) types)) >> passed x) (n .1)
+        ∙ ap (λ (l : List Kind). given 2 (ltb mostObuBytes (sum (map length (obusIn s)))) >> orderRefusal l >> passed (counts s)) o))
+
+-- how many OBUs the payloads that passed have
+pub counts-obus : (s : Bytes) (c : Counts) → passed c ≡ payloadCounts s → c .obus ≡ length (payloads s)
+unfolding payloadCounts
+counts-obus s c k = ap (λ (x : Counts). x .obus) (sym (passed-same _ c (passed-after (inTurn tsobuRefusal 0 (payloads s)) _ c (sym k) .1)))
+
+-- ---- the answer with the ends
+whole-counts : (c : Counts) (types : List ℕ) (d : Counts) → wholeCounts c types ≡ passed d → d ≡ c
+unfolding wholeCounts
+whole-counts c types d e = sym (passed-same c d (passed-after _ _ d (passed-after _ _ d e .1) .1))
+
+pub answer-refused : (s : Bytes) (r : UnitRead) (ends : List ℕ) (number place : ℕ) → readSays r ≡ refused number place → refused number place ≡ checking s
+    → JudgedUnit s (record { answer = r; ends = ends })
+answer-refused s r ends number place e k =
+    record { answer = e ∙ k; ends = λ c p. never (k ∙ p) }
+
+pub answer-whole : (s : Bytes) (r : UnitRead) (c : Counts) (at types : List ℕ) → readSays r ≡ wholeCounts c types → wholeCounts c types ≡ checking s → c .obus ≡ length (payloads s)
+    → take (length (payloads s)) at ≡ endsFrom 0 (payloads s) → JudgedUnit s (record { answer = r; ends = at })
+answer-whole s r c at types e k n a =
+    record { answer = e ∙ k; ends = λ d p. ap (λ (m : ℕ). take m at) (ap (λ (x : Counts). x .obus) (whole-counts c types d (k ∙ p)) ∙ n) ∙ a }
+
+-- ---- what an accepted unit is
+pub record Checked (s : Bytes) (c : Counts) : Type 0 where
+  pub headed : atStartCode s ≡ true
+  pub obus : c .obus ≡ length (payloads s)
+  pub few : c .obus ≤ 64
+  pub bytes : c .bytes ≡ length (flatten (obusIn s))
+
+pub checked : (s : Bytes) (c : Counts) → checking s ≡ passed c → Checked s c
+unfolding checking
+checked s c e =
+    let k = passed-then (readUnit s) _ c e in
+    let r = reads s (k .0) (k .1) in
+    let same = passed-same _ c (k .2) in
+    let n : c .obus ≡ length (payloads s) = sym (ap (λ (x : Counts). x .obus) same) ∙ ap length (sym (r .1)) ∙ length-map (payloads s) unescape in
+    record {
+      headed = r .0 .headed;
+      obus = n;
+      few = omega (arith, n, r .0 .most);
+      bytes = sym (ap (λ (x : Counts). x .bytes) same) ∙ ap (λ (l : List Bytes). sum (map length l)) (sym (r .1)) ∙ sum-lengths (obusIn s);
+    }
+
+-- ---- reading, behind the verdict of checking
+module _ (s : Bytes) (bytes lengths : ℕ) where
+  pub reading-refused : (number place : ℕ) → checking s ≡ refused number place → refused number place ≡ reading s bytes lengths
+  unfolding reading _>>=_
+  reading-refused number place e = rw e
+
+  short-by : (c : Counts) → checking s ≡ passed c → (ltb bytes (c .bytes) || ltb lengths (c .obus)) ≡ true → refused 8 0 ≡ reading s bytes lengths
+  unfolding reading _>>=_
+  short-by c e t = rw e (refuse 8 (passed c) t)
+
+  pub short-of-bytes : (c : Counts) → checking s ≡ passed c → bytes < c .bytes → refused 8 0 ≡ reading s bytes lengths
+  short-of-bytes c e h = short-by c e (ap (λ (t : Bool). t || ltb lengths (c .obus)) (lt-ltb bytes (c .bytes) h))
+
+  pub short-of-lengths : (c : Counts) → checking s ≡ passed c → lengths < c .obus → refused 8 0 ≡ reading s bytes lengths
+  short-of-lengths c e h = short-by c e (ap (λ (t : Bool). ltb bytes (c .bytes) || t) (lt-ltb lengths (c .obus) h) ∙ or-true (ltb bytes (c .bytes)))
+
+  pub reading-fits : (c : Counts) → checking s ≡ passed c → c .bytes ≤ bytes → c .obus ≤ lengths → passed c ≡ reading s bytes lengths
+  unfolding reading _>>=_
+  reading-fits c e h k =
+      rw e (pass-on 8 (ap₂ (λ (t u : Bool). t || u) (le-ltb bytes (c .bytes) h) (le-ltb lengths (c .obus) k)) refl)

@@ -1,0 +1,382 @@
+-- Loops over the payloads of a unit: what is done, then the definition of the rest, is the definition of the whole. Assumes nothing.
+use Prim.Native.Nat.{ℕ, zero, suc, _+_, _-_, _≤_, _<_}
+use mathlib.Core.Bool.{Bool, true, false, not, true≢false}
+use mathlib.Core.Path.{_≡_, refl, sym, ap, ap₂, subst, _∙_}
+use mathlib.Core.Logic.{_⊎_, inl, inr}
+use mathlib.Core.List.{List, [], _∷_, _++_, map, flatten, append-nil}
+use native.Mathlib.Omega.{arith}
+use native.Mathlib.Numerals.{add-one}
+use borrow.Author.Tests.{lt-ltb, le-ltb, ltb-true, ltb-false, eq-eqb, ne-eqb}
+use lib.Dec.{ltb, eqb}
+use lib.ListN.{length, take, drop, getD, set, length-set, length-append, length-drop, length-map}
+use lib.Seq.{take-suc-set, append-snoc, take-at, getD-take}
+use Rattle.lists.specs.Lists.{Bytes, pick, over, placed}
+use Rattle.lists.proofs.Tests.{case}
+use Rattle.lists.proofs.Parts.{next}
+use Rattle.lists.proofs.Writing.{Part, start, counted, room, put, put-all, done}
+use Rattle.refusal.specs.declared.Refusal.{Refusal}
+use Rattle.refusal.specs.declared.Refused.{Refused}
+use Rattle.refusal.specs.Verdict.{Verdict, passed, refused, _>>=_, _>>_, NoValue, given, atPlace, inTurn}
+use Rattle.refusal.specs.Number.{numberOf, refusedBy}
+use Rattle.refusal.proofs.Verdicts.{refuse, pass-on, follows, stops, passed-after, passed-same, then-refused, turn-passed, turn-refused}
+use Rattle.emulation.specs.Payload.{legal, unescape, dropped}
+use Rattle.emulation.proofs.Steps.{given-or-dropped}
+use Rattle.obu.specs.declared.header.Header.{Header}
+use Rattle.obu.specs.declared.header.Judged.{Judged as Obu}
+use Rattle.obu.specs.declared.header.Judged.the-variants as obu
+use Rattle.obu.specs.Header.{judged, judgedSays as obuSays, obuRefusal}
+use Rattle.obu.specs.declared.ordering.Ordered.{Ordered}
+use Rattle.obu.specs.declared.ordering.Ordered.the-variants as ordered
+use Rattle.obu.specs.Order.{kindOf, kindOfType, orderRefusal, orderedSays}
+use Rattle.obu.proofs.Headers.{judged-first, header-type, judged-header}
+use Rattle.unit.specs.Unit.{mostObus, mostObuBytes, atStartCode, payloads, obusIn, sum, tsobuRefusal, droppedIn}
+use Rattle.unit.specs.Parts.{obuType, figures, tsobuFigures, tsobuSays, legalFigures, endsFrom, EndsOf, payloadCounts, Judges, wholeCounts}
+use Rattle.unit.specs.declared.reading.Counts.{Counts}
+use Rattle.unit.specs.declared.reading.UnitRead.{UnitRead}
+use Rattle.unit.specs.declared.reading.UnitRead.the-variants as read
+use Rattle.unit.specs.declared.reading.Ends.{Ends}
+use Rattle.unit.specs.declared.reading.Figures.{Figures}
+use Rattle.unit.specs.declared.reading.TsObu.{TsObu}
+use Rattle.unit.specs.declared.reading.TsObu.the-variants as tsobu
+use Rattle.unit.proofs.Places.{Place, nextCode, payloadAt, payload-length, code-fits, next-fits, next-place, payloads-from, payloads-end, place-code}
+
+-- ---- where payloads end
+pub ends-from : (s : Bytes) (code : ℕ) → atStartCode (drop code s) ≡ true
+    → endsFrom code (payloads (drop code s)) ≡ nextCode s code ∷ endsFrom (nextCode s code) (payloads (drop (nextCode s code) s))
+unfolding endsFrom
+ends-from s code e =
+    let n : code + 3 + length (payloadAt s code) ≡ nextCode s code = ap (λ (k : ℕ). code + 3 + k) (payload-length s code) in
+    ap (endsFrom code) (payloads-from s code e)
+    ∙ ap (λ (k : ℕ). k ∷ endsFrom k (payloads (drop (nextCode s code) s))) n
+
+pub ends-end : (s : Bytes) (code : ℕ) → length s ≤ code → endsFrom code (payloads (drop code s)) ≡ []
+unfolding endsFrom
+ends-end s code h = ap (endsFrom code) (payloads-end s code h)
+
+-- `count` payloads stand before `code`, and their ends are in `at`
+pub record Ending (s : Bytes) (at : List ℕ) (count code : ℕ) : Type 0 where
+  pub place : Place s code
+  pub within : code ≤ length s
+  pub few : count ≤ 64
+  pub long : length at ≡ 64
+  pub counted : count + length (payloads (drop code s)) ≡ length (payloads s)
+  pub filled : take count at ++ endsFrom code (payloads (drop code s)) ≡ endsFrom 0 (payloads s)
+
+pub ending-start : (s : Bytes) (at : List ℕ) → length at ≡ 64 → atStartCode s ≡ true → Ending s at 0 0
+ending-start s at l e = record { place = inr e; within = omega arith; few = omega arith; long = l; counted = omega arith; filled = refl }
+
+pub ending-code : {s : Bytes} {at : List ℕ} {count code : ℕ} → Ending s at count code → code < length s → atStartCode (drop code s) ≡ true
+ending-code {s} {at} {count} {code} j h = place-code s code (j .place) h
+
+-- a payload is left
+pub ending-more : {s : Bytes} {at : List ℕ} {count code : ℕ} → Ending s at count code → code < length s → count < length (payloads s)
+ending-more {s} {at} {count} {code} j h =
+    omega (arith, j .counted, ap length (payloads-from s code (ending-code j h)))
+
+pub ending-step : {s : Bytes} {at : List ℕ} {count code next : ℕ} → Ending s at count code → code < length s → count < 64 → next ≡ nextCode s code
+    → Ending s (set at count next) (count + 1) next
+ending-step {s} {at} {count} {code} {next} j h k e =
+    let c = ending-code j h in
+    let room : count < length at = omega (arith, j .long) in
+    subst (λ (n : ℕ). Ending s (set at count n) (count + 1) n) (sym e)
+    (record {
+      place = next-place s code c;
+      within = next-fits s code c;
+      few = omega arith;
+      long = length-set at count (nextCode s code) ∙ j .long;
+      counted = omega (arith, j .counted, ap length (payloads-from s code c));
+      filled =
+          ap (λ (l : List ℕ). l ++ endsFrom (nextCode s code) (payloads (drop (nextCode s code) s)))
+          (ap (λ (n : ℕ). take n (set at count (nextCode s code))) (add-one count) ∙ take-suc-set at count (nextCode s code) room)
+          ∙ append-snoc (take count at) (nextCode s code) (endsFrom (nextCode s code) (payloads (drop (nextCode s code) s)))
+          ∙ ap (λ (l : List ℕ). take count at ++ l) (sym (ends-from s code c))
+          ∙ j .filled;
+    })
+
+pub ending-past : {s : Bytes} {at : List ℕ} {count code : ℕ} → Ending s at count code → code < length s → mostObus ≤ count
+    → EndsOf s (record { more = true; count = count; at = at })
+ending-past {s} {at} {count} {code} j h k =
+    record {
+      more = sym (lt-ltb mostObus (length (payloads s)) (omega (arith, ending-more j h)));
+      count = λ e. absurd (true≢false e);
+      at = λ e. absurd (true≢false e);
+    }
+
+pub ending-done : {s : Bytes} {at : List ℕ} {count code : ℕ} → Ending s at count code → length s ≤ code
+    → EndsOf s (record { more = false; count = count; at = at })
+ending-done {s} {at} {count} {code} j h =
+    let n : count ≡ length (payloads s) = omega (arith, j .counted, ap length (payloads-end s code h)) in
+    record {
+      more = sym (le-ltb mostObus (length (payloads s)) (omega (arith, j .few)));
+      count = λ e. n;
+      at = λ e. sym (append-nil (take count at)) ∙ ap (λ (l : List ℕ). take count at ++ l) (sym (ends-end s code h)) ∙ j .filled;
+    }
+
+-- ---- one payload
+-- the first bytes, unescaped into the front of an array
+pub first-bytes : (u z first : Bytes) (n : ℕ) → n ≡ length (take (length z) u) → first ≡ over (take (length z) u) z
+    → (n ≤ length first) × (take n first ≡ take (length z) u)
+first-bytes u z first n e f =
+    let w = take (length z) u in
+    (omega (arith, ap length f, length-append w (drop (length w) z)), ap (take n) f ∙ take-at w (drop (length w) z) n (sym e))
+
+-- the first bytes and the length decide as the whole OBU does
+pub judged-short : (u first : Bytes) (n k : ℕ) → 10 ≤ k → first ≡ take k u → n ≡ length u → judged first n ≡ judged u (length u)
+judged-short u first n k h e f = ap₂ judged e f ∙ judged-first k u (length u) h
+
+refusal-stays : {A : Type 0} {v : Verdict Header} {number place : ℕ} (w : Verdict A) → refused number place ≡ v → refused number place ≡ ((v >> passed (tt {0})) >> w)
+unfolding _>>_
+refusal-stays w e = rw (← e)
+
+value-goes : {A : Type 0} {v : Verdict Header} {h : Header} {w x : Verdict A} → passed h ≡ v → x ≡ w → x ≡ ((v >> passed (tt {0})) >> w)
+unfolding _>>_
+value-goes e f = rw (← e) f
+
+pub figures-refused : (payload : Bytes) (q : Obu) (r : Refused) → obuSays q ≡ judged (unescape payload) (length (unescape payload)) → q ≡ obu.Refused r
+    → refusedBy r ≡ legalFigures payload
+unfolding legalFigures
+figures-refused payload q r e k = refusal-stays (passed (figures payload)) (sym (ap obuSays k) ∙ e)
+
+pub figures-passed : (payload : Bytes) (q : Obu) (h : Header) (d : ℕ) → obuSays q ≡ judged (unescape payload) (length (unescape payload)) → q ≡ obu.Passed h → d ≡ dropped payload
+    → passed (record { «obu_type» = h .«obu_type»; dropped = d }) ≡ legalFigures payload
+unfolding legalFigures
+figures-passed payload q h d e k f =
+    let j : passed h ≡ judged (unescape payload) (length (unescape payload)) = sym (ap obuSays k) ∙ e in
+    let t = header-type (unescape payload) h (judged-header (unescape payload) (length (unescape payload)) h (sym j)) in
+    value-goes j (λ i. passed (record { «obu_type» = t i; dropped = f i }))
+
+pub tsobu-empty : (payload : Bytes) → length payload ≡ 0 → refused 3 0 ≡ tsobuFigures payload
+unfolding tsobuFigures tsobuRefusal given pick _>>_
+tsobu-empty payload e = rw (eq-eqb (length payload) 0 e)
+
+pub tsobu-illegal : (payload : Bytes) → (length payload ≡ 0 → ⊥) → legal payload ≡ false → refused 10 0 ≡ tsobuFigures payload
+unfolding tsobuFigures tsobuRefusal given pick _>>_
+tsobu-illegal payload h e = rw (ne-eqb (length payload) 0 h, e)
+
+pub tsobu-legal : (payload : Bytes) → (length payload ≡ 0 → ⊥) → legal payload ≡ true → legalFigures payload ≡ tsobuFigures payload
+unfolding tsobuFigures tsobuRefusal legalFigures given pick _>>_
+tsobu-legal payload h e = rw (ne-eqb (length payload) 0 h, e)
+
+-- one payload's answer, as a refusal or a pass
+pub tsobu-refused : (payload : Bytes) (q : TsObu) (r : Refused) → tsobuSays q ≡ tsobuFigures payload → q ≡ tsobu.Refused r → tsobuRefusal payload ≡ refusedBy r
+unfolding tsobuFigures
+tsobu-refused payload q r e k =
+    then-refused (tsobuRefusal payload) (figures payload) (numberOf (r .why)) (r .place) (sym e ∙ ap tsobuSays k)
+
+pub tsobu-passed : (payload : Bytes) (q : TsObu) (f : Figures) → tsobuSays q ≡ tsobuFigures payload → q ≡ tsobu.Passed f
+    → (tsobuRefusal payload ≡ passed tt) × (f ≡ figures payload)
+unfolding tsobuFigures
+tsobu-passed payload q f e k =
+    let h = passed-after (tsobuRefusal payload) (passed (figures payload)) f (sym e ∙ ap tsobuSays k) in
+    (h .0, sym (passed-same (figures payload) f (h .1)))
+
+-- ---- one payload after the other: `k` of them stand before `code`, and their ends are known
+pub record Passing (s : Bytes) (at : List ℕ) (code k : ℕ) : Type 0 where
+  pub place : Place s code
+  pub within : code ≤ length s
+  pub ends : drop k (take (length (payloads s)) at) ≡ endsFrom code (payloads (drop code s))
+  pub counted : k + length (payloads (drop code s)) ≡ length (payloads s)
+
+pub passing-start : (s : Bytes) (at : List ℕ) → atStartCode s ≡ true → take (length (payloads s)) at ≡ endsFrom 0 (payloads s) → Passing s at 0 0
+passing-start s at c e = record { place = inr c; within = omega arith; ends = e; counted = omega arith }
+
+-- a payload is left: the next, its end, and the place behind it
+module _ {s : Bytes} {at : List ℕ} {code k : ℕ} (j : Passing s at code k) (h : k < length (payloads s)) where
+  pub passing-code : atStartCode (drop code s) ≡ true
+  passing-code =
+      place-code s code (j .place)
+      (not-past (λ past. absurd (omega (arith, j .counted, ap length (payloads-end s code past)))))
+    where
+      not-past : (length s ≤ code → ⊥) → code < length s
+      not-past f = case (ltb code (length s)) (λ t. ltb-true code (length s) t) (λ t. absurd (f (ltb-false code (length s) t)))
+
+  left : drop k (take (length (payloads s)) at) ≡ nextCode s code ∷ endsFrom (nextCode s code) (payloads (drop (nextCode s code) s))
+  left = j .ends ∙ ends-from s code passing-code
+
+  inside : k < length (take (length (payloads s)) at)
+  inside = omega (arith, length-drop k (take (length (payloads s)) at), ap length left)
+
+  noted-ends : getD (take (length (payloads s)) at) k 0 ∷ drop (k + 1) (take (length (payloads s)) at)
+      ≡ nextCode s code ∷ endsFrom (nextCode s code) (payloads (drop (nextCode s code) s))
+  noted-ends = sym (next (take (length (payloads s)) at) k inside) ∙ left
+
+  pub passing-end : getD at k 0 ≡ nextCode s code
+  passing-end =
+      let g = noted-ends in
+      let f : getD (take (length (payloads s)) at) k 0 ≡ nextCode s code = cc in
+      sym (getD-take (length (payloads s)) at k 0 h) ∙ f
+
+  pub passing-payloads : payloads (drop code s) ≡ payloadAt s code ∷ payloads (drop (nextCode s code) s)
+  passing-payloads = payloads-from s code passing-code
+
+  pub passing-step : Passing s at (nextCode s code) (k + 1)
+  passing-step =
+      let g = noted-ends in
+      record {
+        place = next-place s code passing-code;
+        within = next-fits s code passing-code;
+        ends = cc;
+        counted = omega (arith, j .counted, ap length passing-payloads);
+      }
+
+-- no payload is left
+pub passing-none : {s : Bytes} {at : List ℕ} {code k : ℕ} → Passing s at code k → length (payloads s) ≤ k → payloads (drop code s) ≡ []
+passing-none {s} {at} {code} {k} j h = empty (payloads (drop code s)) (omega (arith, j .counted))
+  where
+    empty : (l : List Bytes) → length l ≡ 0 → l ≡ []
+    empty [] e = refl
+    empty (b ∷ l) e = absurd (omega arith)
+
+-- ---- the payloads of a unit, judged in turn: `k` of them passed
+pub record Judging (s : Bytes) (at types : List ℕ) (bytes drops code k : ℕ) : Type 0 where
+  pub passing : Passing s at code k
+  pub long : length types ≡ 64
+  pub small : bytes + drops ≤ code
+  pub passed-so-far : inTurn tsobuRefusal 0 (payloads s) ≡ inTurn tsobuRefusal k (payloads (drop code s))
+  pub sum-bytes : bytes + sum (map length (map unescape (payloads (drop code s)))) ≡ sum (map length (obusIn s))
+  pub sum-dropped : drops + sum (map dropped (payloads (drop code s))) ≡ droppedIn s
+  pub noted : take k types ++ map obuType (payloads (drop code s)) ≡ map obuType (payloads s)
+
+pub judging-start : (s : Bytes) (e : Ends) (types : List ℕ) → length types ≡ 64 → atStartCode s ≡ true → EndsOf s e → e .more ≡ false → Judging s (e .at) types 0 0 0 0
+judging-start s e types l c o m =
+    record {
+      passing = passing-start s (e .at) c (ap (λ (n : ℕ). take n (e .at)) (sym (o .count m)) ∙ o .at m);
+      long = l;
+      small = omega arith;
+      passed-so-far = refl;
+      sum-bytes = omega arith;
+      sum-dropped = omega arith;
+      noted = refl;
+    }
+
+module _ {s : Bytes} {at types : List ℕ} {bytes drops code k : ℕ} (j : Judging s at types bytes drops code k) (h : k < length (payloads s)) where
+  pub judging-step : (f : Figures) → tsobuRefusal (payloadAt s code) ≡ passed tt → f ≡ figures (payloadAt s code) → k < 64
+      → Judging s at (set types k (f .«obu_type»)) (bytes + (nextCode s code - (code + 3) - f .dropped)) (drops + f .dropped) (nextCode s code) (k + 1)
+  unfolding sum endsFrom
+  judging-step f p e small =
+      let q = passing-payloads (j .passing) h in
+      let pay = payloadAt s code in
+      let rest = payloads (drop (nextCode s code) s) in
+      let dr : f .dropped ≡ dropped pay = ap (λ (x : Figures). x .dropped) e in
+      let len = payload-length s code in
+      let both = given-or-dropped pay in
+      let room : k < length types = omega (arith, j .long) in
+      record {
+        passing = passing-step (j .passing) h;
+        long = length-set types k (f .«obu_type») ∙ j .long;
+        small = omega (arith, j .small);
+        passed-so-far =
+            j .passed-so-far ∙ ap (inTurn tsobuRefusal k) q ∙ turn-passed tsobuRefusal k pay rest p ∙ ap (λ (i : ℕ). inTurn tsobuRefusal i rest) (sym (add-one k));
+        sum-bytes =
+            omega (arith, j .sum-bytes, ap (λ (l : List Bytes). sum (map length (map unescape l))) q);
+        sum-dropped = omega (arith, j .sum-dropped, ap (λ (l : List Bytes). sum (map dropped l)) q);
+        noted =
+            ap (λ (l : List ℕ). l ++ map obuType rest)
+            (ap (λ (m : ℕ). take m (set types k (f .«obu_type»))) (add-one k) ∙ take-suc-set types k (f .«obu_type») room)
+            ∙ append-snoc (take k types) (f .«obu_type») (map obuType rest)
+            ∙ ap (λ (t : ℕ). take k types ++ (t ∷ map obuType rest)) (ap (λ (x : Figures). x .«obu_type») e)
+            ∙ ap (λ (l : List Bytes). take k types ++ map obuType l) (sym q)
+            ∙ j .noted;
+      }
+
+  -- the first payload that is left is refused
+  pub judging-refused : (r : Refused) → tsobuRefusal (payloadAt s code) ≡ refusedBy r → refused (numberOf (r .why)) k ≡ payloadCounts s
+  unfolding payloadCounts
+  judging-refused r e =
+      let t : inTurn tsobuRefusal 0 (payloads s) ≡ refused (numberOf (r .why)) k =
+      j .passed-so-far ∙ ap (inTurn tsobuRefusal k) (passing-payloads (j .passing) h)
+      ∙ turn-refused tsobuRefusal k (payloadAt s code) (payloads (drop (nextCode s code) s)) (numberOf (r .why)) (r .place) e in
+      stops _ t
+
+-- all passed
+module _ {s : Bytes} {at types : List ℕ} {bytes drops code k : ℕ} (j : Judging s at types bytes drops code k) (h : length (payloads s) ≤ k) where
+  pub judging-done : (count : ℕ) → count ≡ length (payloads s)
+      → Judges s (record { found = read.Obus (record { obus = count; bytes = bytes; dropped = drops }); types = types })
+  unfolding payloadCounts sum inTurn
+  judging-done count n =
+      let z = passing-none (j .passing) h in
+      let m : length (payloads s) ≡ k = omega (arith, j .passing .counted, ap length z) in
+      let b : bytes ≡ sum (map length (obusIn s)) = omega (arith, j .sum-bytes, ap (λ (l : List Bytes). sum (map length (map unescape l))) z) in
+      let d : drops ≡ droppedIn s = omega (arith, j .sum-dropped, ap (λ (l : List Bytes). sum (map dropped l)) z) in
+      record {
+        found = follows (j .passed-so-far ∙ ap (inTurn tsobuRefusal k) z) (λ i. passed (record { obus = n i; bytes = b i; dropped = d i }));
+        types = λ e.
+            ap (λ (x : ℕ). take x types) m ∙ sym (append-nil (take k types)) ∙ ap (λ (l : List Bytes). take k types ++ map obuType l) (sym z) ∙ j .noted;
+      }
+
+-- where a payload was refused, nothing is asked of the types
+pub refused-judges : {s : Bytes} (types : List ℕ) {why : Refusal} {k : ℕ} → refused (numberOf why) k ≡ payloadCounts s
+    → Judges s (record { found = read.Refused (record { why = why; place = k }); types = types })
+unfolding payloadCounts
+refused-judges {s} types {why} {k} e =
+    let r = then-refused (inTurn tsobuRefusal 0 (payloads s)) _ (numberOf why) k (sym e) in
+    record { found = e; types = λ p. let z : _≡_ {A = ℕ} 0 1 = cc in absurd (omega arith) }
+
+-- ---- the payloads passed
+module _ (counts : Counts) (types : List ℕ) where
+  pub whole-over : mostObuBytes < counts .bytes → refused 2 0 ≡ wholeCounts counts types
+  unfolding wholeCounts
+  whole-over h = refuse 2 _ (lt-ltb mostObuBytes (counts .bytes) h)
+
+  pub whole-broken : (q : Ordered) (r : Refused) → counts .bytes ≤ mostObuBytes → orderedSays q ≡ orderRefusal (map kindOfType (take (counts .obus) types)) → q ≡ ordered.Refused r
+      → refusedBy r ≡ wholeCounts counts types
+  unfolding wholeCounts
+  whole-broken q r h e k = pass-on 2 (le-ltb mostObuBytes (counts .bytes) h) (stops _ (sym e ∙ ap orderedSays k))
+
+  pub whole-legal : (q : Ordered) → counts .bytes ≤ mostObuBytes → orderedSays q ≡ orderRefusal (map kindOfType (take (counts .obus) types)) → q ≡ ordered.Legal
+      → passed counts ≡ wholeCounts counts types
+  unfolding wholeCounts
+  whole-legal q h e k = pass-on 2 (le-ltb mostObuBytes (counts .bytes) h) (follows (sym e ∙ ap orderedSays k) refl)
+
+-- ---- the OBUs of a unit, copied in turn: `k` of them are in `out`, and their lengths in `lens`
+pub record Copying (s : Bytes) (ends out₀ lens₀ out lens : List ℕ) (code n k : ℕ) : Type 0 where
+  pub passing : Passing s ends code k
+  pub bytes : Part out₀ (flatten (obusIn s)) n (flatten (map unescape (payloads (drop code s)))) out
+  pub lengths : Part lens₀ (map length (obusIn s)) k (map length (map unescape (payloads (drop code s)))) lens
+
+pub copying-start : (s : Bytes) (ends out lens : List ℕ) → atStartCode s ≡ true → take (length (payloads s)) ends ≡ endsFrom 0 (payloads s) → Copying s ends out lens out lens 0 0 0
+copying-start s ends out lens c e =
+    record { passing = passing-start s ends c e; bytes = start out (flatten (obusIn s)); lengths = start lens (map length (obusIn s)) }
+
+module _ {s : Bytes} {ends out₀ lens₀ out lens : List ℕ} {code n k : ℕ} (j : Copying s ends out₀ lens₀ out lens code n k) (h : k < length (payloads s)) (fits : length (flatten (obusIn s)) ≤ length out₀) (few : length (payloads s) ≤ length lens₀) where
+  next-bytes : Part out₀ (flatten (obusIn s)) n (unescape (payloadAt s code) ++ flatten (map unescape (payloads (drop (nextCode s code) s)))) out
+  unfolding flatten
+  next-bytes = subst (λ (l : List Bytes). Part out₀ (flatten (obusIn s)) n (flatten (map unescape l)) out) (passing-payloads (j .passing) h) (j .bytes)
+
+  next-length : Part lens₀ (map length (obusIn s)) k (length (unescape (payloadAt s code)) ∷ map length (map unescape (payloads (drop (nextCode s code) s)))) lens
+  next-length = subst (λ (l : List Bytes). Part lens₀ (map length (obusIn s)) k (map length (map unescape l)) lens) (passing-payloads (j .passing) h) (j .lengths)
+
+  lens-fit : length (map length (obusIn s)) ≤ length lens₀
+  lens-fit = omega (arith, length-map (obusIn s) length, length-map (payloads s) unescape, few)
+
+  -- the whole OBU has room
+  pub copying-room : n + length (unescape (payloadAt s code)) ≤ length out
+  copying-room =
+      let w = unescape (payloadAt s code) in
+      let r = flatten (map unescape (payloads (drop (nextCode s code) s))) in
+      omega (arith, counted next-bytes, length-append w r, next-bytes .long)
+
+  pub copying-place : k < length lens
+  copying-place = room next-length lens-fit
+
+  pub copying-step : (written : ℕ) → written ≡ length (unescape (payloadAt s code))
+      → Copying s ends out₀ lens₀ (placed out n (unescape (payloadAt s code))) (set lens k written) (nextCode s code) (n + written) (k + 1)
+  copying-step written e =
+      let p = put-all (unescape (payloadAt s code)) next-bytes fits in
+      let q = put next-length lens-fit in
+      record {
+        passing = passing-step (j .passing) h;
+        bytes =
+            subst (λ (m : ℕ). Part out₀ (flatten (obusIn s)) (n + m) (flatten (map unescape (payloads (drop (nextCode s code) s)))) (placed out n (unescape (payloadAt s code)))) (sym e) p;
+        lengths =
+            subst (λ (m : ℕ). Part lens₀ (map length (obusIn s)) (k + 1) (map length (map unescape (payloads (drop (nextCode s code) s)))) (set lens k m)) (sym e) q;
+      }
+
+pub copying-done : {s : Bytes} {ends out₀ lens₀ out lens : List ℕ} {code n k : ℕ} → Copying s ends out₀ lens₀ out lens code n k → length (payloads s) ≤ k
+    → (out ≡ over (flatten (obusIn s)) out₀) × (lens ≡ over (map length (obusIn s)) lens₀)
+unfolding flatten
+copying-done {s} {ends} {out₀} {lens₀} {out} {lens} {code} {n} {k} j h =
+    let z = passing-none (j .passing) h in (
+      done (subst (λ (l : List Bytes). Part out₀ (flatten (obusIn s)) n (flatten (map unescape l)) out) z (j .bytes)),
+      done (subst (λ (l : List Bytes). Part lens₀ (map length (obusIn s)) k (map length (map unescape l)) lens) z (j .lengths)),
+    )

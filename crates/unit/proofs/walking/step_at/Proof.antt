@@ -1,0 +1,26 @@
+-- From the length on it is the end; before it, a start code stands at the place or none does.
+use borrow.Author.Needs.{needs}
+use native.Mathlib.Omega.{arith}
+use mathlib.Core.Path.{sym, _∙_}
+use Rattle.unit.proofs.Steps.{step-end, step-code, step-other}
+use Rattle.unit.proofs.walking.step_at.Statement.{statement}
+use Rattle.unit.proofs.walking.step_at.Tie as tie
+
+returns : tie.Need-returns
+returns c = step-end _ _ (c .if1 .taken)
+
+code-at-requires : tie.Need-code-at-requires
+code-at-requires c κs = search needs
+
+payload-step-requires : tie.Need-payload-step-requires
+payload-step-requires c κs = sym (c .before .code-at .ensures) ∙ c .if2 .taken
+
+returns-2 : tie.Need-returns-2
+returns-2 c =
+    step-code _ _ (c .before .before .before .if1 .left) (sym (c .before .before .code-at .ensures) ∙ c .before .if2 .taken) (c .payload-step .ensures)
+
+returns-3 : tie.Need-returns-3
+returns-3 c = step-other _ _ (c .before .before .if1 .left) (sym (c .before .code-at .ensures) ∙ c .if2 .left)
+
+pub step-at-spec : {M : Type 1} → statement M
+step-at-spec = tie.close (tie.spec returns code-at-requires payload-step-requires returns-2 returns-3)

@@ -1,0 +1,276 @@
+// Reading and checking a carried unit.
+ghost use mathlib.Core.Path.{_≡_};
+ghost use mathlib.Core.Bool.{true, false};
+ghost use mathlib.Core.List.{map, flatten};
+ghost use Rattle.lists.specs.Lists.{over};
+ghost use Prim.Native.Nat.{_≤_};
+ghost use lib.ListN.{length, take};
+ghost use Rattle.refusal.specs.Verdict.{leaves};
+ghost use Rattle.emulation.specs.Payload.{legal};
+ghost use Rattle.emulation.specs.Payload.{dropped as Payload·dropped};
+ghost use Rattle.unit.specs.Unit.{atStartCode, payloads, obusIn};
+ghost use Rattle.unit.specs.Answer.{checking, reading, readSays};
+ghost use Rattle.unit.specs.Parts.{tsobuSays, tsobuFigures, legalFigures, EndsOf, Judges, wholeCounts, JudgedUnit, endsFrom};
+use crate::codes::code_at;
+use crate::codes::find;
+use emulation::unescape_prefix;
+use refusal::Refusal;
+use refusal::Refused;
+
+// The most bytes of a carried unit, the most OBUs and the most bytes of its OBUs.
+const MOST_CARRIED: usize = 1573056;
+
+const MOST_OBUS: usize = 64;
+
+const MOST_OBU_BYTES: usize = 1048576;
+
+// A unit's OBUs, their bytes together, and the bytes dropped in all.
+pub struct Counts {
+    pub obus: usize,
+    pub bytes: usize,
+    pub dropped: usize,
+}
+
+pub enum UnitRead {
+    Obus(Counts),
+    Refused(Refused),
+}
+
+// Where the payloads of a unit end, of at most 64; more says that there are more.
+struct Ends {
+    more: bool,
+    count: usize,
+    at: [usize; 64],
+}
+
+// An OBU's type and the bytes dropped from its payload.
+struct Figures {
+    obu_type: u8,
+    dropped: usize,
+}
+
+enum TsObu {
+    Passed(Figures),
+    Refused(Refused),
+}
+
+// What the payloads of a unit were found to be, with the types of the OBUs.
+struct Payloads {
+    found: UnitRead,
+    types: [u8; 64],
+}
+
+// A unit's answer, with the places where its payloads end.
+struct Judged {
+    answer: UnitRead,
+    ends: [usize; 64],
+}
+
+// Where the payloads of a unit end.
+fn payload_ends(unit: &[u8]) -> Ends
+    requires { ⌜ atStartCode (now unit) ≡ true ⌝ }
+    ensures { λ r. ⌜ EndsOf (now (unit .entry)) r ⌝ }
+{
+    let mut at = [0usize; 64];
+    let mut count: usize = 0;
+    let mut code: usize = 0;
+    while code < unit.len() {
+        if MOST_OBUS <= count {
+            return Ends {
+                more: true,
+                count,
+                at,
+            };
+        }
+        code = find(unit, code + 3);
+        at[count] = code;
+        count += 1;
+    }
+    Ends {
+        more: false,
+        count,
+        at,
+    }
+}
+
+// A legal payload that is not empty, of which so many bytes are dropped: 4, 5, 6.
+fn judge_obu(payload: &[u8], dropped: usize) -> TsObu
+    requires { ⌜ dropped ≡ Payload·dropped (now payload) ⌝ }
+    ensures { λ r. ⌜ tsobuSays r ≡ legalFigures (now (payload .entry)) ⌝ }
+{
+    let length = payload.len() - dropped;
+    let mut first = [0u8; 10];
+    let n = unescape_prefix(payload, &mut first);
+    let judged = obu::judge(&first[..n], length);
+    match judged {
+        obu::Judged::Refused(refused) => TsObu::Refused(refused),
+        obu::Judged::Passed(header) => TsObu::Passed(Figures {
+            obu_type: header.obu_type,
+            dropped,
+        }),
+    }
+}
+
+// One payload: 3, 10, 4, 5, 6.
+fn judge_payload(payload: &[u8]) -> TsObu
+    ensures { λ r. ⌜ tsobuSays r ≡ tsobuFigures (now (payload .entry)) ⌝ }
+{
+    if payload.len() == 0 {
+        return TsObu::Refused(Refused {
+            why: Refusal::EmptyObu,
+            place: 0,
+        });
+    }
+    let judged = emulation::judge(payload);
+    match judged {
+        emulation::Judged::Illegal(_) => TsObu::Refused(Refused {
+            why: Refusal::IllegalPayload,
+            place: 0,
+        }),
+        emulation::Judged::Legal(dropped) => judge_obu(payload, dropped),
+    }
+}
+
+// Each payload in turn: 3, 10, 4, 5, 6.
+fn judge_payloads(unit: &[u8], ends: Ends) -> Payloads
+    requires { ⌜ (atStartCode (now unit) ≡ true) × EndsOf (now unit) ends × (ends .more ≡ false) ⌝ }
+    ensures { λ r. ⌜ Judges (now (unit .entry)) r ⌝ }
+{
+    let count = ends.count;
+    let at = ends.at;
+    let mut types = [0u8; 64];
+    let mut bytes: usize = 0;
+    let mut dropped: usize = 0;
+    let mut code: usize = 0;
+    let mut k: usize = 0;
+    while k < count {
+        let start = code + 3;
+        let end = at[k];
+        let judged = judge_payload(&unit[start..end]);
+        match judged {
+            TsObu::Refused(refused) => {
+                let why = refused.why;
+                let found = UnitRead::Refused(Refused { why, place: k });
+                return Payloads { found, types };
+            }
+            TsObu::Passed(figures) => {
+                types[k] = figures.obu_type;
+                bytes += end - start - figures.dropped;
+                dropped += figures.dropped;
+                code = end;
+                k += 1;
+            }
+        }
+    }
+    let found = UnitRead::Obus(Counts {
+        obus: count,
+        bytes,
+        dropped,
+    });
+    Payloads { found, types }
+}
+
+fn refusal(why: Refusal) -> UnitRead
+    ensures { λ r. ⌜ r ≡ UnitRead.Refused (record { why = why; place = 0 }) ⌝ }
+{
+    UnitRead::Refused(Refused { why, place: 0 })
+}
+
+// The payloads passed, with these counts and the types of the OBUs: 2 for the OBUs' sum, 7.
+fn judge_whole(counts: Counts, types: [u8; 64]) -> UnitRead
+    requires { ⌜ counts .obus ≤ 64 ⌝ }
+    ensures { λ r. ⌜ readSays r ≡ wholeCounts counts types ⌝ }
+{
+    if MOST_OBU_BYTES < counts.bytes {
+        return refusal(Refusal::Length);
+    }
+    let count = counts.obus;
+    let ordered = obu::order(&types[..count]);
+    match ordered {
+        obu::Ordered::Refused(refused) => UnitRead::Refused(refused),
+        obu::Ordered::Legal => UnitRead::Obus(counts),
+    }
+}
+
+// The verdict on a unit, and where its payloads end: 2 for the carried length; 9; 1; each payload; 2 for the OBUs' sum; 7.
+fn judge_unit(unit: &[u8]) -> Judged
+    ensures { λ r. ⌜ JudgedUnit (now (unit .entry)) r ⌝ }
+{
+    let none = [0usize; 64];
+    if MOST_CARRIED < unit.len() {
+        let answer = refusal(Refusal::Length);
+        return Judged { answer, ends: none };
+    }
+    if !code_at(unit, 0) {
+        let answer = refusal(Refusal::NoStartCode);
+        return Judged { answer, ends: none };
+    }
+    let ends = payload_ends(unit);
+    let at = ends.at;
+    if ends.more {
+        let answer = refusal(Refusal::ObuCount);
+        return Judged { answer, ends: none };
+    }
+    let payloads = judge_payloads(unit, ends);
+    let found = payloads.found;
+    let UnitRead::Obus(counts) = found else {
+        return Judged {
+            answer: found,
+            ends: none,
+        };
+    };
+    let types = payloads.types;
+    let answer = judge_whole(counts, types);
+    Judged { answer, ends: at }
+}
+
+// The figures of a unit that reading accepts, or the refusal.
+pub fn check(unit: &[u8]) -> UnitRead
+    ensures { λ r. ⌜ readSays r ≡ checking (now (unit .entry)) ⌝ }
+{
+    let judged = judge_unit(unit);
+    judged.answer
+}
+
+// The OBUs of a unit whose payloads end there, back to back over the front of out, and their lengths over the front of lens.
+fn copy_obus(unit: &[u8], count: usize, ends: [usize; 64], out: &mut [u8], lens: &mut [usize])
+    requires { ⌜ (atStartCode (now unit) ≡ true) × (count ≡ length (payloads (now unit))) × (count ≤ 64) × (take count ends ≡ endsFrom 0 (payloads (now unit))) ⌝ }
+    requires { ⌜ (length (flatten (obusIn (now unit))) ≤ length (now out)) × (count ≤ length (now lens)) ⌝ }
+    ensures { λ _. ⌜ now (out .exit) ≡ over (flatten (obusIn (now (unit .entry)))) (now (out .entry)) ⌝ }
+    ensures { λ _. ⌜ now (lens .exit) ≡ over (map length (obusIn (now (unit .entry)))) (now (lens .entry)) ⌝ }
+{
+    let mut code: usize = 0;
+    let mut n: usize = 0;
+    let mut k: usize = 0;
+    while k < count {
+        let start = code + 3;
+        let end = ends[k];
+        let written = unescape_prefix(&unit[start..end], &mut out[n..]);
+        lens[k] = written;
+        n += written;
+        code = end;
+        k += 1;
+    }
+}
+
+// The OBUs of a unit over the front of out, and their lengths over the front of lens; 8 comes last.
+pub fn read(unit: &[u8], out: &mut [u8], lens: &mut [usize]) -> UnitRead
+    ensures { λ r. ⌜ readSays r ≡ reading (now (unit .entry)) (length (now (out .entry))) (length (now (lens .entry))) ⌝ }
+    ensures { λ r. ⌜ now (out .exit) ≡ leaves (readSays r) (flatten (obusIn (now (unit .entry)))) (now (out .entry)) ⌝ }
+    ensures { λ r. ⌜ now (lens .exit) ≡ leaves (readSays r) (map length (obusIn (now (unit .entry)))) (now (lens .entry)) ⌝ }
+{
+    let judged = judge_unit(unit);
+    let answer = judged.answer;
+    let UnitRead::Obus(counts) = answer else {
+        return answer;
+    };
+    if out.len() < counts.bytes {
+        return refusal(Refusal::NoRoom);
+    }
+    if lens.len() < counts.obus {
+        return refusal(Refusal::NoRoom);
+    }
+    let ends = judged.ends;
+    copy_obus(unit, counts.obus, ends, out, lens);
+    UnitRead::Obus(counts)
+}

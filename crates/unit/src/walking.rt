@@ -1,0 +1,124 @@
+// A walk over a carried unit: the state is the place of the next step.
+ghost use mathlib.Core.Path.{_≡_};
+ghost use mathlib.Core.Bool.{true};
+ghost use Prim.Native.Nat.{_+_, _≤_};
+ghost use lib.ListN.{length, take, drop};
+ghost use Rattle.unit.specs.Unit.{atStartCode};
+ghost use Rattle.unit.specs.Walk.{starting, startedSays, stepping, payloadStep, stepSays, obuIndex};
+use crate::codes::code_at;
+use crate::codes::find;
+use emulation::Judged;
+use emulation::judge;
+use refusal::Refusal;
+use refusal::Refused;
+
+// Where a payload begins in the unit, its length, and the place of the next step.
+pub struct Part {
+    pub start: usize,
+    pub length: usize,
+    pub next: usize,
+}
+
+pub enum Step {
+    Payload(Part),
+    End,
+    Refused(Refused),
+}
+
+// The place of the first step, or the refusal.
+pub enum Started {
+    At(usize),
+    Refused(Refused),
+}
+
+// The place of the first step; 9.
+pub fn start(unit: &[u8]) -> Started
+    ensures { λ r. ⌜ startedSays r ≡ starting (now (unit .entry)) ⌝ }
+{
+    if code_at(unit, 0) {
+        return Started::At(0);
+    }
+    Started::Refused(Refused {
+        why: Refusal::NoStartCode,
+        place: 0,
+    })
+}
+
+// How many start codes stand before at.
+fn obu_index(unit: &[u8], at: usize) -> usize
+    requires { ⌜ at ≤ length (now unit) ⌝ }
+    ensures { λ r. ⌜ r ≡ obuIndex (now (unit .entry)) at ⌝ }
+{
+    let mut count: usize = 0;
+    let mut i: usize = 0;
+    while i < at {
+        let code = code_at(unit, i);
+        i += 1;
+        if code {
+            count += 1;
+        }
+    }
+    count
+}
+
+fn refused(unit: &[u8], at: usize, why: Refusal) -> Step
+    requires { ⌜ at ≤ length (now unit) ⌝ }
+    ensures { λ r. ⌜ r ≡ Step.Refused (record { why = why; place = obuIndex (now (unit .entry)) at }) ⌝ }
+{
+    Step::Refused(Refused {
+        why,
+        place: obu_index(unit, at),
+    })
+}
+
+// The step at the start code that stands at a place; 3, 10.
+fn payload_step(unit: &[u8], at: usize) -> Step
+    requires { ⌜ atStartCode (drop at (now unit)) ≡ true ⌝ }
+    ensures { λ r. ⌜ stepSays r ≡ payloadStep (now (unit .entry)) at ⌝ }
+{
+    let start = at + 3;
+    let next = find(unit, start);
+    if next == start {
+        return refused(unit, at, Refusal::EmptyObu);
+    }
+    let judged = judge(&unit[start..next]);
+    let Judged::Legal(_) = judged else {
+        return refused(unit, at, Refusal::IllegalPayload);
+    };
+    Step::Payload(Part {
+        start,
+        length: next - start,
+        next,
+    })
+}
+
+// The step at a place: the payload there, the end, or the refusal, at which the walk stays; 3, 10.
+pub fn step_at(unit: &[u8], at: usize) -> Step
+    ensures { λ r. ⌜ stepSays r ≡ stepping (now (unit .entry)) at ⌝ }
+{
+    if unit.len() <= at {
+        return Step::End;
+    }
+    if code_at(unit, at) {
+        return payload_step(unit, at);
+    }
+    Step::Refused(Refused {
+        why: Refusal::NoStartCode,
+        place: 0,
+    })
+}
+
+// The part of the unit that a step handed out.
+pub fn payload(unit: &[u8], start: usize, length: usize) -> &[u8]
+    ensures { λ r. ⌜ now r ≡ take length (drop start (now (unit .entry))) ⌝ }
+{
+    let whole = unit.len();
+    if whole <= start {
+        return &unit[whole..];
+    }
+    if whole - start <= length {
+        return &unit[start..];
+    }
+    let end = start + length;
+    &unit[start..end]
+}

@@ -1,0 +1,460 @@
+//! Calls on access units, each compared with the reference, and units to call them with.
+
+use super::leb128::shortest;
+use super::obu::build;
+use super::payload::{refused, room_label};
+use crate::kit::{Given, Lent, Random, Suite, hex};
+use av1ts::Answer;
+use av1ts::walk::Step;
+use reference::unit::{START_CODE, total_bytes, total_dropped};
+use reference::walk::Step::Refused;
+use reference::{payload, unit, walk};
+
+/// The conditions of reading's refusals but 8. 00 00 01 cannot stand in a unit's payload.
+pub const READING: &[&str] = &[
+    "2: over 1,573,056 bytes as carried",
+    "9: no start code at the head",
+    "1: more than 64 OBUs",
+    "3: no bytes",
+    "10: 00 00 00",
+    "10: 00 00 02",
+    "10: 00 00 03 then above 3",
+    "4: forbidden bit",
+    "4: extension byte missing",
+    "5: leb128 cut short",
+    "5: leb128 over 8 bytes",
+    "5: leb128 value over 4,294,967,295",
+    "5: size above what remains",
+    "5: size below what remains",
+    "5: delimiter with content",
+    "6: tile list",
+    "2: over 1,048,576 bytes of OBUs",
+    "7: delimiter not the first",
+    "7: 4 or 7 before a frame header",
+    "7: after a frame",
+    "7: wrong type after a frame header",
+    "7: ends before the frame",
+    "7: ends without a last tile group",
+];
+
+/// The buffers of one caller, used again from call to call.
+#[derive(Default)]
+pub struct Caller {
+    given: Given<u8>,
+    given_lengths: Given<usize>,
+    lent: Lent<u8>,
+    lent_lengths: Lent<usize>,
+}
+
+/// The figures of an accepted unit.
+fn figures(obus: &[unit::ReadObu]) -> Answer {
+    Answer {
+        count: obus.len() as u64,
+        bytes: total_bytes(obus) as u64,
+        dropped: total_dropped(obus) as u64,
+        ..Answer::default()
+    }
+}
+
+impl Caller {
+    /// Checks a unit and compares with the reference.
+    pub fn check(&mut self, suite: &mut Suite, carried: &[u8], more: &[&str]) {
+        self.given.give(carried);
+        let got = av1ts::unit::check_unit(self.given.part());
+        let mut labels = more.to_vec();
+        let answer = match unit::accept(carried) {
+            Err(refusal) => {
+                labels.push(refusal.condition);
+                refused(&refusal)
+            }
+            Ok(obus) => {
+                labels.push("check: accepted");
+                figures(&obus)
+            }
+        };
+        let passed = got == answer && self.given.unchanged(carried);
+        suite.case(&labels, passed, || {
+            format!(
+                "check: expected {answer:?}, got {got:?}; input {}",
+                hex(carried)
+            )
+        });
+    }
+
+    /// Reads a unit into rooms and compares all that came of it with the reference.
+    pub fn read(
+        &mut self,
+        suite: &mut Suite,
+        carried: &[u8],
+        (bytes_room, lengths_room): (usize, usize),
+        more: &[&str],
+    ) {
+        self.given.give(carried);
+        let got = av1ts::unit::read_unit(
+            self.given.part(),
+            self.lent.lend(bytes_room),
+            self.lent_lengths.lend(lengths_room),
+        );
+        let mut labels = more.to_vec();
+        let mut bytes = Vec::new();
+        let mut lengths = Vec::new();
+        let answer = match unit::read(carried, bytes_room, lengths_room) {
+            Err(refusal) => {
+                if refusal.number == 8 {
+                    let obus = unit::accept(carried).expect("8 is tried last");
+                    labels.push(rooms_label(&obus, bytes_room, lengths_room));
+                } else {
+                    labels.push(refusal.condition);
+                }
+                refused(&refusal)
+            }
+            Ok(obus) => {
+                labels.push("read: accepted");
+                labels.push(rooms_label(&obus, bytes_room, lengths_room));
+                for obu in &obus {
+                    bytes.extend_from_slice(&obu.bytes);
+                    lengths.push(obu.bytes.len());
+                }
+                figures(&obus)
+            }
+        };
+        let outputs = self.lent.holds(&bytes) && self.lent_lengths.holds(&lengths);
+        let passed = got == answer && outputs && self.given.unchanged(carried);
+        suite.case(&labels, passed, || {
+            format!(
+                "read, rooms {bytes_room} and {lengths_room}: expected {answer:?}, got {got:?}, \
+                 outputs {}; input {}",
+                if outputs { "right" } else { "or guards wrong" },
+                hex(carried)
+            )
+        });
+    }
+
+    /// Reads a unit into rooms that are large enough for whatever it holds.
+    pub fn read_wide(&mut self, suite: &mut Suite, carried: &[u8], more: &[&str]) {
+        self.read(suite, carried, (carried.len(), unit::MOST_OBUS), more);
+    }
+
+    /// Writes a list into a room and compares all that came of it with the reference.
+    pub fn write(
+        &mut self,
+        suite: &mut Suite,
+        obus: &[u8],
+        lengths: &[usize],
+        room: usize,
+        more: &[&str],
+    ) {
+        self.given.give(obus);
+        self.given_lengths.give(lengths);
+        let got = av1ts::unit::write_unit(
+            self.given.part(),
+            self.given_lengths.part(),
+            self.lent.lend(room),
+        );
+        let mut labels = more.to_vec();
+        let mut carried = Vec::new();
+        let answer = match unit::write(obus, lengths, room) {
+            Err(refusal) => {
+                if refusal.number == 8 {
+                    let need = unit::written(obus, lengths).expect("8 is tried last").len();
+                    labels.push(room_label(need, room));
+                } else {
+                    labels.push(refusal.condition);
+                }
+                refused(&refusal)
+            }
+            Ok(written) => {
+                labels.push("write: accepted");
+                labels.push(room_label(written.len(), room));
+                carried = written;
+                Answer {
+                    count: carried.len() as u64,
+                    ..Answer::default()
+                }
+            }
+        };
+        let output = self.lent.holds(&carried);
+        let inputs = self.given.unchanged(obus) && self.given_lengths.unchanged(lengths);
+        let passed = got == answer && output && inputs;
+        suite.case(&labels, passed, || {
+            format!(
+                "write, room {room}: expected {answer:?}, got {got:?}, output {}; lengths {:?}{} \
+                 OBUs {}",
+                if output { "right" } else { "or guards wrong" },
+                &lengths[..lengths.len().min(8)],
+                if lengths.len() > 8 { "..." } else { "" },
+                hex(obus)
+            )
+        });
+    }
+
+    /// Walks over a unit from the start to the end or to a refusal, at which the walk stays.
+    pub fn walk(&mut self, suite: &mut Suite, carried: &[u8], more: &[&str]) {
+        self.given.give(carried);
+        let got = av1ts::walk::walk_start(self.given.part());
+        let start = walk::start(carried);
+        let expected = match &start {
+            Err(refusal) => Step {
+                number: refusal.number,
+                place: refusal.place,
+                ..Step::default()
+            },
+            Ok(at) => Step {
+                next_at: *at as u64,
+                ..Step::default()
+            },
+        };
+        let label = match &start {
+            Err(_) => "walk: 9 at the start",
+            Ok(_) => "walk: starts",
+        };
+        let passed = got == expected && self.given.unchanged(carried);
+        suite.case(&[more, &[label]].concat(), passed, || {
+            format!(
+                "walk start: expected {expected:?}, got {got:?}; input {}",
+                hex(carried)
+            )
+        });
+        let Ok(mut at) = start else {
+            return;
+        };
+        loop {
+            let (next, label) = self.step(suite, carried, at, more);
+            if next == at {
+                // At the end and at a refusal the walk stays: the next step is the same again.
+                self.step(suite, carried, at, &[more, &[label]].concat());
+                return;
+            }
+            at = next;
+        }
+    }
+
+    /// One step at a place of a walk; answers the place of the next step and, where the walk stays,
+    /// the label for staying.
+    pub fn step(
+        &mut self,
+        suite: &mut Suite,
+        carried: &[u8],
+        at: usize,
+        more: &[&str],
+    ) -> (usize, &'static str) {
+        let got = av1ts::walk::walk_step(self.given.part(), at);
+        let step = walk::step(carried, at).expect("the place of a walk");
+        let here = Step {
+            next_at: at as u64,
+            ..Step::default()
+        };
+        let (expected, label, again) = match &step {
+            walk::Step::End => (
+                Step { end: 1, ..here },
+                "walk: the end".to_string(),
+                "walk: stays at the end",
+            ),
+            walk::Step::Refused(refusal) => (
+                Step {
+                    number: refusal.number,
+                    place: refusal.place,
+                    ..here
+                },
+                format!("walk: {}", refusal.condition),
+                if refusal.number == 3 {
+                    "walk: stays at 3"
+                } else {
+                    "walk: stays at 10"
+                },
+            ),
+            walk::Step::Payload { part, next } => (
+                Step {
+                    start: part.start as u64,
+                    length: part.len() as u64,
+                    next_at: *next as u64,
+                    ..Step::default()
+                },
+                "walk: a payload".to_string(),
+                "",
+            ),
+        };
+        let passed = got == expected && self.given.unchanged(carried);
+        suite.case(&[more, &[&label]].concat(), passed, || {
+            format!(
+                "walk step at {at}: expected {expected:?}, got {got:?}; input {}",
+                hex(carried)
+            )
+        });
+        (expected.next_at as usize, again)
+    }
+
+    /// A step at a place of a walk, whatever the steps before it come to.
+    pub fn walk_place(&mut self, suite: &mut Suite, carried: &[u8], at: usize) {
+        self.given.give(carried);
+        let earlier = unit::start_codes(carried);
+        let refuses = |&place: &usize| matches!(walk::step(carried, place), Some(Refused(_)));
+        let behind = earlier.iter().take_while(|&&place| place < at).any(refuses);
+        let more: &[&str] = match (behind, walk::step(carried, at)) {
+            (false, _) => &[],
+            (true, Some(Refused(_))) => &["walk: refusal behind a step that refuses"],
+            (true, _) => &["walk: behind a step that refuses"],
+        };
+        self.step(suite, carried, at, more);
+    }
+
+    /// A step at a place that the papers leave free: the call returns, changes nothing, and what it
+    /// hands out lies inside the unit.
+    pub fn free_step(&mut self, suite: &mut Suite, carried: &[u8], at: usize, more: &[&str]) {
+        self.given.give(carried);
+        let got = av1ts::walk::walk_step(self.given.part(), at);
+        let handed_out = got.number == 0 && got.end == 0;
+        let inside = got
+            .start
+            .checked_add(got.length)
+            .is_some_and(|e| e <= carried.len() as u64);
+        let passed = (!handed_out || inside) && self.given.unchanged(carried);
+        suite.case(more, passed, || {
+            format!(
+                "free walk step at {at}: got {got:?}; input {}",
+                hex(carried)
+            )
+        });
+    }
+}
+
+/// How both rooms of reading stand to the needs.
+fn rooms_label(obus: &[unit::ReadObu], bytes_room: usize, lengths_room: usize) -> &'static str {
+    let (bytes, lengths) = (total_bytes(obus), obus.len());
+    match (bytes_room.cmp(&bytes), lengths_room.cmp(&lengths)) {
+        (std::cmp::Ordering::Less, std::cmp::Ordering::Less) => "8: both rooms short",
+        (std::cmp::Ordering::Less, _) => match bytes_room {
+            0 => "8: no room for bytes",
+            room if room + 1 == bytes => "8: bytes one short",
+            _ => "8: bytes several short",
+        },
+        (_, std::cmp::Ordering::Less) => match lengths_room {
+            0 => "8: no room for lengths",
+            room if room + 1 == lengths => "8: lengths one short",
+            _ => "8: lengths several short",
+        },
+        (std::cmp::Ordering::Equal, std::cmp::Ordering::Equal) => "both rooms exactly enough",
+        (std::cmp::Ordering::Equal, _) => "bytes exactly enough, lengths more",
+        (_, std::cmp::Ordering::Equal) => "bytes more, lengths exactly enough",
+        _ => "both rooms more than enough",
+    }
+}
+
+/// The labels of reading's rooms.
+pub const ROOMS: &[&str] = &[
+    "8: both rooms short",
+    "8: no room for bytes",
+    "8: bytes one short",
+    "8: bytes several short",
+    "8: no room for lengths",
+    "8: lengths one short",
+    "8: lengths several short",
+    "both rooms exactly enough",
+    "bytes exactly enough, lengths more",
+    "bytes more, lengths exactly enough",
+    "both rooms more than enough",
+];
+
+/// A list of OBUs, each by itself.
+pub type List = Vec<Vec<u8>>;
+
+pub fn lengths(list: &List) -> Vec<usize> {
+    list.iter().map(|obu| obu.len()).collect()
+}
+
+/// Payloads as a carried unit, each after a start code.
+pub fn carry(payloads: &[Vec<u8>]) -> Vec<u8> {
+    let mut carried = Vec::new();
+    for payload in payloads {
+        carried.extend_from_slice(&START_CODE);
+        carried.extend_from_slice(payload);
+    }
+    carried
+}
+
+/// A list as a carried unit with the fewest bytes.
+pub fn carry_list(list: &List) -> Vec<u8> {
+    let payloads: Vec<Vec<u8>> = list.iter().map(|obu| payload::escaped(obu)).collect();
+    carry(&payloads)
+}
+
+/// A list as a carried unit, with a closing 03 behind some payloads that end in 00 00.
+pub fn carry_closed(random: &mut Random, list: &List) -> Vec<u8> {
+    let mut payloads = Vec::new();
+    for obu in list {
+        let mut payload = payload::escaped(obu);
+        if payload.ends_with(&[0, 0]) && !random.one_in(4) {
+            payload.push(3);
+        }
+        payloads.push(payload);
+    }
+    carry(&payloads)
+}
+
+/// Types in a legal order, at most `most` of them, which is at least 2.
+pub fn types(random: &mut Random, most: usize) -> Vec<u8> {
+    let mut types = Vec::new();
+    let count = 1 + random.below(most);
+    let with_header = count >= 2 && random.one_in(2);
+    let frame = if with_header {
+        2 + random.below(count - 1)
+    } else {
+        1
+    };
+    if count > frame && random.one_in(2) {
+        types.push(2);
+    }
+    while types.len() + frame < count {
+        types.push(random.pick(&[0, 1, 5, 9, 10, 11, 12, 13, 14, 15]));
+    }
+    if with_header {
+        types.push(3);
+        while types.len() + 1 < count {
+            types.push(random.pick(&[4, 7, 15]));
+        }
+        types.push(4);
+    } else {
+        types.push(6);
+    }
+    types
+}
+
+/// Content bytes, rich in bytes 0 to 3.
+pub fn content(random: &mut Random, len: usize) -> Vec<u8> {
+    match random.below(4) {
+        0 => random.fill(len, |random| random.pick(&[0, 0, 0, 1, 2, 3])),
+        1 => random.fill(len, |random| random.pick(&[0, 0, 0, 1, 2, 3, 4, 255])),
+        2 => vec![0; len],
+        _ => random.fill(len, |random| random.next() as u8),
+    }
+}
+
+/// A legal OBU of a type with some content: with and without size, extension and longer forms. A
+/// delimiter gets none.
+pub fn any_obu(random: &mut Random, obu_type: u8, content: &[u8]) -> Vec<u8> {
+    let content = if obu_type == 2 { &[] } else { content };
+    let low = random.below(2) as u8;
+    let extension = if random.one_in(3) {
+        Some(random.next() as u8)
+    } else {
+        None
+    };
+    let least = shortest(content.len() as u64);
+    let width = match random.below(4) {
+        0 => 0,
+        1 => least + random.below(9 - least),
+        _ => least,
+    };
+    build(obu_type, low, extension, width, content)
+}
+
+/// A legal list of up to `most` OBUs, each with up to `longest` content bytes.
+pub fn any_list(random: &mut Random, most: usize, longest: usize) -> List {
+    let mut list = Vec::new();
+    for obu_type in types(random, most) {
+        let len = random.below(longest + 1);
+        let content = content(random, len);
+        list.push(any_obu(random, obu_type, &content));
+    }
+    list
+}

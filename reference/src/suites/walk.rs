@@ -1,0 +1,138 @@
+//! Walks: over units that are refused elsewhere, from every place, and from places that no walk
+//! reaches.
+
+use super::unit::{Caller, any_list, carry, carry_closed};
+use crate::kit::{Definition, Random, Suite, labels};
+use reference::unit::{self, MOST_CARRIED};
+use reference::walk;
+
+pub const SUITE: Definition = Definition {
+    name: "walk",
+    labels: || {
+        labels(&[
+            "walk: starts",
+            "walk: 9 at the start",
+            "walk: a payload",
+            "walk: the end",
+            "walk: 3: no bytes",
+            "walk: 10: 00 00 00",
+            "walk: 10: 00 00 02",
+            "walk: 10: 00 00 03 then above 3",
+            "walk: stays at 3",
+            "walk: stays at 10",
+            "walk: stays at the end",
+            "walk: no 1",
+            "walk: no 2",
+            "walk: behind a step that refuses",
+            "walk: refusal behind a step that refuses",
+            "free place: inside the unit",
+            "free place: past the unit",
+            "free place: far past the unit",
+            "free place: no start code at the head",
+        ])
+    },
+    run,
+};
+
+/// Steps at every place of a unit and past it.
+fn everywhere(suite: &mut Suite, caller: &mut Caller, carried: &[u8]) {
+    let len = carried.len();
+    let far = [
+        1 << 31,
+        1 << 32,
+        usize::MAX / 2 + 1,
+        usize::MAX - len - 1,
+        usize::MAX - 2,
+    ];
+    let last = [usize::MAX - 1, usize::MAX];
+    for at in (0..len + 5).chain(far).chain(last) {
+        if walk::step(carried, at).is_some() {
+            // The place of a walk, even where an earlier step of it would refuse.
+            caller.walk_place(suite, carried, at);
+        } else {
+            let label = if walk::start(carried).is_err() {
+                "free place: no start code at the head"
+            } else if at < len {
+                "free place: inside the unit"
+            } else if at < len + 5 {
+                "free place: past the unit"
+            } else {
+                "free place: far past the unit"
+            };
+            caller.free_step(suite, carried, at, &[label]);
+        }
+    }
+}
+
+fn run(suite: &mut Suite) {
+    let mut caller = Caller::default();
+    let mut random = Random::new(10);
+
+    // Units of any payloads, legal or not.
+    for round in 0..6000 {
+        let count = if round % 20 == 0 {
+            60 + random.below(40)
+        } else {
+            1 + random.below(4)
+        };
+        let mut payloads = Vec::new();
+        for _ in 0..count {
+            let len = random.below(7);
+            let rich = random.one_in(3);
+            payloads.push(random.fill(len, |random| {
+                if rich {
+                    random.pick(&[0, 0, 0, 2, 3, 4])
+                } else {
+                    random.pick(&[0, 3, 4, 0x30])
+                }
+            }));
+        }
+        let carried = carry(&payloads);
+        let more: &[&str] = if unit::start_codes(&carried).len() > 64 {
+            &["walk: no 1"]
+        } else {
+            &[]
+        };
+        caller.walk(suite, &carried, more);
+        if round % 4 == 0 && carried.len() < 60 {
+            everywhere(suite, &mut caller, &carried);
+            everywhere(suite, &mut caller, &carried[1..]);
+        }
+    }
+
+    // Legal units of more than 64 payloads, walked to the end.
+    for count in [64, 65, 66, 300] {
+        let carried = carry(&vec![vec![0x30, 0]; count]);
+        let more: &[&str] = if count > 64 { &["walk: no 1"] } else { &[] };
+        caller.walk(suite, &carried, more);
+    }
+
+    // Valid units, from all their places.
+    for _ in 0..300 {
+        let list = any_list(&mut random, 5, 8);
+        let carried = carry_closed(&mut random, &list);
+        everywhere(suite, &mut caller, &carried);
+    }
+    for carried in [
+        &[][..],
+        &[0],
+        &[0, 0],
+        &[0, 0, 1],
+        &[0, 0, 1, 0, 0, 1],
+        &[0x30, 0, 0, 1, 0x30],
+    ] {
+        caller.walk(suite, carried, &[]);
+        everywhere(suite, &mut caller, carried);
+    }
+
+    // Units longer than any that reading takes.
+    for total in [MOST_CARRIED + 1, MOST_CARRIED + 1000] {
+        let mut carried = carry(&[vec![0x10], vec![0x30]]);
+        carried.resize(total, 0x55);
+        caller.walk(suite, &carried, &["walk: no 2"]);
+        carried[total - 3..].copy_from_slice(&[0, 0, 0]);
+        caller.walk(suite, &carried, &["walk: no 2"]);
+        carried[total - 3..].copy_from_slice(&[0, 0, 1]);
+        caller.walk(suite, &carried, &["walk: no 2"]);
+    }
+}

@@ -1,0 +1,49 @@
+/* Access units and the walk, through the header. */
+#include <stdio.h>
+#include <string.h>
+
+#include "av1ts.h"
+
+static int wrong;
+
+static void expect(const char *what, int holds) {
+    if (!holds) {
+        printf("unit.c: %s\n", what);
+        wrong = 1;
+    }
+}
+
+static int is(av1ts_answer a, uint64_t number, uint64_t place, uint64_t count, uint64_t bytes, uint64_t dropped) {
+    return a.number == number && a.place == place && a.count == count && a.bytes == bytes && a.dropped == dropped;
+}
+
+static int at(av1ts_step s, uint64_t number, uint64_t place, uint64_t end, uint64_t start, uint64_t length, uint64_t next_at) {
+    return s.number == number && s.place == place && s.end == end && s.start == start && s.length == length && s.next_at == next_at;
+}
+
+int main(void) {
+    const uint8_t unit[12] = {0, 0, 1, 0x12, 0, 0, 0, 1, 0x30, 0xAA, 0, 0};
+    const uint8_t obus[6] = {0x12, 0, 0x30, 0xAA, 0, 0};
+    const size_t lengths[2] = {2, 4};
+    uint8_t out[16];
+    size_t read[3] = {7, 7, 7};
+
+    memset(out, 0xEE, sizeof out);
+    expect("two OBUs are written", is(av1ts_write_unit(obus, 6, lengths, 2, out, 16), 0, 0, 12, 0, 0));
+    expect("the carried unit stands at the front", memcmp(out, unit, 12) == 0 && out[12] == 0xEE);
+    expect("eleven bytes are too few", is(av1ts_write_unit(obus, 6, lengths, 2, out, 11), 8, 0, 0, 0, 0));
+
+    memset(out, 0xEE, sizeof out);
+    expect("the unit is read", is(av1ts_read_unit(unit, 12, out, 16, read, 3), 0, 0, 2, 6, 0));
+    expect("its OBUs and lengths", memcmp(out, obus, 6) == 0 && out[6] == 0xEE && read[0] == 2 && read[1] == 4 && read[2] == 7);
+    expect("the unit is checked", is(av1ts_check_unit(unit, 12), 0, 0, 2, 6, 0));
+    expect("a delimiter alone ends too soon", is(av1ts_check_unit(unit, 5), 7, 1, 0, 0, 0));
+
+    expect("the walk starts", at(av1ts_walk_start(unit, 12), 0, 0, 0, 0, 0, 0));
+    expect("the first payload", at(av1ts_walk_step(unit, 12, 0), 0, 0, 0, 3, 2, 5));
+    expect("the second payload", at(av1ts_walk_step(unit, 12, 5), 0, 0, 0, 8, 4, 12));
+    expect("the end, and it stays", at(av1ts_walk_step(unit, 12, 12), 0, 0, 1, 0, 0, 12));
+    expect("no start code at the head", at(av1ts_walk_start(unit + 1, 11), 9, 0, 0, 0, 0, 0));
+    expect("a payload of no bytes", at(av1ts_walk_step(unit, 8, 5), 3, 1, 0, 0, 0, 5));
+    return wrong;
+}
