@@ -57,6 +57,20 @@ av1ts_step av1ts_walk_start(const uint8_t *unit, size_t unit_len);
  * answered by 9, or from the unit's length on by the end. */
 av1ts_step av1ts_walk_step(const uint8_t *unit, size_t unit_len, size_t at);
 
+/* What an AV1 video descriptor says. field: the ten fields, in descriptor order: seq_profile, seq_level_idx_0, seq_tier_0, high_bitdepth, twelve_bit, monochrome,
+ * chroma_subsampling_x, chroma_subsampling_y, chroma_sample_position, hdr_wcg_idc. delay_present 1: delay is initial_presentation_delay_minus_one. */
+typedef struct {
+    uint64_t number, place, field[10], delay_present, delay;
+} av1ts_descriptor;
+
+/* The fields of a video descriptor, which is lent from its tag on.
+ * Refuses: 40 not six bytes, tag or length wrong, marker or version not 1, the reserved bit set, or the low four bits not zero where no delay is present. */
+av1ts_descriptor av1ts_read_descriptor(const uint8_t *bytes, size_t bytes_len);
+
+/* The six bytes of a video descriptor. field: ten bytes, in descriptor order. With delay_present 0 the delay is written as four zeros, and its value is not looked at.
+ * count: the bytes written. Refuses: 41 a field past its width, also delay_present above 1; 8 the output is too short. */
+av1ts_answer av1ts_write_descriptor(const uint8_t field[10], uint8_t delay_present, uint8_t delay, uint8_t *out, size_t out_len);
+
 #ifdef __cplusplus
 }
 #endif

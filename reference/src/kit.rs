@@ -129,6 +129,16 @@ impl<T: Pattern> Lent<T> {
             && self.whole[end..] == pattern[end..]
     }
 
+    /// The part lent is zeros throughout, and the guards are as they were.
+    pub fn cleared(&self) -> bool {
+        let pattern = &T::pattern(self.kind)[..self.room + 2 * GUARD];
+        let end = GUARD + self.room;
+        self.whole.len() == pattern.len()
+            && self.whole[..GUARD] == pattern[..GUARD]
+            && self.part().iter().all(|&element| element == T::default())
+            && self.whole[end..] == pattern[end..]
+    }
+
     /// The part lent, as it is now.
     pub fn part(&self) -> &[T] {
         &self.whole[GUARD..GUARD + self.room]

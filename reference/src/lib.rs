@@ -2,10 +2,18 @@
 //!
 //! Each function stands under the sentence it says. Nothing here uses the library or its binding.
 
+pub mod compose;
+pub mod crc;
+pub mod descriptor;
 pub mod listing;
 pub mod obu;
 pub mod order;
+pub mod packet;
 pub mod payload;
+pub mod pes;
 pub mod refusal;
+pub mod report;
+pub mod section;
+pub mod segment;
 pub mod unit;
 pub mod walk;

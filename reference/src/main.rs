@@ -1,6 +1,7 @@
 //! The differential suites: the library, through its binding, against the second implementation.
 //!
-//! With names of suites on the command line only those run.
+//! With names of suites on the command line only those run. With `--self` in front, the suites of
+//! descriptors and segments run with the second implementation in both roles.
 
 mod kit;
 mod suites;
@@ -22,9 +23,15 @@ fn stored_count(name: &str) -> Option<u64> {
 }
 
 fn main() -> ExitCode {
-    let chosen: Vec<String> = std::env::args().skip(1).collect();
+    let mut chosen: Vec<String> = std::env::args().skip(1).collect();
+    let itself = chosen.first().is_some_and(|first| first == "--self");
+    if itself {
+        chosen.remove(0);
+        suites::under_test::choose_itself();
+    }
+    let all = suites::all(itself);
     for name in &chosen {
-        if !suites::ALL.iter().any(|suite| suite.name == name) {
+        if !all.iter().any(|suite| suite.name == name) {
             println!("no suite has the name {name}");
             println!("0 passed, 1 failed");
             return ExitCode::FAILURE;
@@ -32,7 +39,7 @@ fn main() -> ExitCode {
     }
     let mut passed = 0;
     let mut failed = 0;
-    for suite in suites::ALL {
+    for suite in all {
         if chosen.is_empty() || chosen.iter().any(|name| name == suite.name) {
             let outcome = kit::Suite::run(suite, stored_count(suite.name));
             passed += outcome.passed;

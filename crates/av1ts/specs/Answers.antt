@@ -1,11 +1,21 @@
 -- The C structs, for each verdict. Number 0 says that nothing was refused; in a refusal every field but number and place is 0, but that of a walk's step says
 -- that it stays. Assumes nothing.
 use Prim.Native.Nat.{ℕ}
-use Rattle.refusal.specs.Verdict.{Verdict, passed, refused}
+use mathlib.Core.List.{List, [], _∷_}
+use lib.Dec.{eqb, ltb}
+use Rattle.lists.specs.Lists.{Bytes, pick}
+use Rattle.lists.specs.Bytes.{byte}
+use Rattle.refusal.specs.Verdict.{Verdict, passed, refused, _>>=_, _>>_, given}
 use Rattle.emulation.specs.declared.unescaping.Counts.{Counts as Unescaped}
 use Rattle.unit.specs.declared.reading.Counts.{Counts as Unit}
 use Rattle.unit.specs.Walk.{Found, payload, end}
+use Rattle.descriptor.specs.declared.fields.Fields.{Fields}
+use Rattle.descriptor.specs.declared.fields.Delay.{Delay}
+use Rattle.descriptor.specs.declared.fields.Delay.the-variants.{Absent, Present}
+use Rattle.descriptor.specs.declared.fields.Video.{Video}
+use Rattle.descriptor.specs.Descriptor.{writing}
 use Rattle.av1ts.specs.declared.answer.Answer.{Answer}
+use Rattle.av1ts.specs.declared.video_descriptor.VideoDescriptor.{VideoDescriptor}
 use Rattle.av1ts.specs.declared.walk.WalkStep.{WalkStep}
 
 abbrev pub refusalAnswer : ℕ → ℕ → Answer
@@ -36,3 +46,54 @@ abbrev pub stepAnswer : ℕ → Verdict Found → WalkStep
 stepAnswer at (passed (payload p)) = record { number = 0; place = 0; end = 0; start = p .start; length = p .length; «next_at» = p .next }
 stepAnswer at (passed end) = record { number = 0; place = 0; end = 1; start = 0; length = 0; «next_at» = at }
 stepAnswer at (refused number place) = record { number = number; place = place; end = 0; start = 0; length = 0; «next_at» = at }
+
+-- ---- the video descriptor
+-- the ten fields, in descriptor order
+abbrev pub fieldList : Fields → List ℕ
+fieldList f =
+    f .«seq_profile»
+    ∷ f .«seq_level_idx_0»
+    ∷ f .«seq_tier_0»
+    ∷ f .«high_bitdepth»
+    ∷ f .«twelve_bit»
+    ∷ f .monochrome
+    ∷ f .«chroma_subsampling_x»
+    ∷ f .«chroma_subsampling_y»
+    ∷ f .«chroma_sample_position»
+    ∷ f .«hdr_wcg_idc»
+    ∷ []
+
+-- the fields; «delay_present» 1 and the delay, or 0 and 0
+abbrev pub videoAnswer : Fields → Delay → VideoDescriptor
+videoAnswer f Absent = record { number = 0; place = 0; field = fieldList f; «delay_present» = 0; delay = 0 }
+videoAnswer f (Present n) = record { number = 0; place = 0; field = fieldList f; «delay_present» = 1; delay = n }
+
+abbrev pub descriptorAnswer : Verdict Video → VideoDescriptor
+descriptorAnswer (passed v) = videoAnswer (v .fields) (v .delay)
+descriptorAnswer (refused number place) =
+    record { number = number; place = place; field = 0 ∷ 0 ∷ 0 ∷ 0 ∷ 0 ∷ 0 ∷ 0 ∷ 0 ∷ 0 ∷ 0 ∷ []; «delay_present» = 0; delay = 0 }
+
+-- what is handed in for writing: the fields in descriptor order, and a delay that is looked at only where «delay_present» is 1
+abbrev pub fieldsFrom : Bytes → Fields
+fieldsFrom field =
+    record {
+      «seq_profile» = byte field 0;
+      «seq_level_idx_0» = byte field 1;
+      «seq_tier_0» = byte field 2;
+      «high_bitdepth» = byte field 3;
+      «twelve_bit» = byte field 4;
+      monochrome = byte field 5;
+      «chroma_subsampling_x» = byte field 6;
+      «chroma_subsampling_y» = byte field 7;
+      «chroma_sample_position» = byte field 8;
+      «hdr_wcg_idc» = byte field 9;
+    }
+
+unfoldable pub delayFrom : ℕ → ℕ → Delay
+delayFrom present delay = pick (eqb present 1) (Present delay) Absent
+
+-- 41: «delay_present» has one bit, so it is "past its width" above 1; then as writing has it
+unfoldable pub writingFrom : Bytes → ℕ → ℕ → ℕ → Verdict ℕ
+writingFrom field present delay room = do
+  given 41 (ltb 1 present)
+  writing (fieldsFrom field) (delayFrom present delay) room

@@ -2,6 +2,7 @@
 mod access_unit;
 mod answer;
 mod payload;
+mod video_descriptor;
 mod walk;
 
 pub use access_unit::av1ts_check_unit;
@@ -10,6 +11,9 @@ pub use access_unit::av1ts_write_unit;
 pub use answer::Answer;
 pub use payload::av1ts_escape;
 pub use payload::av1ts_unescape;
+pub use video_descriptor::VideoDescriptor;
+pub use video_descriptor::av1ts_read_descriptor;
+pub use video_descriptor::av1ts_write_descriptor;
 pub use walk::WalkStep;
 pub use walk::av1ts_walk_start;
 pub use walk::av1ts_walk_step;

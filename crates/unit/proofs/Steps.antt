@@ -2,21 +2,21 @@
 use Prim.Native.Nat.{ℕ, zero, suc, _+_, _-_, _≤_, _<_}
 use mathlib.Core.Bool.{Bool, true, false, not}
 use mathlib.Core.Path.{_≡_, refl, sym, ap, ap₂, subst, _∙_}
-use mathlib.Core.Logic.{_⊎_, inl, inr}
-use mathlib.Core.List.{List, [], _∷_}
+use mathlib.Core.Logic.{inl, inr}
+use mathlib.Core.List.{List, _∷_}
 use native.Mathlib.Omega.{arith}
 use borrow.Author.Tests.{lt-ltb, le-ltb, eq-eqb, ne-eqb, ltb-true, ltb-false, eqb-false, not-false}
 use lib.Dec.{ltb, eqb}
 use lib.ListN.{length, take, drop}
 use Rattle.lists.specs.Lists.{Bytes}
 use Rattle.lists.proofs.Tests.{case}
-use Rattle.refusal.specs.Verdict.{Verdict, passed, refused, _>>_, given, atPlace}
+use Rattle.refusal.specs.Verdict.{Verdict, passed, refused, given, atPlace}
 use Rattle.refusal.proofs.Verdicts.{refuse, pass-on, refuse-at, pass-at, passed-same, passed-after, given-passed, at-passed, All}
 use Rattle.emulation.specs.Payload.{legal}
-use Rattle.unit.specs.Unit.{atStartCode, split, payloads}
+use Rattle.unit.specs.Unit.{atStartCode, payloads}
 use Rattle.unit.specs.Walk.{WalkPlace, starting, payloadFrom, obuIndex, Found, payload, end, payloadStep, stepping, Walks, ended, stepped}
 use Rattle.unit.specs.declared.walking.Part.{Part}
-use Rattle.unit.proofs.Places.{before, nextCode, payloadAt, payload-is, next-fits, next-place, payloads-from, payloads-end, place-code}
+use Rattle.unit.proofs.Places.{nextCode, payloadAt, payload-is, next-place, payloads-from, payloads-end, place-code}
 
 module _ (unit : Bytes) (at : ℕ) where
   -- ---- the step at a start code

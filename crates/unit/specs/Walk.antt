@@ -1,22 +1,24 @@
 -- "Stepping: a walk over an access unit hands out one payload at a time, as a part of the lent bytes, and at the end says so. It checks 9 at the start
 -- and 3 and 10 at each step, and stays at a step that refused." Assumes nothing.
-use Prim.Native.Nat.{ℕ, zero, suc, _+_}
-use mathlib.Core.Bool.{Bool, true, false, not}
+use Prim.Native.Nat.{ℕ, _+_}
+use mathlib.Core.Bool.{true, false, not}
 use mathlib.Core.Path.{_≡_}
 use mathlib.Core.Logic.{_⊎_}
 use mathlib.Core.List.{List, [], _∷_}
 use lib.Dec.{ltb, eqb}
 use lib.ListN.{length, take, drop}
-use Rattle.lists.specs.Lists.{Bytes, pick, those}
+use denote.Ref.{RefT, now}
+use Rattle.lists.specs.Lists.{Bytes, those}
 use Rattle.refusal.specs.Verdict.{Verdict, passed, refused, _>>=_, _>>_, given, atPlace}
 use Rattle.refusal.specs.Number.{refusedBy}
 use Rattle.emulation.specs.Payload.{legal}
-use Rattle.unit.specs.Unit.{atStartCode, startCodes, startCodesFrom, split, payloads}
+use Rattle.unit.specs.Unit.{atStartCode, startCodes, split}
 use Rattle.unit.specs.declared.walking.Step.{Step}
 use Rattle.unit.specs.declared.walking.Step.the-variants as step
 use Rattle.unit.specs.declared.walking.Started.{Started}
 use Rattle.unit.specs.declared.walking.Started.the-variants as started
 use Rattle.unit.specs.declared.walking.Part.{Part}
+use Rattle.unit.specs.declared.reader.Walk.{Walk}
 
 -- The state of a walk is its place. The places that a walk reaches: a start code stands there, or it is the end
 abbrev pub WalkPlace : Bytes → ℕ → Type 0
@@ -56,6 +58,15 @@ stepping unit at =
       | true ↦ given 9 (not (atStartCode (drop at unit))) >> payloadStep unit at
     ]
 
+-- the place after a step at a place: "and stays at a step that refused"; it stays at the end too
+abbrev pub goesTo : ℕ → Verdict Found → ℕ
+goesTo at (passed (payload p)) = p .next
+goesTo at (passed end) = at
+goesTo at (refused number place) = at
+
+abbrev pub placeAfter : Bytes → ℕ → ℕ
+placeAfter unit at = goesTo at (stepping unit at)
+
 -- ---- what the answers of the code say
 abbrev pub startedSays : Started → Verdict ℕ
 startedSays (started.At at) = passed at
@@ -66,9 +77,31 @@ stepSays (step.Payload p) = passed (payload p)
 stepSays step.End = passed end
 stepSays (step.Refused r) = refusedBy r
 
+-- ---- a walk as a reader, which holds the carried bytes and the place of its next step
+abbrev pub fresh : RefT Bytes → Walk
+fresh unit = record { src = unit; at = 0 }
+
+-- what its next step says
+abbrev pub stepOf : Walk → Verdict Found
+stepOf walk = stepping (now (walk .src)) (walk .at)
+
+-- the reader behind that step
+abbrev pub behind : Walk → Walk
+behind walk = record { src = walk .src; at = placeAfter (now (walk .src)) (walk .at) }
+
+-- the readers of a walk: those at a place that a walk reaches
+abbrev pub ValidWalk : Walk → Type 0
+ValidWalk walk = WalkPlace (now (walk .src)) (walk .at)
+
 -- ---- a whole walk
 -- the steps from a place to the end hand out these payloads, in order
 pub data Walks (unit : Bytes) : ℕ → List Bytes → Type 0 where
   ended : {at : ℕ} → stepping unit at ≡ passed end → Walks unit at []
   stepped : {at : ℕ} {ps : List Bytes} (p : Part) → stepping unit at ≡ passed (payload p) → Walks unit (p .next) ps
       → Walks unit at (take (p .length) (drop (p .start) unit) ∷ ps)
+
+-- the same by a reader: its steps, from where it stands to the end
+pub data ReaderWalks : Walk → List Bytes → Type 0 where
+  at-end : {walk : Walk} → stepOf walk ≡ passed end → ReaderWalks walk []
+  on : {walk : Walk} {ps : List Bytes} (p : Part) → stepOf walk ≡ passed (payload p) → ReaderWalks (behind walk) ps
+      → ReaderWalks walk (take (p .length) (drop (p .start) (now (walk .src))) ∷ ps)

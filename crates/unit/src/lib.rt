@@ -1,9 +1,11 @@
 // One access unit (document 01, "One access unit").
 mod codes;
+mod reader;
 mod reading;
 mod walking;
 mod writing;
 
+pub use reader::Walk;
 pub use reading::Counts;
 pub use reading::UnitRead;
 pub use reading::check;

@@ -4,11 +4,12 @@ ghost use mathlib.Core.Bool.{true};
 ghost use Prim.Native.Nat.{_+_, _≤_};
 ghost use lib.ListN.{length, take, drop};
 ghost use Rattle.unit.specs.Unit.{atStartCode};
-ghost use Rattle.unit.specs.Walk.{starting, startedSays, stepping, payloadStep, stepSays, obuIndex};
+ghost use Rattle.unit.specs.Walk.{starting, startedSays, stepping, payloadStep, stepSays, goesTo, placeAfter, obuIndex};
 use crate::codes::code_at;
 use crate::codes::find;
 use emulation::Judged;
 use emulation::judge;
+use lists::part;
 use refusal::Refusal;
 use refusal::Refused;
 
@@ -23,6 +24,12 @@ pub enum Step {
     Payload(Part),
     End,
     Refused(Refused),
+}
+
+// A step, and the place after it.
+pub(crate) struct Stepped {
+    pub(crate) step: Step,
+    pub(crate) at: usize,
 }
 
 // The place of the first step, or the refusal.
@@ -108,17 +115,31 @@ pub fn step_at(unit: &[u8], at: usize) -> Step
     })
 }
 
+// The place after a step at a place: the next one where it handed out a payload, the same at the end and at a refusal.
+fn place_after(step: Step, at: usize) -> usize
+    ensures { λ r. ⌜ r ≡ goesTo at (stepSays step) ⌝ }
+{
+    match step {
+        Step::Payload(part) => part.next,
+        Step::End => at,
+        Step::Refused(_) => at,
+    }
+}
+
+// The step at a place, and the place after it; 3, 10.
+pub(crate) fn step_on(unit: &[u8], at: usize) -> Stepped
+    ensures { λ r. ⌜ (stepSays (r .step) ≡ stepping (now (unit .entry)) at) × (r .at ≡ placeAfter (now (unit .entry)) at) ⌝ }
+{
+    let step = step_at(unit, at);
+    Stepped {
+        step,
+        at: place_after(step, at),
+    }
+}
+
 // The part of the unit that a step handed out.
 pub fn payload(unit: &[u8], start: usize, length: usize) -> &[u8]
     ensures { λ r. ⌜ now r ≡ take length (drop start (now (unit .entry))) ⌝ }
 {
-    let whole = unit.len();
-    if whole <= start {
-        return &unit[whole..];
-    }
-    if whole - start <= length {
-        return &unit[start..];
-    }
-    let end = start + length;
-    &unit[start..end]
+    part(unit, start, length)
 }

@@ -1,6 +1,10 @@
-//! The suites, one module each; `payload`, `unit` and `faults` hold what suites of a topic share.
+//! The suites, one module each; `payload`, `unit`, `faults`, `descriptor` and the like hold what
+//! suites of a topic share.
 
 mod demand_3;
+mod descriptor;
+mod descriptor_read;
+mod descriptor_write;
 mod faults;
 mod leb128;
 mod listing;
@@ -11,6 +15,21 @@ mod payload_exhaustive;
 mod payload_limits;
 mod payload_random;
 mod payload_worked;
+mod segment;
+mod segment_clock;
+mod segment_closing;
+mod segment_counters;
+mod segment_damaged;
+mod segment_faults;
+mod segment_limits;
+mod segment_make;
+mod segment_packets;
+mod segment_pes;
+mod segment_refusals;
+mod segment_rooms;
+mod segment_sections;
+mod segment_valid;
+pub mod under_test;
 mod unit;
 mod unit_damaged;
 mod unit_exhaustive;
@@ -26,7 +45,7 @@ mod write_lengths;
 
 use crate::kit::Definition;
 
-pub const ALL: &[&Definition] = &[
+const UNITS: &[&Definition] = &[
     &payload_worked::SUITE,
     &payload_exhaustive::SUITE,
     &payload_random::SUITE,
@@ -48,3 +67,33 @@ pub const ALL: &[&Definition] = &[
     &walk::SUITE,
     &listing::SUITE,
 ];
+
+const DESCRIPTORS: &[&Definition] = &[&descriptor_read::SUITE, &descriptor_write::SUITE];
+
+const SEGMENTS: &[&Definition] = &[
+    &segment_valid::SUITE,
+    &segment_refusals::SUITE,
+    &segment_counters::SUITE,
+    &segment_packets::SUITE,
+    &segment_sections::SUITE,
+    &segment_pes::SUITE,
+    &segment_clock::SUITE,
+    &segment_rooms::SUITE,
+    &segment_closing::SUITE,
+    &segment_limits::SUITE,
+    &segment_damaged::SUITE,
+];
+
+/// The suites that run: those of functions that the library exports. With the reference in both
+/// roles, those that can run so.
+pub fn all(itself: bool) -> Vec<&'static Definition> {
+    let mut all = Vec::new();
+    if !itself {
+        all.extend(UNITS);
+    }
+    all.extend(DESCRIPTORS);
+    if itself || cfg!(feature = "segment") {
+        all.extend(SEGMENTS);
+    }
+    all
+}

@@ -4,7 +4,9 @@
 //! inputs are shared and outputs exclusive, so no safe call can misuse it.
 //! A module declares the C functions of its topic and has one safe function for each.
 
+pub mod descriptor;
 pub mod payload;
+pub mod segment;
 pub mod unit;
 pub mod walk;
 

@@ -1,13 +1,12 @@
--- The part is cut at the unit's end where it would pass it, as `take` and `drop` do.
+-- The part is cut at the end where it would pass it, as `take` and `drop` do.
 use borrow.Author.Needs.{needs}
 use native.Mathlib.Omega.{arith}
 use Prim.Native.Nat.{ℕ, _+_, _-_}
 use mathlib.Core.Path.{_≡_, sym, ap, _∙_}
 use lib.ListN.{length, take, drop, length-drop, drop-of-length-le}
 use lib.Seq.{take-all, take-nil}
-use Rattle.lists.specs.Lists.{Bytes}
-use Rattle.unit.proofs.walking.payload.Statement.{statement}
-use Rattle.unit.proofs.walking.payload.Tie as tie
+use Rattle.lists.proofs.part.Statement.{statement}
+use Rattle.lists.proofs.part.Tie as tie
 
 sub-result : tie.Need-sub-result
 sub-result c = search needs
@@ -20,8 +19,8 @@ part-result-end c = search needs
 
 returns : tie.Need-returns
 returns c =
-    let s = c .before .before .args .unit .now in
-    let at = c .before .before .args .start in
+    let s = c .before .before .args .s .now in
+    let at = c .before .before .args .at in
     let n = c .before .before .args .length in
     ap (take (length s - length s)) (drop-of-length-le s {i = length s} (omega arith)) ∙ take-nil (length s - length s)
     ∙ sym (ap (take n) (drop-of-length-le s {i = at} (omega arith)) ∙ take-nil n)
@@ -40,8 +39,8 @@ part-result-end-2 c = search needs
 
 returns-2 : tie.Need-returns-2
 returns-2 c =
-    let s = c .before .before .before .args .unit .now in
-    let at = c .before .before .before .args .start in
+    let s = c .before .before .before .args .s .now in
+    let at = c .before .before .before .args .at in
     let n = c .before .before .before .args .length in
     take-all (length s - at) (drop at s) (omega (arith, length-drop at s)) ∙ sym (take-all n (drop at s) (omega (arith, length-drop at s)))
 
@@ -59,14 +58,14 @@ part-result-end-3 c = search needs
 
 returns-3 : tie.Need-returns-3
 returns-3 c =
-    let s = c .before .before .before .args .unit .now in
-    let at = c .before .before .before .args .start in
+    let s = c .before .before .before .args .s .now in
+    let at = c .before .before .before .args .at in
     let n = c .before .before .before .args .length in
     let e : at + n - at ≡ n = omega arith in
     ap (λ (k : ℕ). take k (drop at s)) e
 
-pub payload-spec : {M : Type 1} → statement M
-payload-spec =
+pub part-spec : {M : Type 1} → statement M
+part-spec =
     tie.close
     (tie.spec
     sub-result

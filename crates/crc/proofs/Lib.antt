@@ -1,0 +1,5 @@
+pub mod Xor
+pub mod Linear
+pub mod Entries
+pub mod Appending
+pub mod CheckValue

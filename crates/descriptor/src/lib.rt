@@ -1,0 +1,15 @@
+// The AV1 descriptors (000, 2; document 01, "The AV1 descriptors").
+mod fields;
+mod reading;
+mod registration;
+mod writing;
+
+pub use fields::Delay;
+pub use fields::Fields;
+pub use fields::Video;
+pub use reading::VideoRead;
+pub use reading::read;
+pub use reading::wrong;
+pub use registration::is_registration;
+pub use writing::Written;
+pub use writing::write;

@@ -1,0 +1,80 @@
+-- The tries are those of the definition, in its order.
+use mathlib.Core.Bool.{not, false}
+use mathlib.Core.Path.{_≡_, sym, ap, _∙_}
+use borrow.Author.Needs.{needs}
+use borrow.Author.Tests.{eq-eqb, ne-eqb}
+use Rattle.refusal.proofs.Verdicts.{refuse, pass-on}
+use Rattle.refusal.specs.Verdict.{Verdict, passed}
+use Rattle.packet.specs.Header.{syncLost, transportErrorIndicator, headerOf}
+use Rattle.packet.specs.declared.header.Header.{Header}
+use Rattle.packet.proofs.header.read.Statement.{statement}
+use Rattle.packet.proofs.header.read.Tie as tie
+
+-- the first byte is 0x47
+in-sync : (c : tie.Else1) → syncLost (c .before .before .before .args .packet .now) ≡ false
+in-sync c = ap not (eq-eqb _ _ (sym (c .before .byte-at .ensures) ∙ c .if1 .left))
+
+-- the transport error indicator is not set
+no-error : (c : tie.Else2) → transportErrorIndicator (c .before .before .before .before .before .args .packet .now) ≡ false
+no-error c = sym (c .before .transport-error-indicator .ensures) ∙ c .if2 .left
+
+byte-at-requires : tie.Need-byte-at-requires
+byte-at-requires c κs = search needs
+
+refuse-requires : tie.Need-refuse-requires
+refuse-requires c κs = search needs
+
+returns : tie.Need-returns
+unfolding headerOf
+returns c = c .refuse .ensures ∙ refuse 21 _ (ap not (ne-eqb _ _ (λ e. c .before .if1 .taken (c .before .before .byte-at .ensures ∙ e))))
+
+transport-error-indicator-requires : tie.Need-transport-error-indicator-requires
+transport-error-indicator-requires c κs = search needs
+
+refuse-requires-2 : tie.Need-refuse-requires-2
+refuse-requires-2 c κs = search needs
+
+returns-2 : tie.Need-returns-2
+unfolding headerOf
+returns-2 c =
+    c .refuse2 .ensures
+    ∙ pass-on 21 (in-sync (c .before .before .before)) (refuse 22 _ (sym (c .before .before .transport-error-indicator .ensures) ∙ c .before .if2 .taken))
+
+header-wrong-requires : tie.Need-header-wrong-requires
+header-wrong-requires c κs = search needs
+
+refuse-requires-3 : tie.Need-refuse-requires-3
+refuse-requires-3 c κs = search needs
+
+returns-3 : tie.Need-returns-3
+unfolding headerOf
+returns-3 c =
+    c .refuse3 .ensures
+    ∙ pass-on 21 (in-sync (c .before .before .before .before .before))
+    (pass-on 22 (no-error (c .before .before .before)) (refuse 23 _ (sym (c .before .before .header-wrong .ensures) ∙ c .before .if3 .taken)))
+
+header-fields-requires : tie.Need-header-fields-requires
+header-fields-requires c κs = search needs
+
+returns-4 : tie.Need-returns-4
+unfolding headerOf
+returns-4 c =
+    pass-on 21 (in-sync (c .before .before .before .before .before))
+    (pass-on 22 (no-error (c .before .before .before))
+    (pass-on 23 (sym (c .before .before .header-wrong .ensures) ∙ c .before .if3 .left) (ap {B = Verdict Header} passed (c .header-fields .ensures))))
+
+pub read-spec : {M : Type 1} → statement M
+read-spec =
+    tie.close
+    (tie.spec
+    byte-at-requires
+    refuse-requires
+    returns
+    transport-error-indicator-requires
+    refuse-requires-2
+    returns-2
+    header-wrong-requires
+    refuse-requires-3
+    returns-3
+    header-fields-requires
+    returns-4)

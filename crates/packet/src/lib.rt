@@ -1,0 +1,15 @@
+// One transport packet (ISO/IEC 13818-1, 2.4.3) and the records of its streams' continuity counters (document 01, "A segment").
+mod counter;
+mod header;
+mod streams;
+
+pub use counter::Checked;
+pub use counter::Counted;
+pub use counter::Counter;
+pub use counter::Stream;
+pub use header::Clock;
+pub use header::Header;
+pub use header::PacketRead;
+pub use header::read;
+pub use streams::Slot;
+pub use streams::Streams;

@@ -1,0 +1,30 @@
+-- The bytes that the code reads are those of the definition.
+use borrow.Author.Needs.{needs}
+use Rattle.pes.proofs.conditions.dts_wrong.Statement.{statement}
+use Rattle.pes.proofs.conditions.dts_wrong.Tie as tie
+
+byte-at-requires : tie.Need-byte-at-requires
+byte-at-requires c κs = search needs
+
+byte-at-requires-2 : tie.Need-byte-at-requires-2
+byte-at-requires-2 c κs = search needs
+
+byte-at-requires-3 : tie.Need-byte-at-requires-3
+byte-at-requires-3 c κs = search needs
+
+time-stamp-wrong-requires : tie.Need-time-stamp-wrong-requires
+time-stamp-wrong-requires c κs = search needs
+
+returns : tie.Need-returns
+returns c =
+    rw (c .time-stamp-wrong .ensures, c .before .before .before .byte-at .ensures, c .before .before .byte-at2 .ensures, c .before .byte-at3 .ensures)
+
+pub dts-wrong-spec : {M : Type 1} → statement M
+dts-wrong-spec =
+    tie.close
+    (tie.spec
+    byte-at-requires
+    byte-at-requires-2
+    byte-at-requires-3
+    time-stamp-wrong-requires
+    returns)

@@ -1,0 +1,3 @@
+pub mod Pmt
+pub mod Answer
+pub mod Parts

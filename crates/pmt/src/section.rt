@@ -1,0 +1,132 @@
+// The PMT section.
+ghost use mathlib.Core.Path.{_≡_};
+ghost use Prim.Native.Nat.{_≤_};
+ghost use lib.ListN.{length};
+ghost use Rattle.lists.specs.Bytes.{word};
+ghost use Rattle.refusal.specs.Verdict.{refused};
+ghost use Rattle.refusal.specs.Number.{numberOf};
+ghost use Rattle.descriptor.specs.Descriptor.{av01};
+ghost use Rattle.pmt.specs.Pmt.{readPmt};
+ghost use Rattle.pmt.specs.Answer.{mapped, pmtSays, noMap, mapBeside};
+ghost use Rattle.pmt.specs.Parts.{listedMap, bodyMap};
+use crate::listing::Av1;
+use crate::listing::Entry;
+use crate::listing::ListAnswer;
+use crate::listing::Listed;
+use crate::listing::length_field;
+use crate::listing::list_entries;
+use crate::listing::pid_field;
+use crate::loops::Loop;
+use crate::loops::Video;
+use crate::loops::read_loop;
+use refusal::Refusal;
+use refusal::Refused;
+
+// What a PMT says: the PCR PID; how many entries, and the entries in the first slots; the AV1 entry's slot and its video descriptor.
+pub struct ProgramMap {
+    pub pcr_pid: u16,
+    pub count: usize,
+    pub entries: [Entry; 12],
+    pub av1: usize,
+    pub video: Video,
+}
+
+pub enum PmtAnswer {
+    Map,
+    Refused(Refused),
+}
+
+// The map, or the refusal and beside it an empty map.
+pub struct PmtRead {
+    pub map: ProgramMap,
+    pub answer: PmtAnswer,
+}
+
+fn refuse(why: Refusal) -> PmtRead
+    ensures { λ r. ⌜ pmtSays r ≡ refused (numberOf why) 0 ⌝ }
+    ensures { λ r. ⌜ r .map ≡ noMap ⌝ }
+{
+    let none = Entry {
+        pid: 0,
+        stream_type: 0,
+    };
+    let entries = [none; 12];
+    let map = ProgramMap {
+        pcr_pid: 0,
+        count: 0,
+        entries,
+        av1: 0,
+        video: Video::Absent,
+    };
+    let answer = PmtAnswer::Refused(Refused { why, place: 0 });
+    PmtRead { map, answer }
+}
+
+fn program_number(high: u8, low: u8) -> u16
+    ensures { λ r. ⌜ r ≡ word high low ⌝ }
+{
+    high as u16 * 256 + low as u16
+}
+
+// The map of the entries that passed; 28.
+fn map_listed(pcr_pid: u16, listed: Listed) -> PmtRead
+    ensures { λ r. ⌜ pmtSays r ≡ listedMap «pcr_pid» listed ⌝ }
+    ensures { λ r. ⌜ r .map ≡ mapBeside (pmtSays r) ⌝ }
+{
+    let av1 = listed.av1;
+    match av1 {
+        Av1::Missing => refuse(Refusal::Av1Entry),
+        Av1::Wrong => refuse(Refusal::Av1Entry),
+        Av1::One(slot, video) => {
+            let entries = listed.entries;
+            let map = ProgramMap {
+                pcr_pid,
+                count: listed.count,
+                entries,
+                av1: slot,
+                video,
+            };
+            PmtRead {
+                map,
+                answer: PmtAnswer::Map,
+            }
+        }
+    }
+}
+
+// What stands behind the fixed fields of a section: the program's descriptors, then the entries.
+fn read_body(section: &[u8], map_pid: u16) -> PmtRead
+    requires { ⌜ 16 ≤ length (now section) ⌝ }
+    ensures { λ r. ⌜ pmtSays r ≡ bodyMap «map_pid» (now (section .entry)) ⌝ }
+    ensures { λ r. ⌜ r .map ≡ mapBeside (pmtSays r) ⌝ }
+{
+    let end = section.len() - 4;
+    let info = 12 + length_field(section[10], section[11]);
+    if end < info {
+        return refuse(Refusal::Pmt);
+    }
+    let read = read_loop(&section[12..info]);
+    let Loop::Filled(_) = read else {
+        return refuse(Refusal::Pmt);
+    };
+    let list = list_entries(&section[info..end], map_pid);
+    let answer = list.answer;
+    match answer {
+        ListAnswer::Refused(why) => refuse(why),
+        ListAnswer::Passed => map_listed(pid_field(section[8], section[9]), list.listed),
+    }
+}
+
+// What a PMT section of this program on this map PID says; 26, 27, 28.
+pub fn read_pmt(section: &[u8], program: u16, map_pid: u16) -> PmtRead
+    ensures { λ r. ⌜ pmtSays r ≡ mapped av01 (readPmt av01 program «map_pid» (now (section .entry))) ⌝ }
+    ensures { λ r. ⌜ r .map ≡ mapBeside (pmtSays r) ⌝ }
+{
+    if psi::common_wrong(section, 2, 16) {
+        return refuse(Refusal::Pmt);
+    }
+    if program_number(section[3], section[4]) != program {
+        return refuse(Refusal::Pmt);
+    }
+    read_body(section, map_pid)
+}

@@ -1,0 +1,4 @@
+pub mod Fields
+pub mod Sections
+pub mod Programs
+pub mod Passed

@@ -1,0 +1,357 @@
+//! A segment: its packets in order, its program, and its AV1 access units.
+
+use crate::packet::{self, NULL, Packet};
+use crate::refusal::Refusal;
+use crate::section::{self, Pat, Pmt, Table};
+use crate::{pes, unit};
+use std::collections::HashMap;
+
+/// "65,535 packets in a segment; 1,024 units in a segment"
+pub const MOST_PACKETS: usize = 65_535;
+pub const MOST_UNITS: usize = 1024;
+
+/// The lengths of the three outputs: elements, not bytes.
+#[derive(Clone, Copy, Debug, PartialEq, Eq)]
+pub struct Rooms {
+    pub bytes: usize,
+    pub lengths: usize,
+    pub times: usize,
+}
+
+/// "packet totals in five classes by PID at that moment: null, section, AV1, other listed, unlisted"
+#[derive(Clone, Copy, Debug, PartialEq, Eq)]
+pub enum Class {
+    Null,
+    Section,
+    Av1,
+    OtherListed,
+    Unlisted,
+}
+
+#[derive(Clone, Copy, Debug, Default, PartialEq, Eq)]
+pub struct Totals {
+    pub null: u64,
+    pub section: u64,
+    pub av1: u64,
+    pub other_listed: u64,
+    pub unlisted: u64,
+}
+
+impl Totals {
+    pub fn add(&mut self, class: Class) {
+        match class {
+            Class::Null => self.null += 1,
+            Class::Section => self.section += 1,
+            Class::Av1 => self.av1 += 1,
+            Class::OtherListed => self.other_listed += 1,
+            Class::Unlisted => self.unlisted += 1,
+        }
+    }
+}
+
+/// A unit as carried, with its times in ticks of 90 kHz.
+#[derive(Clone, Debug, PartialEq, Eq)]
+pub struct Unit {
+    pub bytes: Vec<u8>,
+    pub pts: u64,
+    pub dts: u64,
+}
+
+/// "Acceptance gives program number, AV1 PID, unit count and packet totals"
+#[derive(Clone, Debug, PartialEq, Eq)]
+pub struct Accepted {
+    pub program: u16,
+    pub pid: u16,
+    pub units: Vec<Unit>,
+    pub totals: Totals,
+}
+
+/// The conditions of 24.
+pub const CONDITIONS_24: &[&str] = &[
+    "24: PID 0, with payload",
+    "24: PID 0, without payload",
+    "24: map PID, with payload",
+    "24: map PID, without payload",
+    "24: AV1 PID, with payload",
+    "24: AV1 PID, without payload",
+    "24: other listed PID, with payload",
+    "24: other listed PID, without payload",
+];
+
+/// The conditions of 8.
+pub const CONDITIONS_8: &[&str] = &[
+    "8: the unit's length",
+    "8: the unit's times",
+    "8: bytes of a starting packet",
+    "8: bytes of a later packet",
+];
+
+/// The other conditions of the segment's own rules.
+pub const CONDITIONS: &[&str] = &[
+    "20: no bytes",
+    "20: not a multiple of 188",
+    "20: over 65,535 packets",
+    "29: before any start",
+    "31: no PCR yet",
+    "34: a 1,025th unit",
+    "32: PES longer than its length",
+    "32: PES shorter than its length",
+    "33: no PAT",
+    "33: no PMT",
+];
+
+/// A PES that is open; its unit is the last.
+struct Open {
+    /// "the index of the packet that began it"
+    began: usize,
+    header: pes::Header,
+}
+
+/// The check as it stands before a packet. A section that was read is kept with its bytes.
+struct Check {
+    rooms: Rooms,
+    pat: Option<(Vec<u8>, Pat)>,
+    pmt: Option<(Vec<u8>, Pmt)>,
+    counters: HashMap<u16, u8>,
+    pcr: bool,
+    units: Vec<Unit>,
+    bytes: usize,
+    open: Option<Open>,
+    totals: Totals,
+}
+
+/// "Packets in order, each in this sequence, PES closing aside; the first refusal is the verdict."
+pub fn check(segment: &[u8], rooms: Rooms) -> Result<Accepted, Refusal> {
+    // "no bytes, not a multiple of 188, or over 65,535 packets (place 0)"
+    if segment.is_empty() {
+        return Err(Refusal::new(20, 0, "20: no bytes"));
+    }
+    if !segment.len().is_multiple_of(packet::SIZE) {
+        return Err(Refusal::new(20, 0, "20: not a multiple of 188"));
+    }
+    let count = segment.len() / packet::SIZE;
+    if count > MOST_PACKETS {
+        return Err(Refusal::new(20, 0, "20: over 65,535 packets"));
+    }
+    let mut check = Check {
+        rooms,
+        pat: None,
+        pmt: None,
+        counters: HashMap::new(),
+        pcr: false,
+        units: Vec::new(),
+        bytes: 0,
+        open: None,
+        totals: Totals::default(),
+    };
+    for (index, bytes) in segment.chunks(packet::SIZE).enumerate() {
+        check.packet(bytes, index)?;
+    }
+    // "After the last packet the open PES closes first, then 33."
+    check.close()?;
+    let Some((_, pat)) = check.pat else {
+        return Err(Refusal::new(33, count, "33: no PAT"));
+    };
+    let Some((_, pmt)) = check.pmt else {
+        return Err(Refusal::new(33, count, "33: no PMT"));
+    };
+    Ok(Accepted {
+        program: pat.program,
+        pid: pmt.av1_pid,
+        units: check.units,
+        totals: check.totals,
+    })
+}
+
+impl Check {
+    fn class(&self, pid: u16) -> Class {
+        if pid == NULL {
+            return Class::Null;
+        }
+        if pid == 0 {
+            return Class::Section;
+        }
+        if let Some((_, pat)) = &self.pat
+            && pat.map_pid == pid
+        {
+            return Class::Section;
+        }
+        if let Some((_, pmt)) = &self.pmt
+            && pmt.pids.contains(&pid)
+        {
+            return if pmt.av1_pid == pid {
+                Class::Av1
+            } else {
+                Class::OtherListed
+            };
+        }
+        Class::Unlisted
+    }
+
+    fn packet(&mut self, bytes: &[u8], index: usize) -> Result<(), Refusal> {
+        let packet = packet::read(bytes, index)?;
+        let class = self.class(packet.pid);
+        self.totals.add(class);
+        if class != Class::Null && class != Class::Unlisted {
+            self.counter(&packet, class, index)?;
+        }
+        // "A PCR counts for 31 if on the PMT's PCR PID, in a packet after the PMT, at or before the
+        // payload; PID 0x1FFF has none."
+        if let Some((_, pmt)) = &self.pmt
+            && pmt.pcr_pid == packet.pid
+            && packet.pcr.is_some()
+        {
+            self.pcr = true;
+        }
+        if packet.payload.is_none() {
+            return Ok(());
+        }
+        match class {
+            Class::Section if packet.pid == 0 => self.pat(&packet, index),
+            Class::Section => self.pmt(&packet, index),
+            Class::Av1 => self.av1(&packet, index),
+            Class::OtherListed | Class::Unlisted | Class::Null => Ok(()),
+        }
+    }
+
+    /// "Counter: a PID's first packet sets it, for PIDs named by a section the first after that
+    /// section; then one more modulo 16 with payload, the same without; any value where
+    /// discontinuity_indicator is 1."
+    fn counter(&mut self, packet: &Packet, class: Class, index: usize) -> Result<(), Refusal> {
+        let last = self.counters.insert(packet.pid, packet.counter);
+        let Some(last) = last else {
+            return Ok(());
+        };
+        let with_payload = packet.payload.is_some();
+        let next = if with_payload { (last + 1) % 16 } else { last };
+        if packet.discontinuity || packet.counter == next {
+            return Ok(());
+        }
+        let condition = match (class, packet.pid, with_payload) {
+            (Class::Section, 0, true) => "24: PID 0, with payload",
+            (Class::Section, 0, false) => "24: PID 0, without payload",
+            (Class::Section, _, true) => "24: map PID, with payload",
+            (Class::Section, _, false) => "24: map PID, without payload",
+            (Class::Av1, _, true) => "24: AV1 PID, with payload",
+            (Class::Av1, _, false) => "24: AV1 PID, without payload",
+            (_, _, true) => "24: other listed PID, with payload",
+            (_, _, false) => "24: other listed PID, without payload",
+        };
+        Err(Refusal::new(24, index, condition))
+    }
+
+    fn pat(&mut self, packet: &Packet, index: usize) -> Result<(), Refusal> {
+        let section = section::section(Table::Pat, packet, index)?;
+        if let Some((first, _)) = &self.pat {
+            return section::later(Table::Pat, section, first, index);
+        }
+        let pat = section::pat(section, index)?;
+        self.pat = Some((section.to_vec(), pat));
+        Ok(())
+    }
+
+    fn pmt(&mut self, packet: &Packet, index: usize) -> Result<(), Refusal> {
+        let section = section::section(Table::Pmt, packet, index)?;
+        if let Some((first, _)) = &self.pmt {
+            return section::later(Table::Pmt, section, first, index);
+        }
+        let (_, pat) = self.pat.as_ref().expect("the map PID is the PAT's");
+        let pmt = section::pmt(section, pat, index)?;
+        self.pmt = Some((section.to_vec(), pmt));
+        Ok(())
+    }
+
+    /// A packet with payload on the AV1 PID. "A packet starts a PES where it has payload and payload
+    /// start 1."
+    fn av1(&mut self, packet: &Packet, index: usize) -> Result<(), Refusal> {
+        let payload = packet.payload.expect("only a packet with payload is read");
+        if packet.payload_start {
+            // "A PES closes ... when its PID's next starting packet has passed 24"
+            self.close()?;
+            return self.start(payload, index);
+        }
+        if self.open.is_none() {
+            return Err(Refusal::new(29, index, "29: before any start"));
+        }
+        // A PES that is open has started after a PCR: 31 cannot be here.
+        if self.bytes + payload.len() > self.rooms.bytes {
+            return Err(Refusal::new(8, index, "8: bytes of a later packet"));
+        }
+        self.add(payload);
+        Ok(())
+    }
+
+    /// "Within a starting packet 29 comes before 30, then 31, 34, 8."
+    fn start(&mut self, payload: &[u8], index: usize) -> Result<(), Refusal> {
+        let header = pes::header(payload, index)?;
+        if !self.pcr {
+            return Err(Refusal::new(31, index, "31: no PCR yet"));
+        }
+        if self.units.len() == MOST_UNITS {
+            return Err(Refusal::new(34, index, "34: a 1,025th unit"));
+        }
+        let data = &payload[header.size..];
+        let units = self.units.len() + 1;
+        if units > self.rooms.lengths {
+            return Err(Refusal::new(8, index, "8: the unit's length"));
+        }
+        if 2 * units > self.rooms.times {
+            return Err(Refusal::new(8, index, "8: the unit's times"));
+        }
+        if self.bytes + data.len() > self.rooms.bytes {
+            return Err(Refusal::new(8, index, "8: bytes of a starting packet"));
+        }
+        self.units.push(Unit {
+            bytes: Vec::new(),
+            pts: header.pts,
+            dts: header.dts,
+        });
+        self.open = Some(Open {
+            began: index,
+            header,
+        });
+        self.add(data);
+        Ok(())
+    }
+
+    fn add(&mut self, data: &[u8]) {
+        let unit = self.units.last_mut().expect("an open PES has a unit");
+        unit.bytes.extend_from_slice(data);
+        self.bytes += data.len();
+    }
+
+    /// "then 32 is tried, then the reading of its unit (1 to 7, 9, 10), with the index of the packet
+    /// that began it."
+    fn close(&mut self) -> Result<(), Refusal> {
+        let Some(open) = self.open.take() else {
+            return Ok(());
+        };
+        let unit = self.units.last().expect("an open PES has a unit");
+        // "PES length not 0 and not the number of PES bytes after that field", which has six bytes
+        // up to its end.
+        let after = open.header.size - 6 + unit.bytes.len();
+        if open.header.length != 0 {
+            if after > open.header.length {
+                return Err(Refusal::new(
+                    32,
+                    open.began,
+                    "32: PES longer than its length",
+                ));
+            }
+            if after < open.header.length {
+                return Err(Refusal::new(
+                    32,
+                    open.began,
+                    "32: PES shorter than its length",
+                ));
+            }
+        }
+        match unit::accept(&unit.bytes) {
+            Ok(_) => Ok(()),
+            Err(refusal) => Err(Refusal {
+                place: open.began as u64,
+                ..refusal
+            }),
+        }
+    }
+}

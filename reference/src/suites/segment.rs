@@ -1,0 +1,143 @@
+//! The check of a segment, compared with the reference, and what suites of segments share.
+
+use super::under_test::{self, segment_answer};
+use crate::kit::{Given, Lent, Suite};
+use reference::packet;
+use reference::refusal::Refusal;
+use reference::segment::{self, Accepted, Rooms, Unit};
+
+/// The reference's verdict.
+pub type Verdict = Result<Accepted, Refusal>;
+
+/// The buffers of one caller, used again from call to call.
+#[derive(Default)]
+pub struct Caller {
+    given: Given<u8>,
+    bytes: Lent<u8>,
+    lengths: Lent<usize>,
+    times: Lent<u64>,
+}
+
+impl Caller {
+    /// Checks a segment into rooms and compares all that came of it with the reference.
+    pub fn check(&mut self, suite: &mut Suite, segment: &[u8], rooms: Rooms, more: &[&str]) {
+        self.check_as(suite, segment, rooms, more, |_| true);
+    }
+
+    /// The same, where the reference's verdict must also be the one intended.
+    pub fn check_as(
+        &mut self,
+        suite: &mut Suite,
+        segment: &[u8],
+        rooms: Rooms,
+        more: &[&str],
+        intended: impl FnOnce(&Verdict) -> bool,
+    ) {
+        self.given.give(segment);
+        let got = under_test::check_segment(
+            self.given.part(),
+            self.bytes.lend(rooms.bytes),
+            self.lengths.lend(rooms.lengths),
+            self.times.lend(rooms.times),
+        );
+        let verdict = segment::check(segment, rooms);
+        let expected = segment_answer(&verdict);
+        let closing;
+        let label = match &verdict {
+            Ok(_) => "accepted",
+            Err(refusal) if refusal.number <= 10 && refusal.number != 8 => {
+                closing = format!("closing: {}", refusal.condition);
+                &closing
+            }
+            Err(refusal) => refusal.condition,
+        };
+        let outputs = match &verdict {
+            // "leaves zeros throughout the three outputs"
+            Err(_) => self.bytes.cleared() && self.lengths.cleared() && self.times.cleared(),
+            Ok(accepted) => {
+                let outputs = Outputs::of(&accepted.units);
+                self.bytes.holds(&outputs.bytes)
+                    && self.lengths.holds(&outputs.lengths)
+                    && self.times.holds(&outputs.times)
+            }
+        };
+        let is_intended = intended(&verdict);
+        let passed = got == expected && outputs && is_intended && self.given.unchanged(segment);
+        suite.case(&[more, &[label]].concat(), passed, || {
+            format!(
+                "{rooms:?}: expected {expected:?}, got {got:?}, outputs {}{}; {}",
+                if outputs { "right" } else { "or guards wrong" },
+                if is_intended { "" } else { ", not as intended" },
+                packets_text(segment)
+            )
+        });
+    }
+}
+
+/// What acceptance leaves in the outputs.
+struct Outputs {
+    bytes: Vec<u8>,
+    lengths: Vec<usize>,
+    times: Vec<u64>,
+}
+
+impl Outputs {
+    /// "Carried units stand back to back in the output, with lengths, and PTS and DTS in turn."
+    fn of(units: &[Unit]) -> Outputs {
+        let mut outputs = Outputs {
+            bytes: Vec::new(),
+            lengths: Vec::new(),
+            times: Vec::new(),
+        };
+        for unit in units {
+            outputs.bytes.extend_from_slice(&unit.bytes);
+            outputs.lengths.push(unit.bytes.len());
+            outputs.times.extend([unit.pts, unit.dts]);
+        }
+        outputs
+    }
+}
+
+/// Rooms for whatever a segment can hold, and some more.
+pub fn wide(segment: &[u8]) -> Rooms {
+    let packets = segment.len() / packet::SIZE;
+    Rooms {
+        bytes: segment.len(),
+        lengths: packets.min(1025) + 2,
+        times: 2 * packets.min(1025) + 3,
+    }
+}
+
+/// Rooms exactly enough for units.
+pub fn exact(units: &[Unit]) -> Rooms {
+    Rooms {
+        bytes: units.iter().map(|unit| unit.bytes.len()).sum(),
+        lengths: units.len(),
+        times: 2 * units.len(),
+    }
+}
+
+/// The first bytes of each packet.
+fn packets_text(segment: &[u8]) -> String {
+    let mut text = format!("{} bytes:", segment.len());
+    for (index, packet) in segment.chunks(packet::SIZE).enumerate() {
+        if index == 40 {
+            text.push_str(" ...");
+            break;
+        }
+        text.push(' ');
+        for byte in packet.iter().take(12) {
+            text.push_str(&format!("{byte:02X}"));
+        }
+    }
+    text
+}
+
+/// A closing's label for a condition of reading a unit.
+pub fn closing_labels(conditions: &[&str]) -> Vec<String> {
+    let mut labels = Vec::new();
+    for condition in conditions {
+        labels.push(format!("closing: {condition}"));
+    }
+    labels
+}

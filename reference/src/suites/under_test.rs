@@ -1,0 +1,124 @@
+//! The functions under test of descriptors and segments: the library's, or the reference's own.
+
+use av1ts::Answer;
+use av1ts::descriptor::Descriptor;
+use av1ts::segment::Segment;
+use reference::refusal::Refusal;
+use reference::segment::{Accepted, Rooms};
+use reference::{descriptor, segment};
+use std::sync::atomic::{AtomicBool, Ordering};
+
+static ITSELF: AtomicBool = AtomicBool::new(false);
+
+/// From here on the reference stands in both roles.
+pub fn choose_itself() {
+    ITSELF.store(true, Ordering::Relaxed);
+}
+
+fn library() -> bool {
+    !ITSELF.load(Ordering::Relaxed)
+}
+
+pub fn read_descriptor(bytes: &[u8]) -> Descriptor {
+    if library() {
+        return av1ts::descriptor::read_descriptor(bytes);
+    }
+    descriptor_answer(&descriptor::read(bytes))
+}
+
+pub fn write_descriptor(fields: &[u8; 10], delay_present: u8, delay: u8, out: &mut [u8]) -> Answer {
+    if library() {
+        return av1ts::descriptor::write_descriptor(fields, delay_present, delay, out);
+    }
+    match descriptor::write(fields, delay_present, delay, out.len()) {
+        Err(refusal) => super::payload::refused(&refusal),
+        Ok(bytes) => {
+            out[..6].copy_from_slice(&bytes);
+            written_answer()
+        }
+    }
+}
+
+pub fn check_segment(
+    bytes: &[u8],
+    out: &mut [u8],
+    lengths: &mut [usize],
+    times: &mut [u64],
+) -> Segment {
+    #[cfg(feature = "segment")]
+    if library() {
+        return av1ts::segment::check_segment(bytes, out, lengths, times);
+    }
+    let rooms = Rooms {
+        bytes: out.len(),
+        lengths: lengths.len(),
+        times: times.len(),
+    };
+    let verdict = segment::check(bytes, rooms);
+    match &verdict {
+        Err(_) => {
+            out.fill(0);
+            lengths.fill(0);
+            times.fill(0);
+        }
+        Ok(accepted) => {
+            let mut at = 0;
+            for (index, unit) in accepted.units.iter().enumerate() {
+                out[at..at + unit.bytes.len()].copy_from_slice(&unit.bytes);
+                at += unit.bytes.len();
+                lengths[index] = unit.bytes.len();
+                times[2 * index] = unit.pts;
+                times[2 * index + 1] = unit.dts;
+            }
+        }
+    }
+    segment_answer(&verdict)
+}
+
+/// What the C interface answers to the reading of a descriptor.
+pub fn descriptor_answer(read: &Result<descriptor::Video, Refusal>) -> Descriptor {
+    match read {
+        Err(refusal) => Descriptor {
+            number: refusal.number,
+            place: refusal.place,
+            ..Descriptor::default()
+        },
+        Ok(video) => Descriptor {
+            field: video.fields.map(u64::from),
+            delay_present: u64::from(video.delay.is_some()),
+            delay: u64::from(video.delay.unwrap_or(0)),
+            ..Descriptor::default()
+        },
+    }
+}
+
+/// What the C interface answers where a descriptor was written.
+pub fn written_answer() -> Answer {
+    Answer {
+        count: 6,
+        ..Answer::default()
+    }
+}
+
+/// What the C interface answers to the check of a segment.
+pub fn segment_answer(verdict: &Result<Accepted, Refusal>) -> Segment {
+    match verdict {
+        Err(refusal) => Segment {
+            number: refusal.number,
+            place: refusal.place,
+            ..Segment::default()
+        },
+        Ok(accepted) => Segment {
+            number: 0,
+            place: 0,
+            program: u64::from(accepted.program),
+            pid: u64::from(accepted.pid),
+            units: accepted.units.len() as u64,
+            null_packets: accepted.totals.null,
+            section: accepted.totals.section,
+            av1: accepted.totals.av1,
+            other_listed: accepted.totals.other_listed,
+            unlisted: accepted.totals.unlisted,
+        },
+    }
+}

@@ -1,0 +1,56 @@
+//! Checking a segment and extracting its AV1 access units.
+
+/// `av1ts_segment`: what acceptance gives; in a refusal all but number and place is 0.
+#[repr(C)]
+#[derive(Clone, Copy, Debug, Default, PartialEq, Eq)]
+pub struct Segment {
+    pub number: u64,
+    pub place: u64,
+    pub program: u64,
+    pub pid: u64,
+    pub units: u64,
+    pub null_packets: u64,
+    pub section: u64,
+    pub av1: u64,
+    pub other_listed: u64,
+    pub unlisted: u64,
+}
+
+#[cfg(feature = "segment")]
+unsafe extern "C" {
+    fn av1ts_check_segment(
+        segment: *const u8,
+        len: usize,
+        out: *mut u8,
+        out_len: usize,
+        lengths: *mut usize,
+        lengths_len: usize,
+        times: *mut u64,
+        times_len: usize,
+    ) -> Segment;
+}
+
+/// Writes the carried units back to back to the front of `out`, their lengths to the front of
+/// `lengths`, and their PTS and DTS in turn to the front of `times`. A refusal leaves zeros
+/// throughout the three.
+#[cfg(feature = "segment")]
+pub fn check_segment(
+    segment: &[u8],
+    out: &mut [u8],
+    lengths: &mut [usize],
+    times: &mut [u64],
+) -> Segment {
+    // SAFETY: the slices are valid for their lengths and none overlaps another.
+    unsafe {
+        av1ts_check_segment(
+            segment.as_ptr(),
+            segment.len(),
+            out.as_mut_ptr(),
+            out.len(),
+            lengths.as_mut_ptr(),
+            lengths.len(),
+            times.as_mut_ptr(),
+            times.len(),
+        )
+    }
+}
