@@ -8,6 +8,8 @@ run: lib
 	gcc -I $(LIB) examples/payload.c $(LIB)/libav1ts.a -o build/payload
 	@echo "An OBU is escaped into the payload that a transport stream carries, and comes back:"
 	build/payload 32 04 00 00 01 80
+	@echo "A carried unit of two OBUs is listed:"
+	printf '\000\000\001\022\000\000\000\001\060\252\000\000' | target/bin/lister
 
 test:
 	.ci/run

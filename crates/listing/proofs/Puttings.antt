@@ -1,0 +1,67 @@
+-- What was put into a text, piece by piece. Assumes nothing.
+use Prim.Native.Nat.{ℕ, _+_, _≤_, _<_}
+use mathlib.Core.Path.{_≡_, refl, sym, ap, _∙_}
+use mathlib.Core.List.{[], _∷_, _++_}
+use native.Mathlib.Omega.{arith}
+use native.Mathlib.Nat.{add-zero}
+use native.Mathlib.Numerals.{add-one}
+use lib.ListN.{length, take, set, getD, length-append, length-set, take-append-drop}
+use lib.Seq.{take-suc, take-all}
+use Rattle.lists.specs.Lists.{Bytes, over, placed}
+use Rattle.lists.specs.Bytes.{byte}
+use Rattle.emulation.specs.Payload.{unescape, dropped}
+use Rattle.obu.specs.Header.{typeBits}
+use Rattle.listing.specs.Listing.{obuLine, payloadLine}
+use Rattle.listing.specs.Parts.{Puts}
+use Rattle.listing.proofs.Shared.{placed-byte, placed-twice}
+
+-- nothing yet
+pub puts-nothing : (text : Bytes) (at : ℕ) → Puts text at [] text at
+puts-nothing text at = record { stands = sym (take-append-drop at text); ends = omega arith }
+
+-- one piece, and another behind it
+pub puts-then : {text w later v last : Bytes} {at end stop : ℕ} → at ≤ length text → Puts text at w later end → Puts later end v last stop → Puts text at (w ++ v) last stop
+puts-then {text} {w} {later} {v} {last} {at} {end} {stop} h p q =
+    record {
+      stands =
+          q .stands ∙ ap (λ (n : ℕ). placed later n v) (p .ends) ∙ ap (λ (l : Bytes). placed l (at + length w) v) (p .stands)
+          ∙ placed-twice text at h w v;
+      ends = omega (arith, p .ends, q .ends, length-append w v);
+    }
+
+-- the same text by another name
+pub puts-as : {text w v later : Bytes} {at end : ℕ} → w ≡ v → Puts text at w later end → Puts text at v later end
+puts-as {text} {w} {v} {later} {at} {end} e p = rw e at p
+
+-- a word byte by byte: of `word` the first i bytes are put
+pub record Putting (text : Bytes) (at : ℕ) (word later : Bytes) (i : ℕ) : Type 0 where
+  pub within : i ≤ length word
+  pub long : length later ≡ length text
+  pub so-far : Puts text at (take i word) later (at + i)
+
+pub putting-start : (text : Bytes) (at : ℕ) (word : Bytes) → Putting text at word text 0
+putting-start text at word = record { within = omega arith; long = refl; so-far = rw (add-zero at) (puts-nothing text at) }
+
+pub putting-next : {text word later : Bytes} {at i : ℕ} → at + length word ≤ length text → i < length word → Putting text at word later i
+    → Putting text at word (set later (at + i) (getD word i 0)) (i + 1)
+putting-next {text} {word} {later} {at} {i} h k p =
+    record {
+      within = omega arith;
+      long = length-set later (at + i) (getD word i 0) ∙ p .long;
+      so-far =
+          puts-as (sym (take-suc word i 0 k) ∙ ap (λ (n : ℕ). take n word) (sym (add-one i)))
+          (puts-then (omega arith) (p .so-far) (record { stands = placed-byte later (at + i) (getD word i 0) (omega (arith, p .long)); ends = omega arith }));
+    }
+
+pub putting-end : {text word later : Bytes} {at i : ℕ} → length word ≤ i → Putting text at word later i → Puts text at word later (at + i)
+putting-end {text} {word} {later} {at} {i} k p = puts-as (take-all i word k) (p .so-far)
+
+-- the first byte of a string, from an array of one byte
+pub first-byte : (u first : Bytes) → first ≡ over (take 1 u) (0 ∷ []) → getD first 0 0 ≡ getD u 0 0
+first-byte [] first e = rw e
+first-byte (a ∷ u) first e = rw e
+
+-- the line of an OBU, from the figures of its payload
+pub payload-line : {type size removed : ℕ} (index : ℕ) (payload : Bytes) → type ≡ typeBits (byte (unescape payload) 0) → size ≡ length (unescape payload) → removed ≡ dropped payload
+    → obuLine index type size removed ≡ payloadLine index payload
+payload-line index payload t s r = λ i. obuLine index (t i) (s i) (r i)

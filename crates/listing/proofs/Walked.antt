@@ -1,0 +1,150 @@
+-- The walk over an accepted unit, which puts one line at each step. Assumes nothing.
+use Prim.Native.Nat.{ℕ, _+_, _-_, _*_, _≤_, _<_}
+use mathlib.Core.Bool.{true, not}
+use mathlib.Core.Path.{_≡_, refl, sym, ap, subst, _∙_}
+use mathlib.Core.List.{List, [], _∷_, _++_, append-nil, append-assoc}
+use native.Mathlib.Omega.{arith}
+use native.Mathlib.Numerals.{add-one}
+use borrow.Author.Tests.{eqb-false, not-false}
+use lib.ListN.{length, take, drop}
+use Rattle.lists.specs.Lists.{Bytes}
+use Rattle.refusal.specs.Verdict.{Verdict, passed}
+use Rattle.refusal.proofs.Verdicts.{follows, not-given, never, passed-same, passed-after, passed-then, given-passed, All}
+use Rattle.emulation.specs.Payload.{legal}
+use Rattle.unit.specs.Unit.{payloads, tsobuRefusal, readUnit}
+use Rattle.unit.specs.Answer.{checking}
+use Rattle.unit.specs.Walk.{starting, stepping, Found, payload, end, stepSays, Walks, ended, stepped}
+use Rattle.unit.specs.declared.walking.Part.{Part}
+use Rattle.unit.specs.declared.walking.Step.{Step}
+use Rattle.unit.specs.declared.walking.Step.the-variants as step
+use Rattle.unit.proofs.Acceptance.{Reads, reads}
+use Rattle.unit.proofs.Places.{payload-is}
+use Rattle.unit.proofs.Steps.{handed, handed-part, Fine, walk-whole}
+use Rattle.listing.specs.Listing.{payloadLine, payloadLines}
+use Rattle.listing.specs.Parts.{Puts, Accepts, lineRoom, obusRoom}
+use Rattle.listing.proofs.Puttings.{puts-nothing, puts-then, puts-as}
+
+-- ---- an accepted unit
+accepted : (unit : Bytes) → Accepts unit → Reads unit
+unfolding checking
+accepted unit (counts, e) = let k = passed-then (readUnit unit) _ counts e in reads unit (k .0) (k .1) .0
+
+pub starts : (unit : Bytes) → Accepts unit → starting unit ≡ passed 0
+unfolding starting
+starts unit a = sym (follows (not-given 9 _ (ap not (accepted unit a .headed))) refl)
+
+fine : (p : Bytes) → tsobuRefusal p ≡ passed tt → Fine p
+unfolding tsobuRefusal
+fine p e =
+    let k3 = passed-after _ _ tt e in
+    let k10 = passed-after _ _ tt (k3 .1) in
+    let some = eqb-false (length p) 0 (given-passed 3 _ (k3 .0)) in
+    (omega arith, not-false (legal p) (given-passed 10 _ (k10 .0)))
+
+all-fine : (ps : List Bytes) → All (λ p. tsobuRefusal p ≡ passed tt) ps → All Fine ps
+all-fine [] h = tt
+all-fine (p ∷ ps) h = (fine p (h .0), all-fine ps (h .1))
+
+pub walks : (unit : Bytes) → Accepts unit → Walks unit 0 (payloads unit)
+walks unit a = walk-whole unit (starts unit a) (all-fine (payloads unit) (accepted unit a .tsobus))
+
+-- ---- a step that handed out a payload
+not-end : {p : Part} → _≡_ {A = Verdict Found} (passed (payload p)) (passed end) → ⊥
+not-end h = let z : _≡_ {A = ℕ} 0 1 = cc in omega arith
+
+-- the code's answer says it
+pub handed-out : {q : Step} {v : Verdict Found} {p : Part} → stepSays q ≡ v → q ≡ step.Payload p → v ≡ passed (payload p)
+handed-out e k = sym e ∙ ap stepSays k
+
+module _ (unit : Bytes) (at : ℕ) (p : Part) (e : stepping unit at ≡ passed (payload p)) where
+  pub part-legal : legal (take (p .length) (drop (p .start) unit)) ≡ true
+  part-legal =
+      let h = handed unit at p e in
+      ap legal (handed-part unit at p h ∙ payload-is unit at) ∙ h .fine
+
+  pub part-onward : length unit - p .next < length unit - at
+  part-onward = let h = handed unit at p e in omega (arith, h .before-end, h .next)
+
+  -- it is the next of the payloads that the walk hands out
+  walk-on : (rest : List Bytes) → Walks unit at rest → (ps : List Bytes) × (rest ≡ take (p .length) (drop (p .start) unit) ∷ ps) × Walks unit (p .next) ps
+  walk-on rest (ended k) = absurd (not-end (sym e ∙ k))
+  walk-on rest (stepped {ps = ps} q k w) =
+      let same : q ≡ p = cc in
+      (ps, ap (λ (x : Part). take (x .length) (drop (x .start) unit) ∷ ps) same, subst (λ (x : Part). Walks unit (x .next) ps) same w)
+
+-- a step's answer that says a payload is that payload
+says-payload : (q : Step) (p : Part) → stepSays q ≡ passed (payload p) → q ≡ step.Payload p
+says-payload (step.Payload r) p e = let same : r ≡ p = cc in ap step.Payload same
+says-payload step.End p e = absurd (not-end (sym e))
+says-payload (step.Refused r) p e = never e
+
+-- any other step ends the walk
+walk-off : (unit : Bytes) (at : ℕ) (q : Step) → stepSays q ≡ stepping unit at → ((p : Part) → q ≡ step.Payload p → ⊥) → (rest : List Bytes) → Walks unit at rest → rest ≡ []
+walk-off unit at q e n rest (ended k) = refl
+walk-off unit at q e n rest (stepped p k w) = absurd (n p (says-payload q p (e ∙ k)))
+
+-- ---- the lines of the steps so far are put, and `rest` is to come
+pub record Listing (unit text₀ : Bytes) (at : ℕ) (text : Bytes) (place stop index : ℕ) : Type 0 where
+  pub rest : List Bytes
+  pub walk : Walks unit place rest
+  pub put : Bytes
+  pub so-far : Puts text₀ at put text stop
+  pub whole : put ++ payloadLines index rest ≡ payloadLines 0 (payloads unit)
+  pub few : index + length rest ≤ 64
+  pub small : stop ≤ at + index * lineRoom
+  pub long : length text ≡ length text₀
+
+pub listing-start : (unit text : Bytes) (at place : ℕ) → Accepts unit → starting unit ≡ passed place → Listing unit text at text place at 0
+listing-start unit text at place a e =
+    record {
+      rest = payloads unit;
+      walk = subst (λ (n : ℕ). Walks unit n (payloads unit)) (passed-same 0 place (sym (starts unit a) ∙ e)) (walks unit a);
+      put = [];
+      so-far = puts-nothing text at;
+      whole = refl;
+      few = omega (arith, accepted unit a .most);
+      small = omega arith;
+      long = refl;
+    }
+
+module _ {unit text₀ text : Bytes} {at place stop index : ℕ} (s : Listing unit text₀ at text place stop index) where
+  module _ (p : Part) (e : stepping unit place ≡ passed (payload p)) where
+    pub listing-index : index < 64
+    listing-index = let w = walk-on unit place p e (s .rest) (s .walk) in omega (arith, s .few, ap length (w .1))
+
+    -- the next line has room
+    pub listing-room : at + obusRoom ≤ length text₀ → stop + lineRoom ≤ length text
+    listing-room h = omega (arith, s .small, s .long, listing-index)
+
+    pub listing-step : (later : Bytes) (after : ℕ) → at + obusRoom ≤ length text₀
+        → Puts text stop (payloadLine index (take (p .length) (drop (p .start) unit))) later after → after ≤ stop + lineRoom → length later ≡ length text
+        → Listing unit text₀ at later (p .next) after (index + 1)
+    unfolding payloadLines
+    listing-step later after h k small long =
+        let w = walk-on unit place p e (s .rest) (s .walk) in
+        let line = payloadLine index (take (p .length) (drop (p .start) unit)) in
+        record {
+          rest = w .0;
+          walk = w .2;
+          put = s .put ++ line;
+          so-far = puts-then (omega arith) (s .so-far) k;
+          whole =
+              append-assoc (s .put) line (payloadLines (index + 1) (w .0))
+              ∙ ap (λ (n : ℕ). s .put ++ (line ++ payloadLines n (w .0))) (add-one index)
+              ∙ ap (λ (l : List Bytes). s .put ++ payloadLines index l) (sym (w .1))
+              ∙ s .whole;
+          few = omega (arith, s .few, ap length (w .1));
+          small = omega (arith, s .small);
+          long = long ∙ s .long;
+        }
+
+  -- the walk has come to its end
+  pub listing-end : (q : Step) → stepSays q ≡ stepping unit place → ((p : Part) → q ≡ step.Payload p → ⊥) → Puts text₀ at (payloadLines 0 (payloads unit)) text stop
+  unfolding payloadLines
+  listing-end q e n =
+      puts-as
+      (sym (append-nil (s .put)) ∙ ap (λ (l : List Bytes). s .put ++ payloadLines index l) (sym (walk-off unit place q e n (s .rest) (s .walk))) ∙ s .whole)
+      (s .so-far)
+
+  pub listing-bound : stop ≤ at + obusRoom
+  listing-bound = omega (arith, s .small, s .few)
