@@ -9,11 +9,11 @@ use borrow.Author.Tests.{eqb-false, not-false}
 use lib.ListN.{length, take, drop}
 use Rattle.lists.specs.Lists.{Bytes}
 use Rattle.refusal.specs.Verdict.{Verdict, passed}
-use Rattle.refusal.proofs.Verdicts.{follows, not-given, never, passed-same, passed-after, passed-then, given-passed, All}
+use Rattle.refusal.proofs.Verdicts.{follows, not-given, never, passed-after, passed-then, given-passed, All}
 use Rattle.emulation.specs.Payload.{legal}
 use Rattle.unit.specs.Unit.{payloads, tsobuRefusal, readUnit}
 use Rattle.unit.specs.Answer.{checking}
-use Rattle.unit.specs.Walk.{starting, stepping, Found, payload, end, stepSays, Walks, ended, stepped}
+use Rattle.unit.specs.Walk.{starting, stepping, Found, payload, end, goesTo, placeAfter, stepSays, Walks, ended, stepped}
 use Rattle.unit.specs.declared.walking.Part.{Part}
 use Rattle.unit.specs.declared.walking.Step.{Step}
 use Rattle.unit.specs.declared.walking.Step.the-variants as step
@@ -29,7 +29,7 @@ accepted : (unit : Bytes) → Accepts unit → Reads unit
 unfolding checking
 accepted unit (counts, e) = let k = passed-then (readUnit unit) _ counts e in reads unit (k .0) (k .1) .0
 
-pub starts : (unit : Bytes) → Accepts unit → starting unit ≡ passed 0
+starts : (unit : Bytes) → Accepts unit → starting unit ≡ passed 0
 unfolding starting
 starts unit a = sym (follows (not-given 9 _ (ap not (accepted unit a .headed))) refl)
 
@@ -45,16 +45,12 @@ all-fine : (ps : List Bytes) → All (λ p. tsobuRefusal p ≡ passed tt) ps →
 all-fine [] h = tt
 all-fine (p ∷ ps) h = (fine p (h .0), all-fine ps (h .1))
 
-pub walks : (unit : Bytes) → Accepts unit → Walks unit 0 (payloads unit)
+walks : (unit : Bytes) → Accepts unit → Walks unit 0 (payloads unit)
 walks unit a = walk-whole unit (starts unit a) (all-fine (payloads unit) (accepted unit a .tsobus))
 
 -- ---- a step that handed out a payload
 not-end : {p : Part} → _≡_ {A = Verdict Found} (passed (payload p)) (passed end) → ⊥
 not-end h = let z : _≡_ {A = ℕ} 0 1 = cc in omega arith
-
--- the code's answer says it
-pub handed-out : {q : Step} {v : Verdict Found} {p : Part} → stepSays q ≡ v → q ≡ step.Payload p → v ≡ passed (payload p)
-handed-out e k = sym e ∙ ap stepSays k
 
 module _ (unit : Bytes) (at : ℕ) (p : Part) (e : stepping unit at ≡ passed (payload p)) where
   pub part-legal : legal (take (p .length) (drop (p .start) unit)) ≡ true
@@ -62,15 +58,18 @@ module _ (unit : Bytes) (at : ℕ) (p : Part) (e : stepping unit at ≡ passed (
       let h = handed unit at p e in
       ap legal (handed-part unit at p h ∙ payload-is unit at) ∙ h .fine
 
-  pub part-onward : length unit - p .next < length unit - at
-  part-onward = let h = handed unit at p e in omega (arith, h .before-end, h .next)
+  goes-on : placeAfter unit at ≡ p .next
+  goes-on = ap (goesTo at) e
+
+  pub part-onward : length unit - placeAfter unit at < length unit - at
+  part-onward = let h = handed unit at p e in omega (arith, goes-on, h .before-end, h .next)
 
   -- it is the next of the payloads that the walk hands out
-  walk-on : (rest : List Bytes) → Walks unit at rest → (ps : List Bytes) × (rest ≡ take (p .length) (drop (p .start) unit) ∷ ps) × Walks unit (p .next) ps
+  walk-on : (rest : List Bytes) → Walks unit at rest → (ps : List Bytes) × (rest ≡ take (p .length) (drop (p .start) unit) ∷ ps) × Walks unit (placeAfter unit at) ps
   walk-on rest (ended k) = absurd (not-end (sym e ∙ k))
   walk-on rest (stepped {ps = ps} q k w) =
       let same : q ≡ p = cc in
-      (ps, ap (λ (x : Part). take (x .length) (drop (x .start) unit) ∷ ps) same, subst (λ (x : Part). Walks unit (x .next) ps) same w)
+      (ps, ap (λ (x : Part). take (x .length) (drop (x .start) unit) ∷ ps) same, subst (λ (n : ℕ). Walks unit n ps) (ap (λ (x : Part). x .next) same ∙ sym goes-on) w)
 
 -- a step's answer that says a payload is that payload
 says-payload : (q : Step) (p : Part) → stepSays q ≡ passed (payload p) → q ≡ step.Payload p
@@ -94,11 +93,11 @@ pub record Listing (unit text₀ : Bytes) (at : ℕ) (text : Bytes) (place stop 
   pub small : stop ≤ at + index * lineRoom
   pub long : length text ≡ length text₀
 
-pub listing-start : (unit text : Bytes) (at place : ℕ) → Accepts unit → starting unit ≡ passed place → Listing unit text at text place at 0
-listing-start unit text at place a e =
+pub listing-start : (unit text : Bytes) (at : ℕ) → Accepts unit → Listing unit text at text 0 at 0
+listing-start unit text at a =
     record {
       rest = payloads unit;
-      walk = subst (λ (n : ℕ). Walks unit n (payloads unit)) (passed-same 0 place (sym (starts unit a) ∙ e)) (walks unit a);
+      walk = walks unit a;
       put = [];
       so-far = puts-nothing text at;
       whole = refl;
@@ -118,7 +117,7 @@ module _ {unit text₀ text : Bytes} {at place stop index : ℕ} (s : Listing un
 
     pub listing-step : (later : Bytes) (after : ℕ) → at + obusRoom ≤ length text₀
         → Puts text stop (payloadLine index (take (p .length) (drop (p .start) unit))) later after → after ≤ stop + lineRoom → length later ≡ length text
-        → Listing unit text₀ at later (p .next) after (index + 1)
+        → Listing unit text₀ at later (placeAfter unit place) after (index + 1)
     unfolding payloadLines
     listing-step later after h k small long =
         let w = walk-on unit place p e (s .rest) (s .walk) in

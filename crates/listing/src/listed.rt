@@ -12,9 +12,9 @@ use crate::lines::put_refusal;
 use crate::text::put_word;
 use refusal::Refusal;
 use refusal::Refused;
-use unit::Started;
 use unit::Step;
 use unit::UnitRead;
+use unit::Walk;
 
 // The most bytes of a unit that is listed.
 const MOST_LISTED: usize = 65536;
@@ -34,21 +34,14 @@ fn put_obus(text: &mut [u8], at: usize, unit: &[u8]) -> usize
     ensures { λ r. ⌜ Puts (now (text .entry)) at (payloadLines 0 (payloads (now (unit .entry)))) (now (text .exit)) r ⌝ }
     ensures { λ r. ⌜ r ≤ at + obusRoom ⌝ }
 {
-    let started = unit::start(unit);
-    let Started::At(first) = started else {
-        return at; // not reached
-    };
-    let mut place = first;
+    let mut walk = Walk::new(unit);
     let mut end = at;
     let mut index: usize = 0;
     loop {
-        let step = unit::step_at(unit, place);
-        let Step::Payload(part) = step else {
+        let Step::Payload(part) = walk.step() else {
             return end;
         };
-        let payload = unit::payload(unit, part.start, part.length);
-        end = put_payload(text, end, index, payload);
-        place = part.next;
+        end = put_payload(text, end, index, walk.payload(part));
         index += 1;
     }
 }
