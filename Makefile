@@ -10,6 +10,8 @@ run: lib
 	build/payload 32 04 00 00 01 80
 	@echo "A carried unit of two OBUs is listed:"
 	printf '\000\000\001\022\000\000\000\001\060\252\000\000' | target/bin/lister
+	@echo "A sample segment is checked, and its access units are found:"
+	target/bin/segment_report < crates/segment_report/stdin
 
 test:
 	.ci/run

@@ -14,7 +14,9 @@ use Rattle.descriptor.specs.declared.fields.Delay.{Delay}
 use Rattle.descriptor.specs.declared.fields.Delay.the-variants.{Absent, Present}
 use Rattle.descriptor.specs.declared.fields.Video.{Video}
 use Rattle.descriptor.specs.Descriptor.{writing}
+use Rattle.segment.specs.declared.whole.Summary.{Summary}
 use Rattle.av1ts.specs.declared.answer.Answer.{Answer}
+use Rattle.av1ts.specs.declared.segments.SegmentAnswer.{SegmentAnswer}
 use Rattle.av1ts.specs.declared.video_descriptor.VideoDescriptor.{VideoDescriptor}
 use Rattle.av1ts.specs.declared.walk.WalkStep.{WalkStep}
 
@@ -97,3 +99,40 @@ unfoldable pub writingFrom : Bytes → ℕ → ℕ → ℕ → Verdict ℕ
 writingFrom field present delay room = do
   given 41 (ltb 1 present)
   writing (fieldsFrom field) (delayFrom present delay) room
+
+-- ---- a segment
+-- what acceptance gives
+abbrev pub acceptedAnswer : Summary → SegmentAnswer
+acceptedAnswer s =
+    record {
+      number = 0;
+      place = 0;
+      program = s .program;
+      pid = s .pid;
+      units = s .units;
+      «null_packets» = s .totals .null;
+      section = s .totals .section;
+      av1 = s .totals .av1;
+      «other_listed» = s .totals .«other_listed»;
+      unlisted = s .totals .unlisted;
+    }
+
+-- "A refused segment returns number and place, all else 0"
+abbrev pub refusedAnswer : ℕ → ℕ → SegmentAnswer
+refusedAnswer number place =
+    record {
+      number = number;
+      place = place;
+      program = 0;
+      pid = 0;
+      units = 0;
+      «null_packets» = 0;
+      section = 0;
+      av1 = 0;
+      «other_listed» = 0;
+      unlisted = 0;
+    }
+
+abbrev pub segmentAnswer : Verdict Summary → SegmentAnswer
+segmentAnswer (passed s) = acceptedAnswer s
+segmentAnswer (refused number place) = refusedAnswer number place

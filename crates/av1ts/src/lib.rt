@@ -2,6 +2,7 @@
 mod access_unit;
 mod answer;
 mod payload;
+mod segments;
 mod video_descriptor;
 mod walk;
 
@@ -11,6 +12,8 @@ pub use access_unit::av1ts_write_unit;
 pub use answer::Answer;
 pub use payload::av1ts_escape;
 pub use payload::av1ts_unescape;
+pub use segments::SegmentAnswer;
+pub use segments::av1ts_check_segment;
 pub use video_descriptor::VideoDescriptor;
 pub use video_descriptor::av1ts_read_descriptor;
 pub use video_descriptor::av1ts_write_descriptor;

@@ -20,6 +20,7 @@ use Rattle.pmt.specs.declared.listing.Entry.{Entry}
 use Rattle.pmt.specs.declared.listing.Av1.{Av1}
 use Rattle.pmt.specs.declared.listing.Av1.the-variants.{Missing}
 use Rattle.pmt.specs.declared.listing.Tried.{Tried}
+use Rattle.pmt.specs.declared.listing.ListAnswer.the-variants.{Passed}
 use Rattle.pmt.specs.declared.listing.Listed.{Listed}
 use Rattle.pmt.proofs.Slots.{pids-in-slots, slots-set}
 use Rattle.pmt.proofs.Trying.{refused-first}
@@ -80,7 +81,7 @@ turn-start mapPid s =
     }
 
 abbrev list : ℕ → List Entry → Av1 → Listed
-list count entries av1 = record { count = count; entries = entries; av1 = av1 }
+list count entries av1 = record { answer = Passed; count = count; entries = entries; av1 = av1 }
 
 module _ {mapPid : ℕ} {s : Bytes} {entries : List Entry} {av1 : Av1} {count at : ℕ} (t : Turned mapPid s entries av1 count at) where
   -- the entries fill the bytes

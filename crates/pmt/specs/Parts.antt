@@ -29,7 +29,6 @@ use Rattle.pmt.specs.declared.listing.TriedEntry.the-variants as tried
 use Rattle.pmt.specs.declared.listing.Listed.{Listed}
 use Rattle.pmt.specs.declared.listing.ListAnswer.{ListAnswer}
 use Rattle.pmt.specs.declared.listing.ListAnswer.the-variants as list
-use Rattle.pmt.specs.declared.listing.ListRead.{ListRead}
 use Rattle.pmt.specs.declared.section.ProgramMap.{ProgramMap}
 
 -- ---- one loop of descriptors
@@ -105,14 +104,14 @@ withAll [] slot a = a
 withAll (e ∷ es) slot a = withAll es (suc slot) (withKind (kindOf e) slot a)
 
 abbrev pub listOf : List MapEntry → Listed
-listOf es = record { count = length es; entries = slots es; av1 = withAll es 0 Missing }
+listOf es = record { answer = list.Passed; count = length es; entries = slots es; av1 = withAll es 0 Missing }
 
 abbrev pub listAnswer : ListAnswer → Listed → Verdict Listed
 listAnswer list.Passed l = passed l
 listAnswer (list.Refused why) l = refused (numberOf why) 0
 
-abbrev pub listSays : ListRead → Verdict Listed
-listSays r = listAnswer (r .answer) (r .listed)
+abbrev pub listSays : Listed → Verdict Listed
+listSays l = listAnswer (l .answer) l
 
 -- 26, 27, or the entries
 unfoldable pub listRead : ℕ → Bytes → Verdict Listed

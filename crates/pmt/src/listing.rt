@@ -52,22 +52,18 @@ pub(crate) enum Av1 {
     Wrong,
 }
 
-// The entries so far, in the first slots.
-pub(crate) struct Listed {
-    pub(crate) count: usize,
-    pub(crate) entries: [Entry; 12],
-    pub(crate) av1: Av1,
-}
-
+// All entries passed, or why they are refused.
 pub(crate) enum ListAnswer {
     Passed,
     Refused(Refusal),
 }
 
-// The entries, or beside them why they are refused.
-pub(crate) struct ListRead {
-    pub(crate) listed: Listed,
+// The entries that passed, in the first slots, and what is known of the AV1 entry.
+pub(crate) struct Listed {
     pub(crate) answer: ListAnswer,
+    pub(crate) count: usize,
+    pub(crate) entries: [Entry; 12],
+    pub(crate) av1: Av1,
 }
 
 // A PID, and a length, of which the first byte has the upper bits.
@@ -178,7 +174,7 @@ fn with_kind(kind: Kind, slot: usize, av1: Av1) -> Av1
 }
 
 // The entries that fill s, each wholly for 26; 27 where bytes remain after a twelfth.
-pub(crate) fn list_entries(s: &[u8], map_pid: u16) -> ListRead
+pub(crate) fn list_entries(s: &[u8], map_pid: u16) -> Listed
     ensures { λ r. ⌜ listSays r ≡ listRead «map_pid» (now (s .entry)) ⌝ }
 {
     let none = Entry {
@@ -191,27 +187,21 @@ pub(crate) fn list_entries(s: &[u8], map_pid: u16) -> ListRead
     let mut at: usize = 0;
     while at < s.len() {
         if MOST_ENTRIES <= count {
-            let listed = Listed {
+            return Listed {
+                answer: ListAnswer::Refused(Refusal::EntryCount),
                 count,
                 entries,
                 av1,
-            };
-            return ListRead {
-                listed,
-                answer: ListAnswer::Refused(Refusal::EntryCount),
             };
         }
         let read = try_entry(&s[at..], map_pid, entries, count);
         match read {
             TriedEntry::Wrong => {
-                let listed = Listed {
+                return Listed {
+                    answer: ListAnswer::Refused(Refusal::Pmt),
                     count,
                     entries,
                     av1,
-                };
-                return ListRead {
-                    listed,
-                    answer: ListAnswer::Refused(Refusal::Pmt),
                 };
             }
             TriedEntry::Passed(tried) => {
@@ -224,13 +214,10 @@ pub(crate) fn list_entries(s: &[u8], map_pid: u16) -> ListRead
             }
         }
     }
-    let listed = Listed {
+    Listed {
+        answer: ListAnswer::Passed,
         count,
         entries,
         av1,
-    };
-    ListRead {
-        listed,
-        answer: ListAnswer::Passed,
     }
 }

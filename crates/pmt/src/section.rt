@@ -109,11 +109,11 @@ fn read_body(section: &[u8], map_pid: u16) -> PmtRead
     let Loop::Filled(_) = read else {
         return refuse(Refusal::Pmt);
     };
-    let list = list_entries(&section[info..end], map_pid);
-    let answer = list.answer;
+    let listed = list_entries(&section[info..end], map_pid);
+    let answer = listed.answer;
     match answer {
         ListAnswer::Refused(why) => refuse(why),
-        ListAnswer::Passed => map_listed(pid_field(section[8], section[9]), list.listed),
+        ListAnswer::Passed => map_listed(pid_field(section[8], section[9]), listed),
     }
 }
 

@@ -92,8 +92,6 @@ pub fn all(itself: bool) -> Vec<&'static Definition> {
         all.extend(UNITS);
     }
     all.extend(DESCRIPTORS);
-    if itself || cfg!(feature = "segment") {
-        all.extend(SEGMENTS);
-    }
+    all.extend(SEGMENTS);
     all
 }

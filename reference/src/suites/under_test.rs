@@ -45,7 +45,6 @@ pub fn check_segment(
     lengths: &mut [usize],
     times: &mut [u64],
 ) -> Segment {
-    #[cfg(feature = "segment")]
     if library() {
         return av1ts::segment::check_segment(bytes, out, lengths, times);
     }

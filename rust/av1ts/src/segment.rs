@@ -16,7 +16,6 @@ pub struct Segment {
     pub unlisted: u64,
 }
 
-#[cfg(feature = "segment")]
 unsafe extern "C" {
     fn av1ts_check_segment(
         segment: *const u8,
@@ -33,7 +32,6 @@ unsafe extern "C" {
 /// Writes the carried units back to back to the front of `out`, their lengths to the front of
 /// `lengths`, and their PTS and DTS in turn to the front of `times`. A refusal leaves zeros
 /// throughout the three.
-#[cfg(feature = "segment")]
 pub fn check_segment(
     segment: &[u8],
     out: &mut [u8],

@@ -20,7 +20,7 @@ loop-holds : tie.Need-loop-holds Inv-loop μ-loop
 loop-holds c = turn-start _ _
 
 returns : tie.Need-returns Inv-loop μ-loop
-returns c = turn-full (c .before .before .loop .inv) (c .before .loop-test .taken) (c .if1 .taken)
+returns c = turn-full (c .before .before .loop .inv) (c .before .loop-test .taken) (omega (arith, c .if1 .taken))
 
 sub-try-entry : tie.Need-sub-try-entry Inv-loop μ-loop
 sub-try-entry c = search needs

@@ -1,0 +1,78 @@
+// Checking a segment and extracting its access units.
+ghost use mathlib.Core.Path.{_≡_};
+ghost use Rattle.refusal.specs.Number.{numberOf};
+ghost use Rattle.segment.specs.Check.{checkSegment, outputsOf, roomsOf, leaves};
+ghost use Rattle.segment.specs.Answer.{checking};
+ghost use Rattle.av1ts.specs.Answers.{acceptedAnswer, refusedAnswer, segmentAnswer};
+use refusal::Refused;
+use segment::SegmentCheck;
+use segment::Summary;
+
+// number 0: the segment is accepted.
+#[repr(C)]
+pub struct SegmentAnswer {
+    pub number: u64,
+    pub place: u64,
+    pub program: u64,
+    pub pid: u64,
+    pub units: u64,
+    pub null_packets: u64,
+    pub section: u64,
+    pub av1: u64,
+    pub other_listed: u64,
+    pub unlisted: u64,
+}
+
+fn accepted(summary: Summary) -> SegmentAnswer
+    ensures { λ r. ⌜ r ≡ acceptedAnswer summary ⌝ }
+{
+    let totals = summary.totals;
+    SegmentAnswer {
+        number: 0,
+        place: 0,
+        program: summary.program as u64,
+        pid: summary.pid as u64,
+        units: summary.units as u64,
+        null_packets: totals.null as u64,
+        section: totals.section as u64,
+        av1: totals.av1 as u64,
+        other_listed: totals.other_listed as u64,
+        unlisted: totals.unlisted as u64,
+    }
+}
+
+fn segment_refusal(r: Refused) -> SegmentAnswer
+    ensures { λ a. ⌜ a ≡ refusedAnswer (numberOf (r .why)) (r .place) ⌝ }
+{
+    let why = r.why;
+    let number = why.number();
+    SegmentAnswer {
+        number: number as u64,
+        place: r.place as u64,
+        program: 0,
+        pid: 0,
+        units: 0,
+        null_packets: 0,
+        section: 0,
+        av1: 0,
+        other_listed: 0,
+        unlisted: 0,
+    }
+}
+
+#[no_mangle]
+pub extern "C" fn av1ts_check_segment(
+    segment: &[u8],
+    out: &mut [u8],
+    lengths: &mut [usize],
+    times: &mut [u64],
+) -> SegmentAnswer
+    ensures { λ r. ⌜ r ≡ segmentAnswer (checking (now (segment .entry)) (roomsOf (outputsOf (now (out .entry)) (now (lengths .entry)) (now (times .entry))))) ⌝ }
+    ensures { λ _. ⌜ outputsOf (now (out .exit)) (now (lengths .exit)) (now (times .exit)) ≡ leaves (checkSegment (now (segment .entry)) (roomsOf (outputsOf (now (out .entry)) (now (lengths .entry)) (now (times .entry))))) (outputsOf (now (out .entry)) (now (lengths .entry)) (now (times .entry))) ⌝ }
+{
+    let checked = segment::check(segment, out, lengths, times);
+    match checked {
+        SegmentCheck::Accepted(summary) => accepted(summary),
+        SegmentCheck::Refused(refused) => segment_refusal(refused),
+    }
+}

@@ -1,0 +1,16 @@
+pub mod Sequence
+pub mod Standing
+pub mod Running
+pub mod Counting
+pub mod Classes
+pub mod Mapping
+pub mod Reading
+pub mod Tabling
+pub mod Clearing
+pub mod Extracting
+pub mod Stepping
+pub mod Looping
+pub mod Ending
+pub mod Accepting
+pub mod ByKind
+pub mod Thirteen

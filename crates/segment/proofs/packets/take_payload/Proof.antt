@@ -1,0 +1,47 @@
+-- By the payload start.
+use mathlib.Core.Path.{refl}
+use Rattle.segment.proofs.Extracting.{payload-starts, payload-adds}
+use borrow.Author.Needs.{needs}
+use Rattle.segment.proofs.packets.take_payload.Statement.{statement}
+use Rattle.segment.proofs.packets.take_payload.Tie as tie
+
+start-requires : tie.Need-start-requires
+start-requires c κs = search needs
+
+same-length : tie.Need-same-length
+same-length c = search needs
+
+same-length-2 : tie.Need-same-length-2
+same-length-2 c = search needs
+
+same-length-3 : tie.Need-same-length-3
+same-length-3 c = search needs
+
+returns : tie.Need-returns
+returns c before st p s =
+    let a = c .before .before .before .before .before .before .before .before .before .before .before .before .before .before .before .args in
+    payload-starts before st _ (a .payload .now) _ (c .before .before .before .before .before .before .start .result) _ _ _ (c .before .before .before .before .before .before .before .before .before .before .if1 .taken) (c .before .before .before .before .before .before .start .ensures before st p s)
+
+add-requires : tie.Need-add-requires
+add-requires c κs = c .before .before .before .before .before .before .pre .inBytes
+
+same-length-4 : tie.Need-same-length-4
+same-length-4 c = search needs
+
+returns-2 : tie.Need-returns-2
+returns-2 c before st p s =
+    let a = c .before .before .before .before .before .before .before .before .before .args in
+    payload-adds before st _ (a .payload .now) _ (c .before .before .add .result) _ _ _ (c .before .before .before .before .if1 .left) (c .before .before .add .ensures before st _ _ p s)
+
+pub take-payload-spec : {M : Type 1} → statement M
+take-payload-spec =
+    tie.close
+    (tie.spec
+    start-requires
+    same-length
+    same-length-2
+    same-length-3
+    returns
+    add-requires
+    same-length-4
+    returns-2)

@@ -1,0 +1,88 @@
+-- By the kind of the PID; only PID 0 and the map PID carry sections.
+use mathlib.Core.Path.{_∙_}
+use borrow.Author.Needs.{needs}
+use Rattle.segment.specs.Rules.{sectionRead}
+use Rattle.segment.proofs.Reading.{of-kind}
+use Rattle.segment.proofs.sections.read_section.Statement.{statement}
+use Rattle.segment.proofs.sections.read_section.Tie as tie
+
+enum-told : tie.Need-enum-told
+enum-told c = search needs
+
+pass-requires : tie.Need-pass-requires
+pass-requires c κs = search needs
+
+enum-told-2 : tie.Need-enum-told-2
+enum-told-2 c = search needs
+
+pat-payload-requires : tie.Need-pat-payload-requires
+pat-payload-requires c κs = search needs
+
+enum-told-3 : tie.Need-enum-told-3
+enum-told-3 c = search needs
+
+pmt-payload-requires : tie.Need-pmt-payload-requires
+pmt-payload-requires c κs = search needs
+
+enum-told-4 : tie.Need-enum-told-4
+enum-told-4 c = search needs
+
+pass-requires-2 : tie.Need-pass-requires-2
+pass-requires-2 c κs = search needs
+
+enum-told-5 : tie.Need-enum-told-5
+enum-told-5 c = search needs
+
+pass-requires-3 : tie.Need-pass-requires-3
+pass-requires-3 c κs = search needs
+
+enum-told-6 : tie.Need-enum-told-6
+enum-told-6 c = search needs
+
+pass-requires-4 : tie.Need-pass-requires-4
+pass-requires-4 c κs = search needs
+
+returns : tie.Need-returns
+unfolding sectionRead
+returns c = λ x e. c .pass .ensures _ x ∙ of-kind _ _ _ _ _ (c .before .enum-told .given .1)
+
+returns-2 : tie.Need-returns-2
+returns-2 c = λ x e. c .pat-payload .ensures x e ∙ of-kind _ _ _ _ _ (c .before .enum-told2 .given .1)
+
+returns-3 : tie.Need-returns-3
+returns-3 c = λ x e. c .pmt-payload .ensures x e ∙ of-kind _ _ _ _ _ (c .before .enum-told3 .given .1)
+
+returns-4 : tie.Need-returns-4
+unfolding sectionRead
+returns-4 c = λ x e. c .pass2 .ensures _ x ∙ of-kind _ _ _ _ _ (c .before .enum-told4 .given .1)
+
+returns-5 : tie.Need-returns-5
+unfolding sectionRead
+returns-5 c = λ x e. c .pass3 .ensures _ x ∙ of-kind _ _ _ _ _ (c .before .enum-told5 .given .1)
+
+returns-6 : tie.Need-returns-6
+unfolding sectionRead
+returns-6 c = λ x e. c .pass4 .ensures _ x ∙ of-kind _ _ _ _ _ (c .before .enum-told6 .given .1)
+
+pub read-section-spec : {M : Type 1} → statement M
+read-section-spec =
+    tie.close
+    (tie.spec
+    enum-told
+    pass-requires
+    enum-told-2
+    pat-payload-requires
+    enum-told-3
+    pmt-payload-requires
+    enum-told-4
+    pass-requires-2
+    enum-told-5
+    pass-requires-3
+    enum-told-6
+    pass-requires-4
+    returns
+    returns-2
+    returns-3
+    returns-4
+    returns-5
+    returns-6)

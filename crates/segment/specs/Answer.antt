@@ -1,0 +1,29 @@
+-- What the check's answer says. Assumes nothing.
+use mathlib.Core.List.{List}
+use lib.ListN.{length}
+use Rattle.lists.specs.Lists.{Bytes}
+use Rattle.refusal.specs.Verdict.{Verdict, passed, refused, _>>=_}
+use Rattle.refusal.specs.Number.{refusedBy}
+use Rattle.segment.specs.Rules.{Rooms}
+use Rattle.segment.specs.Check.{Accepted, checkSegment}
+use Rattle.segment.specs.declared.whole.Summary.{Summary}
+use Rattle.segment.specs.declared.whole.SegmentCheck.{SegmentCheck}
+use Rattle.segment.specs.declared.whole.SegmentCheck.the-variants as checked
+
+-- "Acceptance gives program number, AV1 PID, unit count and packet totals in five classes"
+abbrev pub summaryOf : Accepted → Summary
+summaryOf a = record { program = a .program; pid = a .av1Pid; units = length (a .units); totals = a .totals }
+
+-- the answer of the check of a segment, whose outputs have these lengths: a summary, or the refusal
+unfoldable pub summarised : Verdict Accepted → Verdict Summary
+summarised v = do
+  a ← v
+  passed (summaryOf a)
+
+abbrev pub checking : Bytes → Rooms → Verdict Summary
+checking segment rooms = summarised (checkSegment segment rooms)
+
+-- ---- what the answer of the code says
+abbrev pub checkSays : SegmentCheck → Verdict Summary
+checkSays (checked.Accepted s) = passed s
+checkSays (checked.Refused r) = refusedBy r

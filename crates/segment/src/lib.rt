@@ -1,0 +1,14 @@
+// The check of a segment and the extraction of its access units (document 01, "A segment").
+mod counters;
+mod extraction;
+mod outputs;
+mod packets;
+mod sections;
+mod state;
+mod tables;
+mod whole;
+
+pub use state::Totals;
+pub use whole::SegmentCheck;
+pub use whole::Summary;
+pub use whole::check;

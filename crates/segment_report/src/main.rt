@@ -1,0 +1,69 @@
+// Checks a segment from standard input and prints what it carries, or the refusal.
+use libc::STDIN_FILENO;
+use libc::STDOUT_FILENO;
+use refusal::Refused;
+use segment::SegmentCheck;
+use segment::Summary;
+
+// The most units whose lengths and times are printed.
+const MOST_UNITS: usize = 64;
+
+fn print_figure(word: &[u8], n: u64) {
+    io::write_all(STDOUT_FILENO, word);
+    io::print_decimal(STDOUT_FILENO, n);
+}
+
+fn print_refused(refused: Refused) {
+    let why = refused.why;
+    print_figure(b"refused ", why.number() as u64);
+    print_figure(b" ", refused.place as u64);
+    io::write_all(STDOUT_FILENO, b"\n");
+}
+
+fn print_accepted(summary: Summary) {
+    let totals = summary.totals;
+    print_figure(b"program ", summary.program as u64);
+    print_figure(b" pid ", summary.pid as u64);
+    print_figure(b" units ", summary.units as u64);
+    print_figure(b"\nnull ", totals.null as u64);
+    print_figure(b" section ", totals.section as u64);
+    print_figure(b" av1 ", totals.av1 as u64);
+    print_figure(b" other_listed ", totals.other_listed as u64);
+    print_figure(b" unlisted ", totals.unlisted as u64);
+    io::write_all(STDOUT_FILENO, b"\n");
+}
+
+fn print_unit(index: usize, length: usize, pts: u64, dts: u64) {
+    print_figure(b"unit ", index as u64);
+    print_figure(b" bytes ", length as u64);
+    print_figure(b" pts ", pts);
+    print_figure(b" dts ", dts);
+    io::write_all(STDOUT_FILENO, b"\n");
+}
+
+fn print_units(units: usize, lens: [usize; 64], times: [u64; 128]) {
+    let mut i: usize = 0;
+    while i < MOST_UNITS {
+        if units <= i {
+            return;
+        }
+        print_unit(i, lens[i], times[2 * i], times[2 * i + 1]);
+        i += 1;
+    }
+}
+
+fn main() {
+    let mut bytes = io::large_buffer();
+    let n = io::read_full(STDIN_FILENO, &mut bytes);
+    let mut out = io::large_buffer();
+    let mut lens = [0usize; 64];
+    let mut times = [0u64; 128];
+    let checked = segment::check(&bytes[..n], &mut out, &mut lens, &mut times);
+    match checked {
+        SegmentCheck::Refused(refused) => print_refused(refused),
+        SegmentCheck::Accepted(summary) => {
+            print_accepted(summary);
+            print_units(summary.units, lens, times);
+        }
+    }
+}
