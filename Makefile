@@ -23,7 +23,11 @@ lib:
 	cp target/staticlib/libav1ts.a include/av1ts.h $(LIB)/
 	gcc -shared -o $(LIB)/libav1ts.so -Wl,--whole-archive $(LIB)/libav1ts.a -Wl,--no-whole-archive
 
+# libmeasured.a has inner functions with C names, for this measurement alone
 bench: lib
+	rt staticlib measured
+	mkdir -p build/bench
+	cp target/staticlib/libmeasured.a build/bench/
 	cargo run --quiet --release --package bench
 
 fmt:

@@ -1,4 +1,5 @@
-//! Compiles the plain C loops in `c` with gcc and links them as the static library `plain`.
+//! Compiles the plain C loops in `c` with gcc and links them as the static library `plain`; links
+//! `measured` from `build/bench` at the workspace's root, where `make bench` puts it.
 
 use std::env;
 use std::fs;
@@ -15,7 +16,18 @@ fn main() {
     archive(&objects, &out.join("libplain.a"));
     println!("cargo:rustc-link-search=native={}", out.display());
     println!("cargo:rustc-link-lib=static=plain");
+    link_measured();
     println!("cargo:rustc-env=C_COMPILER={}", compiler());
+}
+
+/// The library's inner functions with C names.
+fn link_measured() {
+    let package = env::var_os("CARGO_MANIFEST_DIR").expect("cargo sets CARGO_MANIFEST_DIR");
+    let folder = PathBuf::from(package).join("../build/bench");
+    let archive = folder.join("libmeasured.a");
+    println!("cargo:rerun-if-changed={}", archive.display());
+    println!("cargo:rustc-link-search=native={}", folder.display());
+    println!("cargo:rustc-link-lib=static:-bundle=measured");
 }
 
 /// The C files, in the order of their names.

@@ -3,6 +3,7 @@
 #ifndef PLAIN_H
 #define PLAIN_H
 
+#include <stdbool.h>
 #include <stddef.h>
 #include <stdint.h>
 
@@ -10,6 +11,7 @@
 #define MAX_OBU_BYTES 1048576
 #define MAX_PAYLOAD_BYTES 1572864
 #define MAX_UNIT_BYTES 1573056
+#define PACKET_BYTES 188
 
 typedef struct {
     uint64_t number, place, count, bytes, dropped;
@@ -26,6 +28,24 @@ plain_answer plain_check_unit(const uint8_t *unit, size_t len);
 
 size_t plain_copy_payloads(const uint8_t *segment, size_t len, unsigned pid, uint8_t *out,
                            size_t room);
+
+uint64_t plain_crc32(const uint8_t *bytes, size_t len);
+
+/* The struct of measured_header: number 0 is success; in a refusal all else is 0. */
+typedef struct {
+    uint64_t number, place, pid;
+    bool start;
+    uint64_t counter;
+    bool discontinuity, pcr_present;
+    uint64_t pcr;
+    bool has_payload;
+    uint64_t payload;
+} plain_packet_header;
+
+plain_packet_header plain_header(const uint8_t packet[PACKET_BYTES]);
+
+/* How many packets of a segment pass 21, 22, 23. */
+uint64_t plain_headers(const uint8_t *segment, size_t len);
 
 /* CPU time of this thread: time that other processes take does not count. */
 uint64_t plain_cpu_nanoseconds(void);

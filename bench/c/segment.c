@@ -4,8 +4,6 @@
 
 #include "plain.h"
 
-#define PACKET_BYTES 188
-
 /* Copies what the packets of one PID carry, PES headers left out, and gives the bytes copied.
    Nothing is checked but that no byte outside the packet or the output is touched. */
 size_t plain_copy_payloads(const uint8_t *segment, size_t len, unsigned pid, uint8_t *out,

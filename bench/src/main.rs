@@ -1,24 +1,23 @@
 //! Measures the functions of libav1ts.a beside plain C loops and memcpy, in one run, and prints
-//! one table. Run it by `cargo run --release -p bench`, with `-- --quick` for a short run; the
-//! features `unit` and `segment` add the rows of those functions.
+//! two tables. Run it by `make bench`, or once that has built the libraries by
+//! `cargo run --release -p bench`, with `-- --quick` for a short run.
 
-#[cfg(any(feature = "unit", feature = "segment"))]
 mod access_unit;
+mod checksum;
+mod header;
 mod input;
 mod measure;
-#[cfg(feature = "segment")]
+mod measured;
 mod multiplex;
 mod payload;
 mod plain;
-#[cfg(feature = "segment")]
 mod segment;
 mod table;
-#[cfg(feature = "unit")]
 mod unit;
 
 use measure::Repeats;
 use std::process::ExitCode;
-use table::Row;
+use table::{Row, Rows};
 
 const USAGE: &str = "usage: bench [--quick]";
 
@@ -42,24 +41,30 @@ fn main() -> ExitCode {
 }
 
 /// The best of all passes, or the first difference between the library and the plain C loops.
-fn rows(repeats: Repeats) -> Result<Vec<Row>, String> {
+fn rows(repeats: Repeats) -> Result<Rows, String> {
     let mut best = pass(repeats)?;
     for _ in 1..repeats.passes {
-        for (best, row) in best.iter_mut().zip(pass(repeats)?) {
-            best.times = best.times.best(&row.times);
-        }
+        let rows = pass(repeats)?;
+        keep_best(&mut best.by_byte, rows.by_byte);
+        keep_best(&mut best.by_header, rows.by_header);
     }
     Ok(best)
 }
 
+fn keep_best(best: &mut [Row], rows: Vec<Row>) {
+    for (best, row) in best.iter_mut().zip(rows) {
+        best.times = best.times.best(&row.times);
+    }
+}
+
 /// All rows once.
-fn pass(repeats: Repeats) -> Result<Vec<Row>, String> {
-    let mut rows = Vec::new();
-    payload::measure(repeats, &mut rows)?;
-    #[cfg(feature = "unit")]
-    unit::measure(repeats, &mut rows)?;
-    #[cfg(feature = "segment")]
-    segment::measure(repeats, &mut rows)?;
+fn pass(repeats: Repeats) -> Result<Rows, String> {
+    let mut rows = Rows::default();
+    payload::measure(repeats, &mut rows.by_byte)?;
+    unit::measure(repeats, &mut rows.by_byte)?;
+    checksum::measure(repeats, &mut rows.by_byte)?;
+    segment::measure(repeats, &mut rows.by_byte)?;
+    header::measure(repeats, &mut rows.by_header)?;
     Ok(rows)
 }
 

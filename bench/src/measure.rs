@@ -36,7 +36,7 @@ const WARM_UP: usize = 1;
 /// A turn goes over the inputs again and again until it has lasted 2 ms.
 const TURN_NANOSECONDS: u64 = 2_000_000;
 
-/// Nanoseconds of CPU time per byte of the input.
+/// Nanoseconds of CPU time per byte of the input, or per packet header.
 pub struct Times {
     pub library: f64,
     pub plain_c: f64,
@@ -59,26 +59,44 @@ pub struct Case<'a, I> {
     pub kind: &'static str,
     pub size: &'static str,
     pub inputs: &'a [I],
-    /// Bytes of the inputs together.
-    pub bytes: usize,
+    /// Bytes of the inputs together, or packet headers.
+    pub amount: usize,
+}
+
+/// What a function gives.
+pub trait Outcome: Debug + PartialEq {
+    fn is_refusal(&self) -> bool;
+}
+
+impl Outcome for Answer {
+    fn is_refusal(&self) -> bool {
+        self.number != 0
+    }
+}
+
+/// A number, which no function refuses to give.
+impl Outcome for u64 {
+    fn is_refusal(&self) -> bool {
+        false
+    }
 }
 
 impl<I> Case<'_, I> {
     /// Checks that library and plain C give the same answer and leave the same outputs, then times
     /// them and memcpy.
-    pub fn compare<O: Clone + PartialEq>(
+    pub fn compare<O: Clone + PartialEq, A: Outcome>(
         &self,
         repeats: usize,
         outputs: &mut O,
-        library: impl Fn(&I, &mut O) -> Answer,
-        plain_c: impl Fn(&I, &mut O) -> Answer,
+        library: impl Fn(&I, &mut O) -> A,
+        plain_c: impl Fn(&I, &mut O) -> A,
         memcpy: impl Fn(&I, &mut O),
     ) -> Result<Row, String> {
         let mut expected_outputs = outputs.clone();
         for input in self.inputs {
             let expected = plain_c(input, &mut expected_outputs);
             let answer = library(input, outputs);
-            if answer.number != 0 || answer != expected || *outputs != expected_outputs {
+            if answer.is_refusal() || answer != expected || *outputs != expected_outputs {
                 return Err(self.difference(answer, expected));
             }
         }
@@ -121,19 +139,19 @@ impl<I> Case<'_, I> {
         }
     }
 
-    /// One turn: nanoseconds per byte, over all its calls.
+    /// One turn: nanoseconds per byte or header, over all its calls.
     fn turn<O, A>(&self, outputs: &mut O, candidate: &impl Fn(&I, &mut O) -> A) -> f64 {
-        let mut bytes = 0;
+        let mut amount = 0;
         let mut elapsed = 0;
         let start = cpu_nanoseconds();
         while elapsed < TURN_NANOSECONDS {
             for input in self.inputs {
                 black_box(candidate(black_box(input), black_box(&mut *outputs)));
             }
-            bytes += self.bytes;
+            amount += self.amount;
             elapsed = cpu_nanoseconds() - start;
         }
-        elapsed as f64 / bytes as f64
+        elapsed as f64 / amount as f64
     }
 
     /// The message where the library's answer or outputs are not the expected ones.

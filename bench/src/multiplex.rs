@@ -1,8 +1,18 @@
 //! A small multiplexer: makes a segment of one program with AV1 and audio.
 
+use crate::access_unit::{carried, obu_list};
+use crate::input::{Kind, Random};
 use av1ts::segment::Segment;
 
 pub const PACKET_BYTES: usize = 188;
+
+/// A segment of 12 MB.
+pub const PACKETS: usize = 12_000_000 / PACKET_BYTES;
+
+/// 240 units of 40,000 bytes are 9.6 seconds of video at 8 Mbit/s.
+const UNITS: usize = 240;
+const UNIT_BYTES: usize = 40_000;
+
 const PAYLOAD_BYTES: usize = 184;
 
 const PROGRAM: u16 = 1;
@@ -30,8 +40,17 @@ pub struct Multiplex {
     counters: [u8; 0x2000],
 }
 
+/// A segment of 12 MB whose units' contents are of the given kind.
+pub fn segment_of(kind: Kind) -> Multiplex {
+    let mut random = Random::new(4);
+    let units: Vec<Vec<u8>> = (0..UNITS)
+        .map(|_| carried(&obu_list(kind, UNIT_BYTES, &mut random)))
+        .collect();
+    multiplex(&units, PACKETS)
+}
+
 /// A segment of `packets` packets: the units, each after a PAT and a PMT, then null packets.
-pub fn multiplex(units: &[Vec<u8>], packets: usize) -> Multiplex {
+fn multiplex(units: &[Vec<u8>], packets: usize) -> Multiplex {
     let mut m = Multiplex {
         segment: Vec::with_capacity(packets * PACKET_BYTES),
         units: Vec::new(),

@@ -47,7 +47,7 @@ fn row(
         function,
         kind: kind.name(),
         size: "1 MiB",
-        bytes: input.len(),
+        amount: input.len(),
         inputs: &[input],
     };
     case.compare(

@@ -1,18 +1,11 @@
 //! Checking a segment of 12 MB.
 
-use crate::access_unit::{carried, obu_list};
-use crate::input::{Kind, Random};
+use crate::input::Kind;
 use crate::measure::{Case, Repeats, copy, touched};
-use crate::multiplex::{AV1_PID, Multiplex, PACKET_BYTES, multiplex};
+use crate::multiplex::{AV1_PID, Multiplex, PACKET_BYTES, PACKETS, segment_of};
 use crate::plain;
 use crate::table::Row;
 use av1ts::segment::{Segment, check_segment};
-
-const PACKETS: usize = 12_000_000 / PACKET_BYTES;
-
-/// 240 units of 40,000 bytes are 9.6 seconds of video at 8 Mbit/s.
-const UNITS: usize = 240;
-const UNIT_BYTES: usize = 40_000;
 
 const MAX_UNITS: usize = 1_024;
 
@@ -45,11 +38,7 @@ impl Outputs {
 
 pub fn measure(repeats: Repeats, rows: &mut Vec<Row>) -> Result<(), String> {
     for kind in [Kind::Random, Kind::ZeroToThree] {
-        let mut random = Random::new(4);
-        let units: Vec<Vec<u8>> = (0..UNITS)
-            .map(|_| carried(&obu_list(kind, UNIT_BYTES, &mut random)))
-            .collect();
-        rows.push(row(kind, multiplex(&units, PACKETS), repeats)?);
+        rows.push(row(kind, segment_of(kind), repeats)?);
     }
     Ok(())
 }
@@ -59,7 +48,7 @@ fn row(kind: Kind, multiplex: Multiplex, repeats: Repeats) -> Result<Row, String
         function: "check_segment",
         kind: kind.name(),
         size: "12 MB",
-        bytes: multiplex.segment.len(),
+        amount: multiplex.segment.len(),
         inputs: &[multiplex],
     };
     let mut outputs = Outputs::touched();

@@ -1,6 +1,7 @@
-//! The output: how it was measured, and one Markdown table.
+//! The output: how it was measured, and two Markdown tables.
 
 use crate::measure::{Repeats, Times};
+use crate::multiplex::PACKETS;
 
 pub struct Row {
     pub function: &'static str,
@@ -9,25 +10,35 @@ pub struct Row {
     pub times: Times,
 }
 
-const COLUMNS: [&str; 9] = [
-    "Function",
-    "Input",
-    "Size",
-    "Library ns/byte",
-    "Library MB/s",
-    "Plain C ns/byte",
-    "memcpy ns/byte",
-    "Library / plain C",
-    "Library / memcpy",
-];
+#[derive(Default)]
+pub struct Rows {
+    /// Times per byte of the input.
+    pub by_byte: Vec<Row>,
+    /// Times per packet header.
+    pub by_header: Vec<Row>,
+}
 
-pub fn print(repeats: Repeats, rows: &[Row]) {
+/// What a table's times are of, and a million of them a second.
+struct Table {
+    item: &'static str,
+    a_second: &'static str,
+}
+
+const BY_BYTE: Table = Table {
+    item: "byte",
+    a_second: "MB/s",
+};
+
+const BY_HEADER: Table = Table {
+    item: "header",
+    a_second: "million headers/s",
+};
+
+pub fn print(repeats: Repeats, rows: &Rows) {
     print_head(repeats);
-    println!("| {} |", COLUMNS.join(" | "));
-    println!("|---|---|---|{}", "---:|".repeat(COLUMNS.len() - 3));
-    for row in rows {
-        println!("{}", line(row));
-    }
+    BY_BYTE.print(&rows.by_byte);
+    println!();
+    BY_HEADER.print(&rows.by_header);
 }
 
 fn print_head(repeats: Repeats) {
@@ -39,11 +50,7 @@ fn print_head(repeats: Repeats) {
         "- Times: CPU time, the best of {} repeats{}. Passes over the table: {}, each row warmed up \
          first. In each repeat the three take turns of at least 2 ms, and which one begins changes.",
         repeats.passes * repeats.rest,
-        if cfg!(feature = "segment") {
-            format!(" (segments: {})", repeats.passes * repeats.segment)
-        } else {
-            String::new()
-        },
+        format!(" (segments: {})", repeats.passes * repeats.segment),
         repeats.passes,
     );
     println!(
@@ -58,19 +65,35 @@ fn print_head(repeats: Repeats) {
         "- Sizes: escape and unescape get 1,048,576 bytes. ns/byte and MB/s (1,000,000 bytes a \
          second) are of the input's bytes."
     );
-    if cfg!(feature = "unit") {
-        println!(
-            "- Units: the size is that of the OBUs together. Of 1 KiB and 64 KiB there are 1,024 \
-             and 16 different units, handled in turn."
-        );
-    }
-    if cfg!(feature = "segment") {
-        println!(
-            "- check_segment: plain C only copies the units' bytes out of the packets and checks \
-             nothing; the results are found equal to what was multiplexed."
-        );
-    }
+    println!(
+        "- Units: the size is that of the OBUs together. Of 1 KiB and 64 KiB there are 1,024 and 16 \
+         different units, handled in turn."
+    );
+    println!("- crc32: the sections of 100 bytes are 10,485 different ones, handled in turn.");
+    println!(
+        "- Headers: of the {PACKETS} packets of a multiplexed segment of 12 MB. read_header gives \
+         one packet's fields, a call a packet; count_headers counts in one call those that pass 21, \
+         22 and 23, and keeps no field. memcpy is of whole packets."
+    );
+    println!(
+        "- check_segment: plain C only copies the units' bytes out of the packets and checks \
+         nothing; the results are found equal to what was multiplexed."
+    );
     println!();
+}
+
+impl Table {
+    fn print(&self, rows: &[Row]) {
+        let Table { item, a_second } = self;
+        println!(
+            "| Function | Input | Size | Library ns/{item} | Library {a_second} | Plain C ns/{item} | \
+             memcpy ns/{item} | Library / plain C | Library / memcpy |"
+        );
+        println!("|---|---|---|{}", "---:|".repeat(6));
+        for row in rows {
+            println!("{}", line(row));
+        }
+    }
 }
 
 fn line(row: &Row) -> String {

@@ -94,7 +94,7 @@ fn write_row(units: &Units, repeats: usize) -> Result<Row, String> {
         kind: units.kind,
         size: units.size,
         inputs: &units.lists,
-        bytes: units.lists.iter().map(|list| list.bytes.len()).sum(),
+        amount: units.lists.iter().map(|list| list.bytes.len()).sum(),
     };
     case.compare(
         repeats,
@@ -111,6 +111,6 @@ fn case_of_carried<'a>(function: &'static str, units: &'a Units) -> Case<'a, Vec
         kind: units.kind,
         size: units.size,
         inputs: &units.carried,
-        bytes: units.carried.iter().map(Vec::len).sum(),
+        amount: units.carried.iter().map(Vec::len).sum(),
     }
 }
