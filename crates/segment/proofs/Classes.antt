@@ -1,8 +1,7 @@
 -- What a packet's PID is, from the tables as the code keeps them, and whether a PCR counted. Assumes nothing.
 use Prim.Native.Nat.{ℕ}
-use mathlib.Core.Bool.{Bool, true, false, not, _&&_, _||_}
+use mathlib.Core.Bool.{Bool, true, false, not, _&&_}
 use mathlib.Core.Path.{_≡_, refl, sym, ap, _∙_}
-use mathlib.Core.Option.{Option, none, some}
 use native.Mathlib.Omega.{arith}
 use borrow.Author.Tests.{eq-eqb, ne-eqb}
 use lib.Dec.{eqb}
@@ -25,8 +24,8 @@ use Rattle.segment.specs.declared.state.PmtFound.{PmtFound}
 use Rattle.segment.specs.declared.state.PmtSeen.{PmtSeen}
 use Rattle.segment.specs.declared.state.PmtSeen.the-variants as pmt
 use Rattle.segment.specs.declared.tables.Tables.{Tables}
-use Rattle.segment.specs.State.{FirstPmt, listedAs, namedAs, kindOf}
-use Rattle.segment.specs.Rules.{isPcrPid, pcrSeenAfter}
+use Rattle.segment.specs.State.{listedAs, namedAs, kindOf}
+use Rattle.segment.specs.Rules.{pcrSeenAfter}
 use Rattle.segment.specs.Parts.{Extracted, patOf, pmtOf, stateOf, listedIn}
 
 -- ---- among the listed PIDs

@@ -1,8 +1,8 @@
 -- The check of a packet's counter, from the check of its record. Assumes nothing.
 use Prim.Native.Nat.{ℕ}
-use mathlib.Core.Path.{_≡_, refl, sym, ap, _∙_}
+use mathlib.Core.Path.{_≡_, refl, ap, _∙_}
 use mathlib.Core.List.{List}
-use lib.ListN.{getD, set}
+use lib.ListN.{set}
 use Rattle.refusal.specs.Verdict.{Verdict, passed, _>>=_}
 use Rattle.packet.specs.declared.counter.Stream.{Stream}
 use Rattle.packet.specs.declared.counter.Counter.{Counter}
@@ -10,7 +10,7 @@ use Rattle.packet.specs.declared.counter.Counter.the-variants as counter
 use Rattle.packet.specs.declared.counter.Counted.{Counted}
 use Rattle.packet.specs.declared.counter.Checked.{Checked}
 use Rattle.packet.specs.declared.streams.Streams.{Streams}
-use Rattle.packet.specs.Counter.{named, check, counterSays, checkedSays}
+use Rattle.packet.specs.Counter.{check, counterSays, checkedSays}
 use Rattle.packet.specs.Streams.{listed, recordAt, putBack}
 use Rattle.packet.proofs.Slots.{put-listed}
 use Rattle.segment.specs.declared.state.Outcome.{Outcome}

@@ -1,14 +1,14 @@
 -- The end of the check: the open PES closes, then 33; and the answer with the outputs that it leaves. Assumes nothing.
 use Prim.Native.Nat.{ℕ, _/_, _%_}
-use mathlib.Core.Bool.{Bool, true, false, or-true}
+use mathlib.Core.Bool.{true, false, or-true}
 use mathlib.Core.Path.{_≡_, refl, sym, ap, ap₂, subst, _∙_}
-use mathlib.Core.List.{List, [], _∷_, _++_, append-nil}
+use mathlib.Core.List.{List, [], _++_, append-nil}
 use mathlib.Core.Option.{Option, none, some}
 use borrow.Author.Tests.{eq-eqb, ne-eqb}
 use lib.Dec.{ltb}
 use lib.ListN.{length, replicate}
 use Rattle.lists.specs.Lists.{Bytes, over}
-use Rattle.refusal.specs.Verdict.{Verdict, passed, refused, _>>=_, _>>_, given}
+use Rattle.refusal.specs.Verdict.{Verdict, passed, refused, _>>=_, _>>_}
 use Rattle.refusal.specs.Number.{refusedBy}
 use Rattle.refusal.specs.declared.Refused.{Refused}
 use Rattle.refusal.proofs.Verdicts.{never, passed-same, refuse, pass-on}
@@ -21,7 +21,6 @@ use Rattle.segment.specs.declared.state.PatSeen.the-variants as pat
 use Rattle.segment.specs.declared.state.PmtFound.{PmtFound}
 use Rattle.segment.specs.declared.state.PmtSeen.{PmtSeen}
 use Rattle.segment.specs.declared.state.PmtSeen.the-variants as pmt
-use Rattle.segment.specs.declared.state.PesSeen.{PesSeen}
 use Rattle.segment.specs.declared.state.PesSeen.the-variants as seen
 use Rattle.segment.specs.declared.state.Totals.{Totals}
 use Rattle.segment.specs.declared.tables.Tables.{Tables}
@@ -31,7 +30,7 @@ use Rattle.segment.specs.declared.whole.SegmentCheck.{SegmentCheck}
 use Rattle.segment.specs.declared.whole.SegmentCheck.the-variants as checked
 use Rattle.segment.specs.State.{FirstPat, FirstPmt, AccessUnit, State, packetCount}
 use Rattle.segment.specs.Rules.{closePes, openBytes, carriedUnits}
-use Rattle.segment.specs.Check.{Accepted, Progress, Outputs, start, run, packets, rule20, segmentLengthWrong, accepted, ending, checkSegment, roomsOf, lengths, timesInTurn, holding, zeros, leaves, outputsOf}
+use Rattle.segment.specs.Check.{Accepted, Progress, Outputs, start, run, packets, segmentLengthWrong, accepted, ending, checkSegment, roomsOf, holding, zeros, leaves, outputsOf}
 use Rattle.segment.specs.Answer.{summaryOf, summarised, checkSays}
 use Rattle.segment.specs.Parts.{Extracted, patOf, pmtOf, stateOf, pesOf, withExtracted, Stands, FollowsBy, JudgesBy}
 

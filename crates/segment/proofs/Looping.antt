@@ -1,7 +1,7 @@
 -- The loop over the packets, from the steps of the code. Assumes nothing.
-use Prim.Native.Nat.{ℕ, _+_, _*_, _/_, _%_, _≤_, _<_}
+use Prim.Native.Nat.{ℕ, _+_, _/_, _%_, _≤_, _<_}
 use mathlib.Core.Bool.{false, not, _||_}
-use mathlib.Core.Path.{_≡_, refl, sym, ap, subst, _∙_}
+use mathlib.Core.Path.{_≡_, sym, ap, subst, _∙_}
 use mathlib.Core.List.{List}
 use borrow.Author.Tests.{ltb-false}
 use lib.Dec.{eqb, ltb}
@@ -20,8 +20,8 @@ use Rattle.segment.specs.declared.extraction.Extraction.{Extraction}
 use Rattle.segment.specs.declared.packets.Stepped.{Stepped}
 use Rattle.segment.specs.declared.whole.Ran.{Ran}
 use Rattle.segment.specs.State.{noneYet, counting}
-use Rattle.segment.specs.Check.{Outputs, roomsOf, start, run, packets, segmentLengthWrong, outputsOf}
-use Rattle.segment.specs.Parts.{Extracted, stateOf, freshTables, freshExtraction, Steps, RunsBy}
+use Rattle.segment.specs.Check.{Outputs, roomsOf, start, run, packets, segmentLengthWrong}
+use Rattle.segment.specs.Parts.{stateOf, freshTables, freshExtraction, Steps, RunsBy}
 use Rattle.segment.proofs.Running.{Running, running-start, running-next, running-refused, running-end}
 use Rattle.segment.proofs.Stepping.{step-passed, step-refused}
 

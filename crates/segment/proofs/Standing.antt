@@ -1,6 +1,6 @@
 -- The code's places and the three outputs against what has been extracted (`Stands`): at the start, after a payload's bytes, after a unit's end. Assumes
 -- nothing.
-use Prim.Native.Nat.{ℕ, suc, _+_, _-_, _*_, _≤_, _<_}
+use Prim.Native.Nat.{ℕ, suc, _+_, _*_, _≤_, _<_}
 use mathlib.Core.Path.{_≡_, refl, sym, ap, ap₂, subst, _∙_}
 use mathlib.Core.List.{List, [], _∷_, _++_, map, flatten, append-nil, append-assoc}
 use mathlib.Core.Option.{none, some}

@@ -1,24 +1,24 @@
 -- One packet: what the calls of the code say of its header, its tables and its payload, put together. Assumes nothing.
-use Prim.Native.Nat.{ℕ, zero, suc, _+_, _-_, _*_, _≤_, _<_}
-use mathlib.Core.Bool.{Bool, true, false, not, _&&_, and-false}
+use Prim.Native.Nat.{ℕ, _+_, _-_, _*_, _≤_}
+use mathlib.Core.Bool.{Bool, true, false, _&&_}
 use mathlib.Core.Path.{_≡_, refl, sym, ap, ap₂, subst, _∙_}
-use mathlib.Core.List.{List, [], _∷_}
+use mathlib.Core.List.{List, []}
 use native.Mathlib.Omega.{arith}
 use borrow.Author.Tests.{ltb-true, ltb-false}
 use lib.Dec.{ltb}
-use lib.ListN.{length, take, drop, length-take, length-drop, drop-of-length-le}
+use lib.ListN.{length, take, drop, length-drop, drop-of-length-le}
 use lib.Seq.{drop-drop, length-take-le}
 use Rattle.lists.specs.Lists.{Bytes, pick}
 use Rattle.lists.proofs.Parts.{drop-take}
 use Rattle.lists.proofs.Picks.{by-true, by-false}
 use Rattle.lists.proofs.Tests.{case}
-use Rattle.refusal.specs.Verdict.{Verdict, passed, refused, _>>=_, _>>_, atPlace}
+use Rattle.refusal.specs.Verdict.{Verdict, passed, _>>=_, _>>_, atPlace}
 use Rattle.refusal.specs.Number.{refusedBy}
 use Rattle.refusal.specs.declared.Refused.{Refused}
 use Rattle.packet.specs.declared.header.Header.{Header}
 use Rattle.packet.specs.declared.header.PacketRead.{PacketRead}
 use Rattle.packet.specs.declared.header.PacketRead.the-variants as answer
-use Rattle.packet.specs.Header.{pid, fields, headerOf, packetSays, hasPayload, payload, payloadPlace, payloadUnitStartIndicator, packetLength}
+use Rattle.packet.specs.Header.{pid, fields, headerOf, packetSays, hasPayload, payload, payloadUnitStartIndicator}
 use Rattle.packet.proofs.Headers.{payload-from, passed-fields}
 use Rattle.segment.specs.declared.state.Kind.{Kind}
 use Rattle.segment.specs.declared.state.Outcome.{Outcome}
@@ -27,7 +27,7 @@ use Rattle.segment.specs.declared.tables.Tables.{Tables}
 use Rattle.segment.specs.declared.extraction.Extraction.{Extraction}
 use Rattle.segment.specs.declared.packets.Stepped.{Stepped}
 use Rattle.segment.specs.State.{State, kindOf}
-use Rattle.segment.specs.Rules.{Rooms, isAv1}
+use Rattle.segment.specs.Rules.{isAv1}
 use Rattle.segment.specs.Check.{Outputs, roomsOf}
 use Rattle.segment.specs.Parts.{Extracted, outcomeSays, placedAt, stateOf, LiesAt, EndsAt, Stands, FollowsBy, GoesBy, Goes, Steps, packetAt, payloadRule, tablesRule, readRule, packetRule}
 

@@ -2,12 +2,10 @@
 use Prim.Native.Nat.{ℕ}
 use mathlib.Core.Bool.{Bool, true, false, not}
 use mathlib.Core.Path.{_≡_, refl, sym, ap, _∙_}
-use Rattle.lists.specs.Lists.{Bytes, pick}
+use Rattle.lists.specs.Lists.{Bytes}
 use Rattle.lists.proofs.Picks.{by-true, by-false}
-use Rattle.refusal.specs.Verdict.{Verdict, passed, refused, _>>=_, atPlace}
-use Rattle.refusal.specs.Number.{refusedBy}
+use Rattle.refusal.specs.Verdict.{Verdict, passed, _>>=_, atPlace}
 use Rattle.refusal.specs.declared.Refused.{Refused}
-use Rattle.packet.specs.declared.counter.Counted.{Counted}
 use Rattle.packet.specs.Header.{fields, hasPayload, payload, payloadUnitStartIndicator}
 use Rattle.packet.specs.Counter.{counted}
 use Rattle.segment.specs.declared.state.Kind.{Kind}

@@ -1,8 +1,7 @@
 -- What the check's answer says. Assumes nothing.
-use mathlib.Core.List.{List}
 use lib.ListN.{length}
 use Rattle.lists.specs.Lists.{Bytes}
-use Rattle.refusal.specs.Verdict.{Verdict, passed, refused, _>>=_}
+use Rattle.refusal.specs.Verdict.{Verdict, passed, _>>=_}
 use Rattle.refusal.specs.Number.{refusedBy}
 use Rattle.segment.specs.Rules.{Rooms}
 use Rattle.segment.specs.Check.{Accepted, checkSegment}

@@ -1,19 +1,18 @@
 -- What the promises of private functions cite; no public promise does: what the code's state stands for. Assumes nothing.
 use Prim.Native.Nat.{ℕ, _+_, _*_, _≤_, _<_}
-use mathlib.Core.Bool.{Bool, true, false, not, _&&_, _||_}
+use mathlib.Core.Bool.{Bool, false, not, _&&_, _||_}
 use mathlib.Core.Path.{_≡_}
-use mathlib.Core.List.{List, [], _∷_, _++_, map}
+use mathlib.Core.List.{List, _++_, map}
 use mathlib.Core.Option.{Option, none, some}
-use lib.Dec.{eqb, ltb}
+use lib.Dec.{ltb}
 use lib.ListN.{length, take, drop}
 use Rattle.lists.specs.Lists.{Bytes, pick, over}
-use Rattle.refusal.specs.Verdict.{Verdict, passed, refused, _>>=_, _>>_, given, atPlace}
+use Rattle.refusal.specs.Verdict.{Verdict, passed, _>>=_, _>>_, given, atPlace}
 use Rattle.refusal.specs.Number.{refusedBy}
 use Rattle.packet.specs.Header as packet
 use Rattle.packet.specs.Header.{pid, hasPayload, payload, payloadUnitStartIndicator, packetLength}
 use Rattle.packet.specs.declared.counter.Counter.{Counter}
 use Rattle.packet.specs.declared.counter.Counter.the-variants as counter
-use Rattle.packet.specs.declared.streams.Slot.{Slot}
 use Rattle.packet.specs.Counter.{named}
 use Rattle.packet.specs.Streams.{listed, lookUp, noStreams}
 use Rattle.pes.specs.Pes as pes
@@ -39,13 +38,12 @@ use Rattle.segment.specs.declared.extraction.Extraction.{Extraction}
 use Rattle.segment.specs.declared.extraction.ExtractionTurn.{ExtractionTurn}
 use Rattle.segment.specs.declared.packets.Stepped.{Stepped}
 use Rattle.segment.specs.declared.whole.Ran.{Ran}
-use Rattle.segment.specs.declared.whole.Summary.{Summary}
 use Rattle.segment.specs.declared.whole.SegmentCheck.{SegmentCheck}
 use Rattle.segment.specs.declared.whole.SegmentCheck.the-variants as checked
 use Rattle.segment.specs.State as state
 use Rattle.segment.specs.State.{FirstPat, FirstPmt, OpenPes, AccessUnit, State, withPes, listedAs, kindOf, packetCount}
-use Rattle.segment.specs.Rules.{Rooms, Rule, closePes, isAv1, isOpen, openBytes, carriedUnits, carriedSoFar, sectionRead, pcrCounts, rule24, rules25to28}
-use Rattle.segment.specs.Check.{Accepted, Progress, start, run, packets, accepted, ending, checkSegment, Outputs, outputsOf, roomsOf, lengths, timesInTurn, holding, segmentLengthWrong}
+use Rattle.segment.specs.Rules.{Rooms, Rule, closePes, isAv1, isOpen, openBytes, carriedUnits, carriedSoFar, pcrCounts, rule24, rules25to28}
+use Rattle.segment.specs.Check.{Accepted, start, run, packets, checkSegment, Outputs, outputsOf, roomsOf, lengths, timesInTurn, holding}
 use Rattle.segment.specs.Answer.{summaryOf}
 
 -- ---- verdicts

@@ -6,15 +6,13 @@ use mathlib.Core.Option.{Option, none, some}
 use lib.Dec.{eqb, ltb}
 use lib.ListN.{length, getD, set}
 use Rattle.lists.specs.Lists.{Bytes, pick, same}
-use Rattle.refusal.specs.Verdict.{Verdict, passed, refused, _>>=_, _>>_, given, atPlace}
+use Rattle.refusal.specs.Verdict.{Verdict, passed, _>>=_, _>>_, given, atPlace}
 use Rattle.descriptor.specs.Descriptor.{av01}
 use Rattle.packet.specs.Header as packet
 use Rattle.packet.specs.Header.{pid, hasPayload, payload, payloadUnitStartIndicator, startsPes, pcrFlag, nullPid, syncLost, transportErrorIndicator}
-use Rattle.packet.specs.declared.counter.Stream.{Stream}
 use Rattle.packet.specs.declared.counter.Counted.{Counted}
 use Rattle.packet.specs.Counter.{named, counted, check}
 use Rattle.psi.specs.Section.{misplaced, sectionOf}
-use Rattle.psi.specs.declared.pat.Program.{Program}
 use Rattle.psi.specs.Pat.{readPat}
 use Rattle.pmt.specs.Pmt.{MapContent, readPmt}
 use Rattle.pes.specs.declared.header.Header.{Header}

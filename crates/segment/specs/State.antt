@@ -1,6 +1,6 @@
 -- What the packets of a segment have said so far. The words of document 01, "A segment", stand over each definition. `Kind` and `Totals` (src/state.rt)
 -- are what a packet's PID is at that moment, and the packets in their five classes. Assumes nothing.
-use Prim.Native.Nat.{ℕ, suc, _+_}
+use Prim.Native.Nat.{ℕ, _+_}
 use mathlib.Core.Bool.{Bool, false}
 use mathlib.Core.List.{List, [], _∷_, _++_}
 use mathlib.Core.Option.{Option, none, some}

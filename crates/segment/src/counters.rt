@@ -1,6 +1,6 @@
 // The counters of PID 0, the map PID and the listed PIDs.
 ghost use mathlib.Core.Path.{_≡_};
-ghost use Rattle.packet.specs.Counter.{counterSays, named};
+ghost use Rattle.packet.specs.Counter.{named};
 ghost use Rattle.packet.specs.Streams.{noStreams};
 ghost use Rattle.segment.specs.declared.state.Kind.the-variants as kind;
 ghost use Rattle.segment.specs.Rules.{countersAfter, listedChecked};

@@ -1,5 +1,5 @@
 -- Each part is what its call gives.
-use mathlib.Core.Path.{_≡_, ap₂}
+use mathlib.Core.Path.{ap₂}
 use Rattle.packet.specs.declared.counter.Stream.{Stream}
 use Rattle.packet.specs.declared.streams.Streams.{Streams}
 use borrow.Author.Needs.{needs}

@@ -1,7 +1,7 @@
 -- The tables and the payload are what their calls say, one after the other (`Stepping`).
 use Prim.Native.Nat.{_-_}
 use mathlib.Core.Bool.{Bool, _&&_, and-false}
-use mathlib.Core.Path.{_≡_, refl, sym, ap, ap₂, subst, _∙_}
+use mathlib.Core.Path.{refl, sym, ap, ap₂, subst, _∙_}
 use native.Mathlib.Omega.{arith}
 use lib.ListN.{length, length-drop}
 use Rattle.lists.specs.Lists.{Bytes}

@@ -1,5 +1,4 @@
 -- By the payload start.
-use mathlib.Core.Path.{refl}
 use Rattle.segment.proofs.Extracting.{payload-starts, payload-adds}
 use borrow.Author.Needs.{needs}
 use Rattle.segment.proofs.packets.take_payload.Statement.{statement}

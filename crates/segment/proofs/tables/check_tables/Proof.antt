@@ -1,5 +1,5 @@
 -- The PCR, the counter and the section are what their calls say, in the rules' order (`Tabling`).
-use mathlib.Core.Path.{_≡_, refl, sym, ap, _∙_}
+use mathlib.Core.Path.{sym, ap, _∙_}
 use Rattle.packet.specs.declared.counter.Counted.{Counted}
 use Rattle.packet.specs.declared.header.Header.{Header}
 use Rattle.packet.specs.Counter.{counted}

@@ -1,6 +1,6 @@
 -- As many packets as the index says have passed, and the run of the rest from here is the whole run (`Running`).
-use Prim.Native.Nat.{_-_, _*_}
-use mathlib.Core.Path.{refl, sym, _∙_}
+use Prim.Native.Nat.{_-_}
+use mathlib.Core.Path.{refl, _∙_}
 use native.Mathlib.Omega.{arith}
 use borrow.Author.Needs.{needs}
 use Rattle.segment.specs.Check.{outputsOf}

@@ -1,5 +1,5 @@
 -- Case by case of the kind, each by its own function.
-use mathlib.Core.Path.{_≡_, refl, sym, ap, _∙_}
+use mathlib.Core.Path.{sym, ap, _∙_}
 use Rattle.segment.specs.declared.state.Kind.{Kind}
 use Rattle.segment.specs.Rules.{countersAfter}
 use Rattle.segment.specs.Parts.{countersOf}
