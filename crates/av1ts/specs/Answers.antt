@@ -5,7 +5,7 @@ use mathlib.Core.List.{List, [], _∷_}
 use lib.Dec.{eqb, ltb}
 use Rattle.lists.specs.Lists.{Bytes, pick}
 use Rattle.lists.specs.Bytes.{byte}
-use Rattle.refusal.specs.Verdict.{Verdict, passed, refused, _>>=_, _>>_, given}
+use Rattle.refusal.specs.Verdict.{Verdict, passed, refused, _>>_, given}
 use Rattle.emulation.specs.declared.unescaping.Counts.{Counts as Unescaped}
 use Rattle.unit.specs.declared.reading.Counts.{Counts as Unit}
 use Rattle.unit.specs.Walk.{Found, payload, end}

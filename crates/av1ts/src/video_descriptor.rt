@@ -128,7 +128,7 @@ pub extern "C" fn av1ts_write_descriptor(
 {
     if 1 < delay_present {
         return refusal(Refused {
-            why: Refusal::DescriptorField,
+            why: Refusal::DESCRIPTOR_FIELD,
             place: 0,
         });
     }

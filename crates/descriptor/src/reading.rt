@@ -94,7 +94,7 @@ pub fn read(bytes: &[u8]) -> VideoRead
 {
     if wrong(bytes) {
         return VideoRead::Refused(Refused {
-            why: Refusal::Descriptor,
+            why: Refusal::DESCRIPTOR,
             place: 0,
         });
     }

@@ -146,13 +146,13 @@ pub fn write(fields: Fields, delay: Delay, out: &mut [u8]) -> Written
 {
     if past_width(fields, delay) {
         return Written::Refused(Refused {
-            why: Refusal::DescriptorField,
+            why: Refusal::DESCRIPTOR_FIELD,
             place: 0,
         });
     }
     if out.len() < 6 {
         return Written::Refused(Refused {
-            why: Refusal::NoRoom,
+            why: Refusal::NO_ROOM,
             place: 0,
         });
     }

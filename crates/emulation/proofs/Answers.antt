@@ -1,6 +1,6 @@
 -- What a verdict on a payload says of it. Assumes nothing.
 use Prim.Native.Nat.{ℕ, _-_, _≤_, _<_}
-use mathlib.Core.Bool.{Bool, true, false, not}
+use mathlib.Core.Bool.{true, false, not}
 use mathlib.Core.Path.{_≡_, refl, sym, ap, ap₂, _∙_}
 use native.Mathlib.Omega.{arith}
 use borrow.Author.Tests.{lt-ltb, le-ltb}
@@ -8,7 +8,7 @@ use lib.ListN.{length}
 use Rattle.lists.specs.Lists.{Bytes}
 use Rattle.lists.proofs.Tests.{case}
 use Rattle.refusal.specs.declared.Refused.{Refused}
-use Rattle.refusal.specs.Verdict.{Verdict, passed, refused, _>>_, given, atPlace}
+use Rattle.refusal.specs.Verdict.{passed, refused}
 use Rattle.refusal.specs.Number.{numberOf, refusedBy}
 use Rattle.refusal.proofs.Verdicts.{refuse, pass-on, refuse-at, pass-at, passed-same}
 use Rattle.emulation.specs.Payload.{legal, firstForbidden, dropped, unescape}

@@ -1,14 +1,14 @@
 -- Unescaping and legality once more, a byte at a time, by the payload bytes that came last. `specs/Payload.antt` looks ahead and these look back,
 -- so that they go in step with `escapeAfter`; each is proved to be what the specs say. Assumes nothing.
-use Prim.Native.Nat.{ℕ, zero, suc, _+_, _-_, _*_, _≤_, _<_}
-use mathlib.Core.Bool.{Bool, true, false, not, _&&_, _||_, true≢false, and-false, or-false, or-true}
-use mathlib.Core.Path.{_≡_, refl, sym, ap, subst, _∙_}
-use mathlib.Core.List.{List, [], _∷_, _++_}
+use Prim.Native.Nat.{ℕ, _≤_}
+use mathlib.Core.Bool.{Bool, true, false, not, _&&_, _||_, and-false, or-false, or-true}
+use mathlib.Core.Path.{_≡_, refl, sym, ap, _∙_}
+use mathlib.Core.List.{List, [], _∷_}
 use native.Mathlib.Omega.{arith}
-use borrow.Author.Tests.{eqb-true, eqb-false, leb-true, leb-false, eq-eqb, ne-eqb, le-leb, lt-leb, ltb-true, ltb-false, le-ltb, not-true}
+use borrow.Author.Tests.{eqb-true, eqb-false, leb-true, le-leb, ltb-false, le-ltb, not-true}
 use lib.Dec.{leb, ltb, eqb}
 use Rattle.lists.proofs.Tests.{case, clash, and-both}
-use Rattle.emulation.specs.Payload.{stuffed, escapeAfter, marked3, unescape, forbidden, above3, legal}
+use Rattle.emulation.specs.Payload.{stuffed, marked3, unescape, forbidden, above3, legal}
 use Rattle.emulation.specs.Parts.{marked}
 use Rattle.emulation.proofs.Steps.{marked-is, unescape-plain, unescape-marked}
 

@@ -88,7 +88,7 @@ pub fn escaped_length(obu: &[u8]) -> Escaped
 {
     if MOST_ESCAPED < obu.len() {
         return Escaped::Refused(Refused {
-            why: Refusal::Length,
+            why: Refusal::LENGTH,
             place: 0,
         });
     }
@@ -163,14 +163,14 @@ pub fn escape(obu: &[u8], out: &mut [u8]) -> Escaped
 {
     if MOST_ESCAPED < obu.len() {
         return Escaped::Refused(Refused {
-            why: Refusal::Length,
+            why: Refusal::LENGTH,
             place: 0,
         });
     }
     let n = measure(obu);
     if out.len() < n {
         return Escaped::Refused(Refused {
-            why: Refusal::NoRoom,
+            why: Refusal::NO_ROOM,
             place: 0,
         });
     }

@@ -124,7 +124,7 @@ pub fn judge(payload: &[u8]) -> Judged
             // where it stopped before the end of the block
             if forbidden_at(payload, i) {
                 return Judged::Illegal(Refused {
-                    why: Refusal::IllegalPayload,
+                    why: Refusal::ILLEGAL_PAYLOAD,
                     place: i,
                 });
             }
@@ -200,7 +200,7 @@ pub fn unescape(payload: &[u8], out: &mut [u8]) -> Unescaped
 {
     if MOST_UNESCAPED < payload.len() {
         return Unescaped::Refused(Refused {
-            why: Refusal::Length,
+            why: Refusal::LENGTH,
             place: 0,
         });
     }
@@ -211,7 +211,7 @@ pub fn unescape(payload: &[u8], out: &mut [u8]) -> Unescaped
             let written = payload.len() - dropped;
             if out.len() < written {
                 return Unescaped::Refused(Refused {
-                    why: Refusal::NoRoom,
+                    why: Refusal::NO_ROOM,
                     place: 0,
                 });
             }

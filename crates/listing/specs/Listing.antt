@@ -6,7 +6,7 @@ use lib.Dec.{ltb}
 use lib.ListN.{length}
 use Rattle.lists.specs.Lists.{Bytes}
 use Rattle.lists.specs.Bytes.{byte}
-use Rattle.refusal.specs.Verdict.{Verdict, passed, refused, _>>=_, _>>_, given}
+use Rattle.refusal.specs.Verdict.{Verdict, passed, refused, _>>_, given}
 use Rattle.refusal.specs.Number.{refusedBy}
 use Rattle.emulation.specs.Payload.{unescape, dropped}
 use Rattle.obu.specs.Header.{typeBits}

@@ -56,7 +56,7 @@ fn put_text(text: &mut [u8], unit: &[u8]) -> usize
         return put_refusal(
             text,
             Refused {
-                why: Refusal::Length,
+                why: Refusal::LENGTH,
                 place: 0,
             },
         );
@@ -81,7 +81,7 @@ pub fn list(unit: &[u8], out: &mut [u8]) -> Listed
     let n = put_text(&mut text, unit);
     if out.len() < n {
         return Listed::Refused(Refused {
-            why: Refusal::NoRoom,
+            why: Refusal::NO_ROOM,
             place: 0,
         });
     }

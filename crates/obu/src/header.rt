@@ -113,7 +113,7 @@ fn sized_header(first: u8, rest: &[u8]) -> Judged
     }
     let leb = read_leb128(rest);
     match leb {
-        Leb::Bad => refuse(Refusal::ObuSize),
+        Leb::Bad => refuse(Refusal::OBU_SIZE),
         Leb::Number { value, width } => {
             Judged::Passed(header_with(first, Size::Present { value, width }))
         }
@@ -125,14 +125,14 @@ pub fn read_header(obu: &[u8]) -> Judged
     ensures { λ r. ⌜ judgedSays r ≡ headerOf (now (obu .entry)) ⌝ }
 {
     if obu.len() == 0 {
-        return refuse(Refusal::EmptyObu);
+        return refuse(Refusal::EMPTY_OBU);
     }
     let first = obu[0];
     if forbidden_bit(first) {
-        return refuse(Refusal::ObuHeader);
+        return refuse(Refusal::OBU_HEADER);
     }
     if extension_missing(first, obu.len()) {
-        return refuse(Refusal::ObuHeader);
+        return refuse(Refusal::OBU_HEADER);
     }
     let fixed = fixed_bytes(first);
     sized_header(first, &obu[fixed..])
@@ -178,13 +178,13 @@ pub fn judge(prefix: &[u8], length: usize) -> Judged
         return read;
     };
     if size_wrong(header, length) {
-        return refuse(Refusal::ObuSize);
+        return refuse(Refusal::OBU_SIZE);
     }
     if delimiter_with_content(header, length) {
-        return refuse(Refusal::ObuSize);
+        return refuse(Refusal::OBU_SIZE);
     }
     if header.obu_type == 8 {
-        return refuse(Refusal::TileList);
+        return refuse(Refusal::TILE_LIST);
     }
     Judged::Passed(header)
 }

@@ -19,7 +19,7 @@ fn broken(place: usize) -> Ordered
     ensures { λ r. ⌜ orderedSays r ≡ refused 7 place ⌝ }
 {
     Ordered::Refused(Refused {
-        why: Refusal::Order,
+        why: Refusal::ORDER,
         place,
     })
 }

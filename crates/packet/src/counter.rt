@@ -95,7 +95,7 @@ impl Stream {
         Checked {
             stream: self,
             verdict: Counter::Refused(Refused {
-                why: Refusal::ContinuityCounter,
+                why: Refusal::CONTINUITY_COUNTER,
                 place: 0,
             }),
         }

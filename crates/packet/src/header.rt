@@ -248,13 +248,13 @@ pub fn read(packet: &[u8]) -> PacketRead
     ensures { λ r. ⌜ packetSays r ≡ headerOf (now (packet .entry)) ⌝ }
 {
     if byte_at(packet, 0) != 0x47 {
-        return refuse(Refusal::SyncByte);
+        return refuse(Refusal::SYNC_BYTE);
     }
     if transport_error_indicator(packet) {
-        return refuse(Refusal::TransportError);
+        return refuse(Refusal::TRANSPORT_ERROR);
     }
     if header_wrong(packet) {
-        return refuse(Refusal::PacketHeader);
+        return refuse(Refusal::PACKET_HEADER);
     }
     PacketRead::Header(header_fields(packet))
 }

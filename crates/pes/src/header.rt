@@ -43,7 +43,7 @@ pub fn read(payload: &[u8]) -> PesRead
 {
     if header_wrong(payload) {
         return PesRead::Refused(Refused {
-            why: Refusal::PesHeader,
+            why: Refusal::PES_HEADER,
             place: 0,
         });
     }

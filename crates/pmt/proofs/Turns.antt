@@ -10,7 +10,7 @@ use lib.Seq.{drop-drop}
 use Rattle.lists.specs.Lists.{Bytes}
 use Rattle.lists.proofs.Tests.{or-neither}
 use Rattle.lists.proofs.Parts.{to-end}
-use Rattle.refusal.specs.Verdict.{passed, refused, _>>=_, _>>_}
+use Rattle.refusal.specs.Verdict.{passed, refused, _>>=_}
 use Rattle.refusal.proofs.Verdicts.{go-on, stop, passed-then, passed-after, passed-same, given-passed}
 use Rattle.pmt.specs.Pmt.{MapEntry, entrySize, entry, pids, mostEntries, entriesAfter}
 use Rattle.pmt.specs.Pmt as pmt

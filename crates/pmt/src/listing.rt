@@ -188,7 +188,7 @@ pub(crate) fn list_entries(s: &[u8], map_pid: u16) -> Listed
     while at < s.len() {
         if MOST_ENTRIES <= count {
             return Listed {
-                answer: ListAnswer::Refused(Refusal::EntryCount),
+                answer: ListAnswer::Refused(Refusal::ENTRY_COUNT),
                 count,
                 entries,
                 av1,
@@ -198,7 +198,7 @@ pub(crate) fn list_entries(s: &[u8], map_pid: u16) -> Listed
         match read {
             TriedEntry::Wrong => {
                 return Listed {
-                    answer: ListAnswer::Refused(Refusal::Pmt),
+                    answer: ListAnswer::Refused(Refusal::PMT),
                     count,
                     entries,
                     av1,

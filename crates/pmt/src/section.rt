@@ -75,8 +75,8 @@ fn map_listed(pcr_pid: u16, listed: Listed) -> PmtRead
 {
     let av1 = listed.av1;
     match av1 {
-        Av1::Missing => refuse(Refusal::Av1Entry),
-        Av1::Wrong => refuse(Refusal::Av1Entry),
+        Av1::Missing => refuse(Refusal::AV1_ENTRY),
+        Av1::Wrong => refuse(Refusal::AV1_ENTRY),
         Av1::One(slot, video) => {
             let entries = listed.entries;
             let map = ProgramMap {
@@ -103,11 +103,11 @@ fn read_body(section: &[u8], map_pid: u16) -> PmtRead
     let end = section.len() - 4;
     let info = 12 + length_field(section[10], section[11]);
     if end < info {
-        return refuse(Refusal::Pmt);
+        return refuse(Refusal::PMT);
     }
     let read = read_loop(&section[12..info]);
     let Loop::Filled(_) = read else {
-        return refuse(Refusal::Pmt);
+        return refuse(Refusal::PMT);
     };
     let listed = list_entries(&section[info..end], map_pid);
     let answer = listed.answer;
@@ -123,10 +123,10 @@ pub fn read_pmt(section: &[u8], program: u16, map_pid: u16) -> PmtRead
     ensures { λ r. ⌜ r .map ≡ mapBeside (pmtSays r) ⌝ }
 {
     if psi::common_wrong(section, 2, 16) {
-        return refuse(Refusal::Pmt);
+        return refuse(Refusal::PMT);
     }
     if program_number(section[3], section[4]) != program {
-        return refuse(Refusal::Pmt);
+        return refuse(Refusal::PMT);
     }
     read_body(section, map_pid)
 }

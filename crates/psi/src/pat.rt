@@ -23,7 +23,7 @@ fn refuse() -> PatRead
     ensures { λ r. ⌜ patSays r ≡ refused 25 0 ⌝ }
 {
     PatRead::Refused(Refused {
-        why: Refusal::Pat,
+        why: Refusal::PAT,
         place: 0,
     })
 }

@@ -1,36 +1,10 @@
-// The refusals of document 01, and their numbers.
+// The refusals of document 01, each with its number.
 ghost use mathlib.Core.Path.{_≡_};
 ghost use Rattle.refusal.specs.Number.{numberOf};
 
-// Why something is refused.
-pub enum Refusal {
-    ObuCount,
-    Length,
-    EmptyObu,
-    ObuHeader,
-    ObuSize,
-    TileList,
-    Order,
-    NoRoom,
-    NoStartCode,
-    IllegalPayload,
-    SegmentLength,
-    SyncByte,
-    TransportError,
-    PacketHeader,
-    ContinuityCounter,
-    Pat,
-    Pmt,
-    EntryCount,
-    Av1Entry,
-    PesHeader,
-    NoTimes,
-    NoPcr,
-    PesLength,
-    NoTables,
-    UnitCount,
-    Descriptor,
-    DescriptorField,
+// Why something is refused: one of the constants below.
+pub struct Refusal {
+    number: u8,
 }
 
 // A refusal and its place.
@@ -40,38 +14,73 @@ pub struct Refused {
 }
 
 impl Refusal {
-    // The number that document 01 gives this refusal.
+    // Units and descriptors.
+    pub const OBU_COUNT: Refusal = Refusal { number: 1 };
+
+    pub const LENGTH: Refusal = Refusal { number: 2 };
+
+    pub const EMPTY_OBU: Refusal = Refusal { number: 3 };
+
+    pub const OBU_HEADER: Refusal = Refusal { number: 4 };
+
+    pub const OBU_SIZE: Refusal = Refusal { number: 5 };
+
+    pub const TILE_LIST: Refusal = Refusal { number: 6 };
+
+    pub const ORDER: Refusal = Refusal { number: 7 };
+
+    pub const NO_ROOM: Refusal = Refusal { number: 8 };
+
+    pub const NO_START_CODE: Refusal = Refusal { number: 9 };
+
+    pub const ILLEGAL_PAYLOAD: Refusal = Refusal { number: 10 };
+
+    pub const DESCRIPTOR: Refusal = Refusal { number: 40 };
+
+    pub const DESCRIPTOR_FIELD: Refusal = Refusal { number: 41 };
+
+    // Segments.
+    pub const SEGMENT_LENGTH: Refusal = Refusal { number: 20 };
+
+    pub const SYNC_BYTE: Refusal = Refusal { number: 21 };
+
+    pub const TRANSPORT_ERROR: Refusal = Refusal { number: 22 };
+
+    pub const PACKET_HEADER: Refusal = Refusal { number: 23 };
+
+    pub const CONTINUITY_COUNTER: Refusal = Refusal { number: 24 };
+
+    pub const PAT: Refusal = Refusal { number: 25 };
+
+    pub const PMT: Refusal = Refusal { number: 26 };
+
+    pub const ENTRY_COUNT: Refusal = Refusal { number: 27 };
+
+    pub const AV1_ENTRY: Refusal = Refusal { number: 28 };
+
+    pub const PES_HEADER: Refusal = Refusal { number: 29 };
+
+    pub const NO_TIMES: Refusal = Refusal { number: 30 };
+
+    pub const NO_PCR: Refusal = Refusal { number: 31 };
+
+    pub const PES_LENGTH: Refusal = Refusal { number: 32 };
+
+    pub const NO_TABLES: Refusal = Refusal { number: 33 };
+
+    pub const UNIT_COUNT: Refusal = Refusal { number: 34 };
+
+    // Its number.
     pub fn number(self) -> u8
         ensures { λ r. ⌜ r ≡ numberOf self ⌝ }
     {
-        match self {
-            Refusal::ObuCount => 1,
-            Refusal::Length => 2,
-            Refusal::EmptyObu => 3,
-            Refusal::ObuHeader => 4,
-            Refusal::ObuSize => 5,
-            Refusal::TileList => 6,
-            Refusal::Order => 7,
-            Refusal::NoRoom => 8,
-            Refusal::NoStartCode => 9,
-            Refusal::IllegalPayload => 10,
-            Refusal::SegmentLength => 20,
-            Refusal::SyncByte => 21,
-            Refusal::TransportError => 22,
-            Refusal::PacketHeader => 23,
-            Refusal::ContinuityCounter => 24,
-            Refusal::Pat => 25,
-            Refusal::Pmt => 26,
-            Refusal::EntryCount => 27,
-            Refusal::Av1Entry => 28,
-            Refusal::PesHeader => 29,
-            Refusal::NoTimes => 30,
-            Refusal::NoPcr => 31,
-            Refusal::PesLength => 32,
-            Refusal::NoTables => 33,
-            Refusal::UnitCount => 34,
-            Refusal::Descriptor => 40,
-            Refusal::DescriptorField => 41,
-        }
+        self.number
+    }
+
+    // This refusal, at a place.
+    pub fn at(self, place: usize) -> Refused
+        ensures { λ r. ⌜ r ≡ record { why = self; place = place } ⌝ }
+    {
+        Refused { why: self, place }
     }
 }

@@ -78,7 +78,7 @@ fn judge_unit(found: PesFound, unit: &[u8]) -> Outcome
     let place = found.first;
     if length_wrong(header, unit.len()) {
         return Outcome::Refused(Refused {
-            why: Refusal::PesLength,
+            why: Refusal::PES_LENGTH,
             place,
         });
     }
@@ -148,20 +148,20 @@ fn open_timed(
     ensures { λ r. ⌜ ((before : Outputs) (st : State) (ls ts : List ℕ) → length ls ≡ lens → length ts ≡ times → st .pcrSeen ≡ «pcr_seen» → extraction .pes ≡ PesSeen.Closed → Stands before (extractedFrom st) extraction (now (out .entry)) ls ts → Follows before st (openingTimed index (roomsOf before) header (now (bytes .entry)) st) r (now (out .exit)) ls ts) ⌝ }
 {
     if !pcr_seen {
-        return refuse(Refusal::NoPcr, index, extraction);
+        return refuse(Refusal::NO_PCR, index, extraction);
     }
     if MOST_UNITS <= extraction.units {
-        return refuse(Refusal::UnitCount, index, extraction);
+        return refuse(Refusal::UNIT_COUNT, index, extraction);
     }
     let written = extraction.start + extraction.bytes;
     if out.len() - written < bytes.len() {
-        return refuse(Refusal::NoRoom, index, extraction);
+        return refuse(Refusal::NO_ROOM, index, extraction);
     }
     if lens <= extraction.units {
-        return refuse(Refusal::NoRoom, index, extraction);
+        return refuse(Refusal::NO_ROOM, index, extraction);
     }
     if times < 2 * (extraction.units + 1) {
-        return refuse(Refusal::NoRoom, index, extraction);
+        return refuse(Refusal::NO_ROOM, index, extraction);
     }
     copy(bytes, &mut out[written..]);
     let opened = Extraction {
@@ -198,7 +198,7 @@ fn open(
             extraction,
             outcome: at_place(index, Outcome::Refused(refused)),
         },
-        PesRead::Untimed => refuse(Refusal::NoTimes, index, extraction),
+        PesRead::Untimed => refuse(Refusal::NO_TIMES, index, extraction),
         PesRead::Timed(header) => {
             let bytes = rest(payload, header.size as usize);
             open_timed(index, header, bytes, pcr_seen, extraction, out, lens, times)
@@ -241,14 +241,14 @@ pub(crate) fn add(
 {
     let pes = extraction.pes;
     let PesSeen::Open(found) = pes else {
-        return refuse(Refusal::PesHeader, index, extraction);
+        return refuse(Refusal::PES_HEADER, index, extraction);
     };
     if !pcr_seen {
-        return refuse(Refusal::NoPcr, index, extraction);
+        return refuse(Refusal::NO_PCR, index, extraction);
     }
     let written = extraction.start + extraction.bytes;
     if out.len() - written < payload.len() {
-        return refuse(Refusal::NoRoom, index, extraction);
+        return refuse(Refusal::NO_ROOM, index, extraction);
     }
     copy(payload, &mut out[written..]);
     let longer = Extraction {

@@ -104,7 +104,7 @@ fn pat_section(segment: &[u8], at: usize, size: usize, tables: Tables) -> Tables
         PatSeen::None => first_pat(section, at, size, tables),
         PatSeen::First(first) => {
             let earlier = part(segment, first.at, first.size);
-            let outcome = later_section(section, earlier, Refusal::Pat);
+            let outcome = later_section(section, earlier, Refusal::PAT);
             TablesTurn { tables, outcome }
         }
     }
@@ -191,7 +191,7 @@ fn map_section(segment: &[u8], at: usize, size: usize, pat: PatFound, tables: Ta
         PmtSeen::None => first_pmt(section, at, size, pat, tables),
         PmtSeen::First(first) => {
             let earlier = part(segment, first.at, first.size);
-            let outcome = later_section(section, earlier, Refusal::Pmt);
+            let outcome = later_section(section, earlier, Refusal::PMT);
             TablesTurn { tables, outcome }
         }
     }
@@ -215,7 +215,7 @@ fn pat_payload(segment: &[u8], at: usize, payload: &[u8], start: bool, tables: T
 {
     let found = find_section(payload, start);
     match found {
-        Found::Misplaced => refuse(Refusal::Pat, tables),
+        Found::Misplaced => refuse(Refusal::PAT, tables),
         Found::Section(size) => pat_section(segment, at + 1, size, tables),
     }
 }
@@ -227,7 +227,7 @@ fn pmt_payload(segment: &[u8], at: usize, payload: &[u8], start: bool, tables: T
 {
     let found = find_section(payload, start);
     match found {
-        Found::Misplaced => refuse(Refusal::Pmt, tables),
+        Found::Misplaced => refuse(Refusal::PMT, tables),
         Found::Section(size) => pmt_section(segment, at + 1, size, tables),
     }
 }

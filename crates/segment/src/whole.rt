@@ -104,7 +104,7 @@ fn accept(tables: Tables, units: usize, packets: usize, totals: Totals) -> Segme
     ensures { λ r. ⌜ ((segment : Bytes) (us : List AccessUnit) → units ≡ length us → packets ≡ packetCount totals → checkSays r ≡ summarised (accepted (patOf segment (tables .pat)) (pmtOf segment (tables .pmt)) us totals)) ⌝ }
 {
     let none = SegmentCheck::Refused(Refused {
-        why: Refusal::NoTables,
+        why: Refusal::NO_TABLES,
         place: packets,
     });
     let pat = tables.pat;
@@ -155,7 +155,7 @@ fn judge(segment: &[u8], out: &mut [u8], lens: &mut [usize], times: &mut [u64]) 
 {
     if length_wrong(segment) {
         return SegmentCheck::Refused(Refused {
-            why: Refusal::SegmentLength,
+            why: Refusal::SEGMENT_LENGTH,
             place: 0,
         });
     }

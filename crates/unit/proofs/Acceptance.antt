@@ -1,17 +1,16 @@
 -- What it says that reading or writing refuses nothing: each try passed. Assumes nothing.
 use Prim.Native.Nat.{ℕ, _≤_}
-use mathlib.Core.Bool.{Bool, true, false, not, _||_}
+use mathlib.Core.Bool.{true, not}
 use mathlib.Core.Path.{_≡_, refl, sym, ap, ap₂, _∙_}
-use mathlib.Core.List.{List, [], _∷_, map, flatten}
+use mathlib.Core.List.{List, map}
 use native.Mathlib.Omega.{arith}
-use borrow.Author.Tests.{eqb-true, eqb-false, ltb-false, le-ltb, eq-eqb, ne-eqb, not-false, not-true}
+use borrow.Author.Tests.{eqb-true, eqb-false, ltb-false, le-ltb, not-false}
 use lib.Dec.{ltb, eqb}
 use lib.ListN.{length}
 use Rattle.lists.specs.Lists.{Bytes}
 use Rattle.lists.proofs.Tests.{or-neither}
-use Rattle.refusal.specs.Verdict.{Verdict, passed, refused, _>>_, NoValue, given, inTurn}
+use Rattle.refusal.specs.Verdict.{passed}
 use Rattle.refusal.proofs.Verdicts.{pass-on, follows, passed-after, passed-same, given-passed, All, turns-passed, all-turns}
-use Rattle.emulation.specs.Payload.{legal, unescape}
 use Rattle.obu.specs.Header.{obuRefusal}
 use Rattle.obu.specs.Order.{kindOf, orderRefusal}
 use Rattle.unit.specs.Unit.{mostObus, mostObuBytes, mostCarried, atStartCode, payloads, obusIn, sum, tsobuRefusal, readUnit, AcceptsAs, obusOf, writeRefusal, Accepted}

@@ -4,11 +4,11 @@ use mathlib.Core.Bool.{Bool, true, false, not, _||_, or-true}
 use mathlib.Core.Path.{_≡_, refl, sym, ap, ap₂, _∙_}
 use mathlib.Core.List.{List, [], _∷_, map, flatten}
 use native.Mathlib.Omega.{arith}
-use borrow.Author.Tests.{lt-ltb, le-ltb, ltb-false}
+use borrow.Author.Tests.{lt-ltb, le-ltb}
 use lib.Dec.{ltb}
 use lib.ListN.{length, take, length-map}
 use Rattle.lists.specs.Lists.{Bytes}
-use Rattle.refusal.specs.Verdict.{Verdict, passed, refused, _>>=_, _>>_, NoValue, given, inTurn}
+use Rattle.refusal.specs.Verdict.{Verdict, passed, refused, _>>=_, _>>_, given, inTurn}
 use Rattle.refusal.proofs.Verdicts.{refuse, pass-on, follows, stops, then-bind, then-refused, never, passed-after, passed-same, passed-then}
 use Rattle.emulation.specs.Payload.{unescape}
 use Rattle.obu.specs.Order.{Kind, kindOf, kindOfType, orderRefusal}
@@ -17,8 +17,7 @@ use Rattle.unit.specs.Answer.{checking, reading, readSays}
 use Rattle.unit.specs.Parts.{obuType, endsFrom, payloadCounts, wholeCounts, JudgedUnit}
 use Rattle.unit.specs.declared.reading.Counts.{Counts}
 use Rattle.unit.specs.declared.reading.UnitRead.{UnitRead}
-use Rattle.unit.specs.declared.reading.Judged.{Judged}
-use Rattle.unit.proofs.Acceptance.{Reads, reads}
+use Rattle.unit.proofs.Acceptance.{reads}
 use Rattle.unit.proofs.Lengths.{sum-lengths}
 
 abbrev pub counts : Bytes → Counts

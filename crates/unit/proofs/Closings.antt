@@ -1,16 +1,16 @@
 -- The strings that reading accepts as a list: the writer's, with a closing 03 after some payloads that end in 00 00. Assumes nothing.
-use Prim.Native.Nat.{ℕ, zero, suc, _+_, _≤_, _<_}
-use mathlib.Core.Bool.{Bool, true, false, not, _&&_, true≢false}
+use Prim.Native.Nat.{ℕ, _<_}
+use mathlib.Core.Bool.{Bool, true, false, _&&_}
 use mathlib.Core.Path.{_≡_, refl, sym, ap, subst, _∙_}
 use mathlib.Core.Logic.{_⊎_, inl, inr}
-use mathlib.Core.List.{List, [], _∷_, _++_, map, append-nil}
+use mathlib.Core.List.{List, [], _∷_, _++_, map}
 use native.Mathlib.Omega.{arith}
-use lib.Dec.{leb, ltb, eqb}
+use lib.Dec.{eqb}
 use lib.ListN.{length, length-append}
 use Rattle.lists.specs.Lists.{Bytes}
 use Rattle.lists.proofs.Tests.{case}
 use Rattle.refusal.proofs.Verdicts.{All}
-use Rattle.emulation.specs.Payload.{legal, unescape, escape, escapeAfter, marked3}
+use Rattle.emulation.specs.Payload.{legal, unescape, escape, marked3}
 use Rattle.emulation.specs.Parts.{marked}
 use Rattle.emulation.proofs.Steps.{unescape-marked, unescape-plain}
 use Rattle.emulation.proofs.Theorems.{unescape-escape, legal-unescape}

@@ -1,20 +1,20 @@
 -- A string from one of its places on: what stands before the next start code, and the payloads from a start code on. Assumes nothing.
-use Prim.Native.Nat.{ℕ, zero, suc, _+_, _-_, _≤_, _<_}
-use mathlib.Core.Bool.{Bool, true, false, not, _&&_, true≢false}
+use Prim.Native.Nat.{ℕ, suc, _+_, _-_, _≤_, _<_}
+use mathlib.Core.Bool.{Bool, true, false}
 use mathlib.Core.Path.{_≡_, refl, sym, ap, ap₂, _∙_}
 use mathlib.Core.Logic.{_⊎_, inl, inr}
-use mathlib.Core.List.{List, [], _∷_, _++_}
+use mathlib.Core.List.{List, [], _∷_}
 use native.Mathlib.Omega.{arith}
 use native.Mathlib.Numerals.{add-one}
 use borrow.Author.Tests.{lt-ltb, le-ltb}
 use lib.Dec.{ltb, eqb}
-use lib.ListN.{length, take, drop, getD, length-drop, length-append, drop-of-length-le}
+use lib.ListN.{length, take, drop, getD, length-drop, drop-of-length-le}
 use lib.Seq.{drop-drop}
 use Rattle.lists.specs.Lists.{Bytes, those}
 use Rattle.lists.proofs.Tests.{case, clash}
 use Rattle.lists.proofs.Parts.{next, next3}
-use Rattle.unit.specs.Unit.{startCode3, atStartCode, startCodesFrom, Split, opened, byteBefore, split, payloads}
-use Rattle.unit.proofs.Splits.{split-code, split-byte, split-whole, at-code, codes-yes, codes-no}
+use Rattle.unit.specs.Unit.{startCode3, atStartCode, startCodesFrom, Split, split, payloads}
+use Rattle.unit.proofs.Splits.{split-code, split-byte, at-code, codes-yes, codes-no}
 
 -- ---- a start code at a place
 code-short : (l : Bytes) → length l < 3 → atStartCode l ≡ false

@@ -1,13 +1,13 @@
 -- Loops over the payloads of a unit: what is done, then the definition of the rest, is the definition of the whole. Assumes nothing.
-use Prim.Native.Nat.{ℕ, zero, suc, _+_, _-_, _≤_, _<_}
-use mathlib.Core.Bool.{Bool, true, false, not, true≢false}
+use Prim.Native.Nat.{ℕ, _+_, _-_, _≤_, _<_}
+use mathlib.Core.Bool.{true, false, true≢false}
 use mathlib.Core.Path.{_≡_, refl, sym, ap, ap₂, subst, _∙_}
-use mathlib.Core.Logic.{_⊎_, inl, inr}
+use mathlib.Core.Logic.{inr}
 use mathlib.Core.List.{List, [], _∷_, _++_, map, flatten, append-nil}
 use native.Mathlib.Omega.{arith}
 use native.Mathlib.Numerals.{add-one}
 use borrow.Author.Tests.{lt-ltb, le-ltb, ltb-true, ltb-false, eq-eqb, ne-eqb}
-use lib.Dec.{ltb, eqb}
+use lib.Dec.{ltb}
 use lib.ListN.{length, take, drop, getD, set, length-set, length-append, length-drop, length-map}
 use lib.Seq.{take-suc-set, append-snoc, take-at, getD-take}
 use Rattle.lists.specs.Lists.{Bytes, pick, over, placed}
@@ -16,7 +16,7 @@ use Rattle.lists.proofs.Parts.{next}
 use Rattle.lists.proofs.Writing.{Part, start, counted, room, put, put-all, done}
 use Rattle.refusal.specs.declared.Refusal.{Refusal}
 use Rattle.refusal.specs.declared.Refused.{Refused}
-use Rattle.refusal.specs.Verdict.{Verdict, passed, refused, _>>=_, _>>_, NoValue, given, atPlace, inTurn}
+use Rattle.refusal.specs.Verdict.{Verdict, passed, refused, _>>=_, _>>_, given, inTurn}
 use Rattle.refusal.specs.Number.{numberOf, refusedBy}
 use Rattle.refusal.proofs.Verdicts.{refuse, pass-on, follows, stops, passed-after, passed-same, then-refused, turn-passed, turn-refused}
 use Rattle.emulation.specs.Payload.{legal, unescape, dropped}
@@ -24,21 +24,20 @@ use Rattle.emulation.proofs.Steps.{given-or-dropped}
 use Rattle.obu.specs.declared.header.Header.{Header}
 use Rattle.obu.specs.declared.header.Judged.{Judged as Obu}
 use Rattle.obu.specs.declared.header.Judged.the-variants as obu
-use Rattle.obu.specs.Header.{judged, judgedSays as obuSays, obuRefusal}
+use Rattle.obu.specs.Header.{judged, judgedSays as obuSays}
 use Rattle.obu.specs.declared.ordering.Ordered.{Ordered}
 use Rattle.obu.specs.declared.ordering.Ordered.the-variants as ordered
-use Rattle.obu.specs.Order.{kindOf, kindOfType, orderRefusal, orderedSays}
+use Rattle.obu.specs.Order.{kindOfType, orderRefusal, orderedSays}
 use Rattle.obu.proofs.Headers.{judged-first, header-type, judged-header}
 use Rattle.unit.specs.Unit.{mostObus, mostObuBytes, atStartCode, payloads, obusIn, sum, tsobuRefusal, droppedIn}
 use Rattle.unit.specs.Parts.{obuType, figures, tsobuFigures, tsobuSays, legalFigures, endsFrom, EndsOf, payloadCounts, Judges, wholeCounts}
 use Rattle.unit.specs.declared.reading.Counts.{Counts}
-use Rattle.unit.specs.declared.reading.UnitRead.{UnitRead}
 use Rattle.unit.specs.declared.reading.UnitRead.the-variants as read
 use Rattle.unit.specs.declared.reading.Ends.{Ends}
 use Rattle.unit.specs.declared.reading.Figures.{Figures}
 use Rattle.unit.specs.declared.reading.TsObu.{TsObu}
 use Rattle.unit.specs.declared.reading.TsObu.the-variants as tsobu
-use Rattle.unit.proofs.Places.{Place, nextCode, payloadAt, payload-length, code-fits, next-fits, next-place, payloads-from, payloads-end, place-code}
+use Rattle.unit.proofs.Places.{Place, nextCode, payloadAt, payload-length, next-fits, next-place, payloads-from, payloads-end, place-code}
 
 -- ---- where payloads end
 pub ends-from : (s : Bytes) (code : ℕ) → atStartCode (drop code s) ≡ true

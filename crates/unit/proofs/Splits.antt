@@ -1,13 +1,13 @@
 -- Start codes and payloads of any string, and of legal payloads each behind its start code. Assumes nothing.
-use Prim.Native.Nat.{ℕ, zero, suc, _+_, _≤_, _<_}
-use mathlib.Core.Bool.{Bool, true, false, not, _&&_, _||_, true≢false, and-false}
+use Prim.Native.Nat.{ℕ, suc, _+_}
+use mathlib.Core.Bool.{Bool, true, false, not, _&&_, and-false}
 use mathlib.Core.Path.{_≡_, refl, sym, ap, ap₂, subst, _∙_}
 use mathlib.Core.List.{List, [], _∷_, _++_, map, append-nil}
 use native.Mathlib.Omega.{arith}
 use borrow.Author.Tests.{eqb-true, not-true}
-use lib.Dec.{leb, ltb, eqb}
-use lib.ListN.{length, length-append}
-use Rattle.emulation.specs.Payload.{legal, forbidden, above3, escape, escapeAfter}
+use lib.Dec.{eqb}
+use lib.ListN.{length}
+use Rattle.emulation.specs.Payload.{legal, forbidden, escape}
 use Rattle.lists.specs.Lists.{Bytes}
 use Rattle.lists.proofs.Tests.{case, and-both, clash}
 use Rattle.refusal.proofs.Verdicts.{All}

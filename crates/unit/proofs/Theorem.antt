@@ -1,29 +1,29 @@
 -- Demand 3 about the definitions: the writer's string is one of those that reading accepts as the list, and the one shortest. Why: no start code begins inside a
 -- legal payload or across its end, so that an accepted string is its payloads, each behind a start code; and a legal payload is the escaped form of its
 -- OBU, but for a closing 03. Assumes nothing.
-use Prim.Native.Nat.{ℕ, _+_, _-_, _*_, _/_, _≤_, _<_}
-use mathlib.Core.Bool.{Bool, true, false, not}
+use Prim.Native.Nat.{ℕ, _+_, _*_, _≤_, _<_}
+use mathlib.Core.Bool.{true, not}
 use mathlib.Core.Path.{_≡_, refl, sym, ap, ap₂, subst, _∙_}
 use mathlib.Core.Logic.{_⊎_, inl, inr, _↔_}
-use mathlib.Core.List.{List, [], _∷_, _++_, map, flatten, List·Memᴰ}
+use mathlib.Core.List.{List, [], _∷_, map, flatten}
 use native.Mathlib.Omega.{arith}
-use borrow.Author.Tests.{eq-eqb, ne-eqb, ltb-true, ltb-false, lt-ltb, le-ltb, not-false}
-use lib.Dec.{ltb, eqb}
+use borrow.Author.Tests.{ne-eqb, ltb-true, ltb-false, lt-ltb, le-ltb, not-false}
+use lib.Dec.{ltb}
 use lib.ListN.{length, length-append, length-map}
-use Rattle.lists.specs.Lists.{Bytes, pick, over}
+use Rattle.lists.specs.Lists.{Bytes, pick}
 use Rattle.lists.proofs.Tests.{case}
-use Rattle.refusal.specs.Verdict.{Verdict, passed, refused, _>>=_, _>>_, NoValue, given, leaves}
+use Rattle.refusal.specs.Verdict.{passed, refused, _>>=_, _>>_, given, leaves}
 use Rattle.refusal.proofs.Verdicts.{refuse, pass-on, follows, never, passed-after, given-passed, All}
-use Rattle.emulation.specs.Payload.{legal, unescape, escape, escapeAfter, inserted}
+use Rattle.emulation.specs.Payload.{legal, unescape, escape}
 use Rattle.emulation.proofs.Theorems.{unescape-escape, escape-legal, escape-length, escape-longer, inserted-bound}
 use Rattle.obu.specs.Header.{obuRefusal, judged, headerOf}
 use Rattle.obu.specs.Order.{kindOf, orderRefusal}
-use Rattle.unit.specs.Unit.{mostObus, mostObuBytes, mostCarried, atStartCode, Split, split, payloads, obusIn, sum, tsobuRefusal, readUnit, AcceptsAs, obusOf, writeRefusal, Accepted, carried, writeUnit}
+use Rattle.unit.specs.Unit.{mostObus, mostObuBytes, mostCarried, atStartCode, Split, payloads, obusIn, sum, tsobuRefusal, AcceptsAs, obusOf, writeRefusal, Accepted, carried, writeUnit}
 use Rattle.unit.specs.Demand3.{Demand3, Demand3Lent}
-use Rattle.unit.proofs.Lengths.{obus-of, sum-lengths, cut-lengths, cut-bytes}
+use Rattle.unit.proofs.Lengths.{obus-of, sum-lengths}
 use Rattle.unit.proofs.Splits.{joined, from-code, split-carried, carried-joined}
 use Rattle.unit.proofs.Closings.{Closings, closings, shortest}
-use Rattle.unit.proofs.Acceptance.{Reads, reads, read-by, Writes, writes, accepted-lent}
+use Rattle.unit.proofs.Acceptance.{Reads, reads, read-by, writes, accepted-lent}
 
 -- ---- what acceptance says of a list
 pub record Fits (l : List Bytes) : Type 0 where

@@ -9,7 +9,7 @@ use lib.Dec.{ltb, eqb}
 use lib.ListN.{length, take, drop}
 use denote.Ref.{RefT, now}
 use Rattle.lists.specs.Lists.{Bytes, those}
-use Rattle.refusal.specs.Verdict.{Verdict, passed, refused, _>>=_, _>>_, given, atPlace}
+use Rattle.refusal.specs.Verdict.{Verdict, passed, refused, _>>_, given, atPlace}
 use Rattle.refusal.specs.Number.{refusedBy}
 use Rattle.emulation.specs.Payload.{legal}
 use Rattle.unit.specs.Unit.{atStartCode, startCodes, split}

@@ -6,7 +6,6 @@ ghost use Rattle.lists.specs.Lists.{over};
 ghost use Prim.Native.Nat.{_≤_};
 ghost use lib.ListN.{length, take};
 ghost use Rattle.refusal.specs.Verdict.{leaves};
-ghost use Rattle.emulation.specs.Payload.{legal};
 ghost use Rattle.emulation.specs.Payload.{dropped as Payload·dropped};
 ghost use Rattle.unit.specs.Unit.{atStartCode, payloads, obusIn};
 ghost use Rattle.unit.specs.Answer.{checking, reading, readSays};
@@ -117,14 +116,14 @@ fn judge_payload(payload: &[u8]) -> TsObu
 {
     if payload.len() == 0 {
         return TsObu::Refused(Refused {
-            why: Refusal::EmptyObu,
+            why: Refusal::EMPTY_OBU,
             place: 0,
         });
     }
     let judged = emulation::judge(payload);
     match judged {
         emulation::Judged::Illegal(_) => TsObu::Refused(Refused {
-            why: Refusal::IllegalPayload,
+            why: Refusal::ILLEGAL_PAYLOAD,
             place: 0,
         }),
         emulation::Judged::Legal(dropped) => judge_obu(payload, dropped),
@@ -182,7 +181,7 @@ fn judge_whole(counts: Counts, types: [u8; 64]) -> UnitRead
     ensures { λ r. ⌜ readSays r ≡ wholeCounts counts types ⌝ }
 {
     if MOST_OBU_BYTES < counts.bytes {
-        return refusal(Refusal::Length);
+        return refusal(Refusal::LENGTH);
     }
     let count = counts.obus;
     let ordered = obu::order(&types[..count]);
@@ -198,17 +197,17 @@ fn judge_unit(unit: &[u8]) -> Judged
 {
     let none = [0usize; 64];
     if MOST_CARRIED < unit.len() {
-        let answer = refusal(Refusal::Length);
+        let answer = refusal(Refusal::LENGTH);
         return Judged { answer, ends: none };
     }
     if !code_at(unit, 0) {
-        let answer = refusal(Refusal::NoStartCode);
+        let answer = refusal(Refusal::NO_START_CODE);
         return Judged { answer, ends: none };
     }
     let ends = payload_ends(unit);
     let at = ends.at;
     if ends.more {
-        let answer = refusal(Refusal::ObuCount);
+        let answer = refusal(Refusal::OBU_COUNT);
         return Judged { answer, ends: none };
     }
     let payloads = judge_payloads(unit, ends);
@@ -265,10 +264,10 @@ pub fn read(unit: &[u8], out: &mut [u8], lens: &mut [usize]) -> UnitRead
         return answer;
     };
     if out.len() < counts.bytes {
-        return refusal(Refusal::NoRoom);
+        return refusal(Refusal::NO_ROOM);
     }
     if lens.len() < counts.obus {
-        return refusal(Refusal::NoRoom);
+        return refusal(Refusal::NO_ROOM);
     }
     let ends = judged.ends;
     copy_obus(unit, counts.obus, ends, out, lens);

@@ -1,7 +1,7 @@
 // A walk over a carried unit: the state is the place of the next step.
 ghost use mathlib.Core.Path.{_≡_};
 ghost use mathlib.Core.Bool.{true};
-ghost use Prim.Native.Nat.{_+_, _≤_};
+ghost use Prim.Native.Nat.{_≤_};
 ghost use lib.ListN.{length, take, drop};
 ghost use Rattle.unit.specs.Unit.{atStartCode};
 ghost use Rattle.unit.specs.Walk.{starting, startedSays, stepping, payloadStep, stepSays, goesTo, placeAfter, obuIndex};
@@ -46,7 +46,7 @@ pub fn start(unit: &[u8]) -> Started
         return Started::At(0);
     }
     Started::Refused(Refused {
-        why: Refusal::NoStartCode,
+        why: Refusal::NO_START_CODE,
         place: 0,
     })
 }
@@ -86,11 +86,11 @@ fn payload_step(unit: &[u8], at: usize) -> Step
     let start = at + 3;
     let next = find(unit, start);
     if next == start {
-        return refused(unit, at, Refusal::EmptyObu);
+        return refused(unit, at, Refusal::EMPTY_OBU);
     }
     let judged = judge(&unit[start..next]);
     let Judged::Legal(_) = judged else {
-        return refused(unit, at, Refusal::IllegalPayload);
+        return refused(unit, at, Refusal::ILLEGAL_PAYLOAD);
     };
     Step::Payload(Part {
         start,
@@ -110,7 +110,7 @@ pub fn step_at(unit: &[u8], at: usize) -> Step
         return payload_step(unit, at);
     }
     Step::Refused(Refused {
-        why: Refusal::NoStartCode,
+        why: Refusal::NO_START_CODE,
         place: 0,
     })
 }

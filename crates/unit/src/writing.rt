@@ -149,16 +149,16 @@ pub fn write(obus: &[u8], lens: &[usize], out: &mut [u8]) -> Written
     ensures { λ r. ⌜ Demand3Lent (now (lens .entry)) (now (obus .entry)) (now (out .entry)) (writtenSays r) (now (out .exit)) ⌝ }
 {
     if lens.len() == 0 {
-        return refuse(Refusal::ObuCount);
+        return refuse(Refusal::OBU_COUNT);
     }
     if MOST_OBUS < lens.len() {
-        return refuse(Refusal::ObuCount);
+        return refuse(Refusal::OBU_COUNT);
     }
     if MOST_OBU_BYTES < obus.len() {
-        return refuse(Refusal::Length);
+        return refuse(Refusal::LENGTH);
     }
     if !adds_up(lens, obus.len()) {
-        return refuse(Refusal::Length);
+        return refuse(Refusal::LENGTH);
     }
     let judged = judge_obus(obus, lens);
     if let Ordered::Refused(refused) = judged {
@@ -166,7 +166,7 @@ pub fn write(obus: &[u8], lens: &[usize], out: &mut [u8]) -> Written
     }
     let n = carried_length(obus, lens);
     if out.len() < n {
-        return refuse(Refusal::NoRoom);
+        return refuse(Refusal::NO_ROOM);
     }
     write_obus(obus, lens, out);
     Written::Bytes(n)

@@ -1,8 +1,8 @@
 -- From the end on nothing is left, as `drop` has it.
-use mathlib.Core.Path.{sym, ap, _∙_}
+use mathlib.Core.Path.{sym, _∙_}
 use native.Mathlib.Omega.{arith}
 use borrow.Author.Needs.{needs}
-use lib.ListN.{length, take, drop, drop-of-length-le}
+use lib.ListN.{length, drop-of-length-le}
 use Rattle.lists.proofs.Parts.{to-end}
 use Rattle.lists.proofs.rest.Statement.{statement}
 use Rattle.lists.proofs.rest.Tie as tie

@@ -13,7 +13,7 @@ cast-t4 : tie.Need-cast-t4
 cast-t4 c = search needs
 
 returns : tie.Need-returns
-returns c = ap (λ (n : ℕ). refusedAnswer n (c .before .args .r .place)) (c .number .ensures)
+returns c = ap (λ (n : ℕ). refusedAnswer n (c .before .before .args .r .place)) (c .number .ensures)
 
 pub segment-refusal-spec : {M : Type 1} → statement M
 segment-refusal-spec = tie.close (tie.spec number-requires cast-t4 returns)

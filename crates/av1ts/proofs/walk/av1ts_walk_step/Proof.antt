@@ -34,9 +34,9 @@ returns-2 c = ap (stepAnswer (c .before .before .before .before .args .at)) (sym
 
 returns-3 : tie.Need-returns-3
 returns-3 c =
-    let at = c .before .before .before .before .before .before .args .at in
-    ap (λ (n : ℕ). stepAnswer at (refused n (c .before .before .step2 .given .0 .0 .place))) (c .number .ensures)
-    ∙ ap (stepAnswer at) (sym (ap stepSays (c .before .before .step2 .given .1)) ∙ c .before .before .before .before .step-at .ensures)
+    let at = c .before .before .before .before .before .before .before .args .at in
+    ap (λ (n : ℕ). stepAnswer at (refused n (c .before .before .before .step2 .given .0 .0 .place))) (c .number .ensures)
+    ∙ ap (stepAnswer at) (sym (ap stepSays (c .before .before .before .step2 .given .1)) ∙ c .before .before .before .before .before .step-at .ensures)
 
 pub av1ts-walk-step-spec : {M : Type 1} → statement M
 av1ts-walk-step-spec =

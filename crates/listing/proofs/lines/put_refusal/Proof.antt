@@ -39,7 +39,7 @@ same-length c = search needs
 returns : tie.Need-returns
 unfolding refusalLine
 returns c =
-    let start = c .before .before .before .before .before .before .before .before .before .before .before .before .before .before .before .before .before in
+    let start = c .before .before .before .before .before .before .before .before .before .before .before .before .before .before .before .before .before .before in
     let first = c .before .before .before .before .before .before .before .before .before .before .before .before .put-named .ensures .0 in
     let second = c .before .before .before .before .before .before .before .put-named2 .ensures .0 in
     let last = c .before .before .put-word .ensures in

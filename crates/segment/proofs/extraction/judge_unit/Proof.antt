@@ -28,8 +28,8 @@ returns-2 c st =
 
 returns-3 : tie.Need-returns-3
 returns-3 c st =
-    judged-refused _ st (sym (c .before .before .before .before .before .length-wrong .ensures) ∙ c .before .before .before .before .if1 .left) _ _
-    (sym (c .before .before .before .check .ensures) ∙ ap readSays (c .before .read .given .1))
+    judged-refused _ st (sym (c .before .before .before .before .before .before .length-wrong .ensures) ∙ c .before .before .before .before .before .if1 .left) _ _
+    (sym (c .before .before .before .before .check .ensures) ∙ ap readSays (c .before .before .read .given .1))
 
 pub judge-unit-spec : {M : Type 1} → statement M
 judge-unit-spec = tie.close (tie.spec length-wrong-requires returns check-requires enum-told enum-known-read returns-2 returns-3)

@@ -15,7 +15,7 @@ returns : tie.Need-returns
 returns c = search needs
 
 returns-2 : tie.Need-returns-2
-returns-2 c = ap (placedAt (c .before .before .before .args .place)) (sym (c .before .outcome .given .1))
+returns-2 c = ap (placedAt (c .before .before .before .before .args .place)) (sym (c .before .before .outcome .given .1))
 
 pub at-place-spec : {M : Type 1} → statement M
 at-place-spec = tie.close (tie.spec enum-told enum-known-outcome returns returns-2)

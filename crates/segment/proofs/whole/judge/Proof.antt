@@ -1,6 +1,5 @@
 -- 20, the packets in order, the end.
 use mathlib.Core.Path.{refl, sym, _∙_}
-use Rattle.refusal.specs.declared.Refusal.the-variants.{SegmentLength}
 use Rattle.segment.specs.Check.{roomsOf, outputsOf}
 use Rattle.segment.proofs.Standing.{stands-fits}
 use Rattle.segment.proofs.Running.{run-total}
@@ -17,7 +16,7 @@ returns : tie.Need-returns
 returns c =
     let a = c .before .before .before .before .before .before .args in
     let before = outputsOf (a .out .now) (a .lens .now) (a .times .now) in
-    length-refused (a .segment .now) before (a .out .now) (a .lens .now) (a .times .now) (record { why = SegmentLength; place = 0 }) refl (sym (c .before .length-wrong .ensures) ∙ c .if1 .taken)
+    length-refused (a .segment .now) before (a .out .now) (a .lens .now) (a .times .now) (record { why = record { number = 20 }; place = 0 }) refl (sym (c .before .length-wrong .ensures) ∙ c .if1 .taken)
 
 run-requires : tie.Need-run-requires
 run-requires c κs = sym (c .before .before .before .before .length-wrong .ensures) ∙ c .before .before .before .if1 .left

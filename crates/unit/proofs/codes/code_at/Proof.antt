@@ -1,10 +1,10 @@
 -- Each test that fails rules the start code out; the last one decides.
 use native.Mathlib.Omega.{arith}
-use Prim.Native.Nat.{ℕ, _+_, _-_, _≤_, _<_}
-use mathlib.Core.Path.{_≡_, refl, sym, ap, _∙_}
-use lib.ListN.{length, drop, getD}
+use Prim.Native.Nat.{_+_, _<_}
+use mathlib.Core.Path.{sym, _∙_}
+use lib.ListN.{length, getD}
 use borrow.Author.Needs.{needs}
-use borrow.Author.Tests.{eq-eqb, ne-eqb, le-leb, lt-leb}
+use borrow.Author.Tests.{eq-eqb, ne-eqb}
 use Rattle.unit.proofs.Places.{code-at, code-at-end, code3-rest}
 use Rattle.unit.proofs.codes.code_at.Statement.{statement}
 use Rattle.unit.proofs.codes.code_at.Tie as tie

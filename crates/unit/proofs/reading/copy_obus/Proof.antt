@@ -3,14 +3,12 @@ use borrow.Author.Needs.{needs}
 use native.Mathlib.Omega.{arith}
 use Prim.Native.Nat.{ℕ, _+_, _-_, _≤_, _<_}
 use mathlib.Core.Path.{_≡_, sym, ap, subst₂, _∙_}
-use mathlib.Core.List.{List, map, flatten}
 use lib.ListN.{length, take, drop, getD, set}
 use Rattle.lists.specs.Lists.{Bytes, over, placed}
 use borrow.Rule.Slice.PartMut.{midOf, putMid}
 use Rattle.lists.proofs.Parts.{tail-fits, tail-prefix}
 use Rattle.emulation.specs.Payload.{unescape}
-use Rattle.unit.specs.Unit.{payloads, obusIn}
-use Rattle.unit.specs.Parts.{endsFrom}
+use Rattle.unit.specs.Unit.{payloads}
 use Rattle.unit.proofs.Places.{nextCode, payloadAt, next-fits}
 use Rattle.unit.proofs.Readings.{passing-code, passing-end, Copying, copying-start, copying-room, copying-place, copying-step, copying-done}
 use Rattle.unit.proofs.reading.copy_obus.Statement.{statement}

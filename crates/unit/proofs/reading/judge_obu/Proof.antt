@@ -1,13 +1,11 @@
 -- The header lies in the first ten bytes of the OBU; these, unescaped, and the OBU's length decide as the whole OBU does.
 use borrow.Author.Needs.{needs}
 use native.Mathlib.Omega.{arith}
-use Prim.Native.Nat.{ℕ, _-_, _≤_}
-use mathlib.Core.Path.{_≡_, refl, sym, ap, _∙_}
+use mathlib.Core.Path.{sym, ap, _∙_}
 use lib.ListN.{length, replicate}
 use Rattle.lists.specs.Lists.{Bytes}
-use Rattle.emulation.specs.Payload.{unescape, dropped}
+use Rattle.emulation.specs.Payload.{unescape}
 use Rattle.emulation.proofs.Steps.{given-or-dropped}
-use Rattle.obu.specs.Header.{judged, judgedSays}
 use Rattle.unit.proofs.Readings.{first-bytes, judged-short, figures-refused, figures-passed}
 use Rattle.unit.proofs.reading.judge_obu.Statement.{statement}
 use Rattle.unit.proofs.reading.judge_obu.Tie as tie

@@ -1,6 +1,6 @@
 -- 3 and 10 are tried here, 4, 5 and 6 by `judge_obu`.
 use borrow.Author.Needs.{needs}
-use mathlib.Core.Path.{_≡_, _∙_}
+use mathlib.Core.Path.{_∙_}
 use Rattle.emulation.proofs.Answers.{judged-legal, judged-illegal}
 use Rattle.unit.proofs.Readings.{tsobu-empty, tsobu-illegal, tsobu-legal}
 use Rattle.unit.proofs.reading.judge_payload.Statement.{statement}

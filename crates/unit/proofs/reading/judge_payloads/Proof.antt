@@ -3,7 +3,6 @@ use borrow.Author.Needs.{needs}
 use native.Mathlib.Omega.{arith}
 use Prim.Native.Nat.{ℕ, _+_, _-_, _≤_, _<_}
 use mathlib.Core.Path.{_≡_, refl, sym, ap, subst, _∙_}
-use mathlib.Core.List.{List}
 use borrow.Author.Tests.{ltb-false}
 use lib.ListN.{length, take, drop, getD, set}
 use Rattle.refusal.specs.Verdict.{passed}
@@ -12,7 +11,7 @@ use Rattle.unit.specs.Unit.{mostObus, payloads, tsobuRefusal}
 use Rattle.unit.specs.Parts.{figures, tsobuFigures, tsobuSays}
 use Rattle.unit.specs.declared.reading.Figures.{Figures}
 use Rattle.unit.specs.declared.reading.TsObu.the-variants as TsObu
-use Rattle.unit.proofs.Places.{nextCode, payloadAt, payload-length, code-fits, next-fits}
+use Rattle.unit.proofs.Places.{nextCode, payloadAt, payload-length, next-fits}
 use Rattle.unit.proofs.Readings.{Judging, passing-code, passing-end, judging-start, judging-step, judging-refused, judging-done, refused-judges, tsobu-refused, tsobu-passed}
 use Rattle.unit.proofs.reading.judge_payloads.Statement.{statement}
 use Rattle.unit.proofs.reading.judge_payloads.Tie as tie
@@ -97,9 +96,9 @@ enum-known-judged c = search needs
 
 returns : tie.Need-returns Inv-loop μ-loop
 returns c =
-    let i = c .before .before .before .before .before in
-    let r = tsobu-refused _ _ _ (said (c .before .before .before)) (c .before .judged .given .1) in
-    refused-judges _ (judging-refused (i .before .loop .inv) (left i) (c .before .judged .given .0 .0) r)
+    let i = c .before .before .before .before .before .before in
+    let r = tsobu-refused _ _ _ (said (c .before .before .before .before)) (c .before .before .judged .given .1) in
+    refused-judges _ (judging-refused (i .before .loop .inv) (left i) (c .before .before .judged .given .0 .0) r)
 
 enum-known-judged-2 : tie.Need-enum-known-judged-2 Inv-loop μ-loop
 enum-known-judged-2 c = search needs

@@ -1,15 +1,12 @@
 -- The tries in their order: each answer is a refusal of checking, or what `judge_whole` says of payloads that passed.
 use borrow.Author.Needs.{needs}
 use native.Mathlib.Omega.{arith}
-use Prim.Native.Nat.{ℕ, _≤_}
-use mathlib.Core.Bool.{true, false}
-use mathlib.Core.Path.{_≡_, refl, sym, ap, _∙_}
+use Prim.Native.Nat.{ℕ}
+use mathlib.Core.Path.{sym, ap, _∙_}
 use borrow.Author.Tests.{ltb-false, not-true, not-false}
 use lib.ListN.{length, take}
-use Rattle.unit.specs.Unit.{mostObus, atStartCode, payloads}
+use Rattle.unit.specs.Unit.{mostObus, payloads}
 use Rattle.unit.specs.Answer.{readSays}
-use Rattle.unit.specs.Parts.{endsFrom, payloadCounts}
-use Rattle.unit.specs.declared.reading.Counts.{Counts}
 use Rattle.unit.proofs.Checking.{counts-obus, check-long, check-headless, check-many, check-refused, counts-are, check-whole, answer-refused, answer-whole}
 use Rattle.unit.proofs.reading.judge_unit.Statement.{statement}
 use Rattle.unit.proofs.reading.judge_unit.Tie as tie

@@ -1,8 +1,6 @@
 -- The sum is tried, then the order of the OBUs' types.
 use borrow.Author.Needs.{needs}
-use native.Mathlib.Omega.{arith}
-use mathlib.Core.Path.{_≡_, sym, ap, _∙_}
-use lib.ListN.{length}
+use mathlib.Core.Path.{sym, ap, _∙_}
 use lib.Seq.{length-take-le}
 use Rattle.unit.specs.Answer.{readSays}
 use Rattle.unit.proofs.Readings.{whole-over, whole-broken, whole-legal}

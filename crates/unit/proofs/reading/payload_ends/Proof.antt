@@ -1,5 +1,4 @@
 -- One payload a turn: the ends noted, then those of the payloads from the next start code on, are those of all.
-use borrow.Author.Needs.{needs}
 use native.Mathlib.Omega.{arith}
 use Prim.Native.Nat.{_-_}
 use mathlib.Core.Path.{refl}

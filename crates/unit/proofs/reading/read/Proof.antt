@@ -1,13 +1,11 @@
 -- The unit is judged, then the rooms are tried; an accepted unit that has room is copied whole.
 use borrow.Author.Needs.{needs}
 use native.Mathlib.Omega.{arith}
-use Prim.Native.Nat.{ℕ, _≤_}
-use mathlib.Core.Path.{_≡_, refl, sym, ap, _∙_}
-use lib.ListN.{length}
+use mathlib.Core.Path.{sym, ap, _∙_}
 use Rattle.refusal.specs.Verdict.{leaves}
 use Rattle.refusal.proofs.Verdicts.{refused-leaves}
 use Rattle.unit.specs.Answer.{readSays}
-use Rattle.unit.proofs.Checking.{Checked, checked, reading-refused, short-of-bytes, short-of-lengths, reading-fits}
+use Rattle.unit.proofs.Checking.{checked, reading-refused, short-of-bytes, short-of-lengths, reading-fits}
 use Rattle.unit.proofs.reading.read.Statement.{statement}
 use Rattle.unit.proofs.reading.read.Tie as tie
 

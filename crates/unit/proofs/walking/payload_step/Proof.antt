@@ -1,16 +1,11 @@
 -- The payload runs from behind the start code to the next one, which `find` gives; it is empty, illegal, or handed out.
 use borrow.Author.Needs.{needs}
 use native.Mathlib.Omega.{arith}
-use Prim.Native.Nat.{ℕ, _+_, _-_, _≤_}
-use mathlib.Core.Bool.{true, false}
-use mathlib.Core.Path.{_≡_, refl, sym, ap, _∙_}
-use lib.ListN.{length, take, drop}
+use Prim.Native.Nat.{ℕ, _+_, _-_}
+use mathlib.Core.Path.{_≡_, refl, ap, _∙_}
+use lib.ListN.{take, drop}
 use Rattle.lists.specs.Lists.{Bytes}
-use Rattle.refusal.specs.Verdict.{Verdict}
-use Rattle.emulation.specs.Payload.{legal}
 use Rattle.emulation.specs.Answer.{judgedSays, judging}
-use Rattle.emulation.specs.declared.unescaping.Judged.{Judged}
-use Rattle.emulation.specs.declared.unescaping.Judged.the-variants as judged
 use Rattle.emulation.proofs.Answers.{judged-legal, judged-illegal}
 use Rattle.unit.specs.Walk.{payloadFrom, stepSays}
 use Rattle.unit.proofs.Places.{before, code-fits, next-fits, payload-is}

@@ -1,6 +1,5 @@
 -- From the length on it is the end; before it, a start code stands at the place or none does.
 use borrow.Author.Needs.{needs}
-use native.Mathlib.Omega.{arith}
 use mathlib.Core.Path.{sym, _∙_}
 use Rattle.unit.proofs.Steps.{step-end, step-code, step-other}
 use Rattle.unit.proofs.walking.step_at.Statement.{statement}

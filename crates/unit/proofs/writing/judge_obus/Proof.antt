@@ -51,10 +51,10 @@ enum-known-judged c = search needs
 
 returns : tie.Need-returns Inv-loop μ-loop
 returns c =
-    let start = c .before .before .before .before .before .before .before .before .before .before in
-    let at = c .before .before .before .before .before .before .before .loop in
+    let start = c .before .before .before .before .before .before .before .before .before .before .before in
+    let at = c .before .before .before .before .before .before .before .before .loop in
     judging-refused (start .args .lens .now) (start .args .obus .now) (at .i) (at .at) (at .types) (at .inv) (start .pre) (omega arith) _ _
-    (sym (c .before .before .before .judge .ensures) ∙ ap judgedSays (c .before .judged .given .1))
+    (sym (c .before .before .before .before .judge .ensures) ∙ ap judgedSays (c .before .before .judged .given .1))
 
 enum-known-judged-2 : tie.Need-enum-known-judged-2 Inv-loop μ-loop
 enum-known-judged-2 c = search needs
