@@ -1,10 +1,11 @@
 /* AV1 in MPEG-2 transport streams. The interface of libav1ts.a.
  *
  * Every function takes every input and returns. It reads and writes only inside the buffers it is lent, which must not overlap. A buffer is a
- * pointer and a length; a pointer of length 0 is not read, and must not be null.
+ * pointer and a length; where the length is 0 the pointer is not read, and may be null.
  *
- * number 0 says that nothing was refused. Otherwise number and place are document 01's; then every other field is 0, and the output keeps its
- * old bytes. Success writes from the front of the output and the rest of it keeps its old bytes.
+ * number 0 says that nothing was refused. Success writes from the front of each output and the rest of it keeps its old bytes. Otherwise number and place
+ * say what was refused and where, every other field is 0 and every output keeps its old bytes. Two functions differ: a refused av1ts_walk_step has the
+ * place handed in as next_at, and a refused av1ts_check_segment leaves zeros throughout its three outputs.
  */
 #ifndef AV1TS_H
 #define AV1TS_H

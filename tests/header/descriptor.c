@@ -56,5 +56,6 @@ int main(void) {
     expect("delay_present 2", is(av1ts_write_descriptor(field, 2, 0, out, 8), 41, 0, 0, 0, 0));
     expect("five bytes are too few", is(av1ts_write_descriptor(field, 0, 0, out, 5), 8, 0, 0, 0, 0));
     expect("a refusal leaves the output", out[0] == 0xEE && out[5] == 0xEE && out[7] == 0xEE);
+    expect("null pointers of length 0", av1ts_read_descriptor(NULL, 0).number == 40 && is(av1ts_write_descriptor(field, 0, 0, NULL, 0), 8, 0, 0, 0, 0));
     return wrong;
 }

@@ -35,5 +35,6 @@ int main(void) {
     expect("the OBU is back", memcmp(out, five_zeros, 5) == 0 && out[5] == 0xEE);
     expect("an illegal payload, at its place", is(av1ts_unescape(illegal, 4, out, 8), 10, 1, 0, 0, 0));
     expect("nothing is escaped to nothing", is(av1ts_escape(five_zeros, 0, out, 0), 0, 0, 0, 0, 0));
+    expect("null pointers of length 0", is(av1ts_escape(NULL, 0, NULL, 0), 0, 0, 0, 0, 0) && is(av1ts_unescape(NULL, 0, NULL, 0), 0, 0, 0, 0, 0));
     return wrong;
 }

@@ -18,10 +18,51 @@ static int refused(av1ts_segment s, uint64_t number, uint64_t place) {
            s.other_listed == 0 && s.unlisted == 0;
 }
 
+/* A packet that begins with these bytes, filled with 0xFF. */
+static void fill(uint8_t packet[188], const uint8_t *bytes, size_t count) {
+    memset(packet, 0xFF, 188);
+    memcpy(packet, bytes, count);
+}
+
+/* A PAT (program 1, map PID 0x100), a PMT (AV1 on PID 0x101), a PCR, and a unit of two OBUs in one packet. */
+static void accepted(void) {
+    static const uint8_t pat[] = {0x47, 0x40, 0x00, 0x10, 0x00, 0x00, 0xB0, 0x0D, 0x00, 0x01, 0xC1,
+                                  0x00, 0x00, 0x00, 0x01, 0xE1, 0x00, 0xE8, 0xF9, 0x5E, 0x7D};
+    static const uint8_t pmt[] = {0x47, 0x41, 0x00, 0x10, 0x00, 0x02, 0xB0, 0x1E, 0x00, 0x01, 0xC1, 0x00, 0x00, 0xE1, 0x01, 0xF0, 0x00, 0x06, 0xE1,
+                                  0x01, 0xF0, 0x0C, 0x05, 0x04, 0x41, 0x56, 0x30, 0x31, 0x80, 0x04, 0x81, 0x08, 0x0C, 0xC0, 0x34, 0xDD, 0x11, 0x23};
+    static const uint8_t pcr[] = {0x47, 0x01, 0x01, 0x27, 0xB7, 0x10, 0x00, 0x00, 0xAF, 0xC8, 0x7E, 0x05};
+    static const uint8_t start[] = {0x47, 0x41, 0x01, 0x38, 159, 0x00};
+    static const uint8_t pes[] = {0x00, 0x00, 0x01, 0xBD, 0x00, 0x12, 0x84, 0x80, 0x05, 0x21, 0x00, 0x01, 0x00, 0x03};
+    static const uint8_t unit[] = {0x00, 0x00, 0x01, 0x12, 0x00, 0x00, 0x00, 0x01, 0x30, 0xAA};
+    uint8_t packet[4 * 188], out[12];
+    size_t lengths[2] = {7, 7};
+    uint64_t times[3] = {7, 7, 7};
+    av1ts_segment s;
+
+    fill(packet, pat, sizeof pat);
+    fill(packet + 188, pmt, sizeof pmt);
+    fill(packet + 376, pcr, sizeof pcr);
+    fill(packet + 564, start, sizeof start);
+    memcpy(packet + 752 - sizeof unit - sizeof pes, pes, sizeof pes);
+    memcpy(packet + 752 - sizeof unit, unit, sizeof unit);
+    memset(out, 0xEE, sizeof out);
+    s = av1ts_check_segment(packet, 752, out, 12, lengths, 2, times, 3);
+    expect("accepted", s.number == 0 && s.place == 0 && s.program == 1 && s.pid == 0x101 && s.units == 1);
+    expect("packets by class", s.null_packets == 0 && s.section == 2 && s.av1 == 2 && s.other_listed == 0 && s.unlisted == 0);
+    expect("the unit stands at the front, the rest is as it was", memcmp(out, unit, 10) == 0 && out[10] == 0xEE && out[11] == 0xEE);
+    expect("its length", lengths[0] == 10 && lengths[1] == 7);
+    expect("its times", times[0] == 1 && times[1] == 1 && times[2] == 7);
+    expect("no room for the unit", refused(av1ts_check_segment(packet, 752, out, 9, lengths, 2, times, 3), 8, 3));
+    expect("no room for its length", refused(av1ts_check_segment(packet, 752, out, 12, NULL, 0, times, 3), 8, 3));
+}
+
 int main(void) {
     uint8_t packet[2 * 188], out[4];
     size_t lengths[2];
     uint64_t times[2];
+
+    accepted();
+    expect("null pointers of length 0", refused(av1ts_check_segment(NULL, 0, NULL, 0, NULL, 0, NULL, 0), 20, 0));
 
     memset(packet, 0xFF, sizeof packet);
     memset(out, 0xEE, sizeof out);

@@ -45,5 +45,9 @@ int main(void) {
     expect("the end, and it stays", at(av1ts_walk_step(unit, 12, 12), 0, 0, 1, 0, 0, 12));
     expect("no start code at the head", at(av1ts_walk_start(unit + 1, 11), 9, 0, 0, 0, 0, 0));
     expect("a payload of no bytes", at(av1ts_walk_step(unit, 8, 5), 3, 1, 0, 0, 0, 5));
+    expect("null pointers of length 0: no OBU to write", is(av1ts_write_unit(NULL, 0, NULL, 0, NULL, 0), 1, 0, 0, 0, 0));
+    expect("null pointers of length 0: nothing to read", is(av1ts_read_unit(NULL, 0, NULL, 0, NULL, 0), 9, 0, 0, 0, 0));
+    expect("null pointers of length 0: nothing to check", is(av1ts_check_unit(NULL, 0), 9, 0, 0, 0, 0));
+    expect("null pointers of length 0: no walk", at(av1ts_walk_start(NULL, 0), 9, 0, 0, 0, 0, 0));
     return wrong;
 }

@@ -6,8 +6,8 @@ use lib.Dec.{eqb, ltb}
 use Rattle.lists.specs.Lists.{Bytes, pick}
 use Rattle.lists.specs.Bytes.{byte}
 use Rattle.refusal.specs.Verdict.{Verdict, passed, refused, _>>_, given}
-use Rattle.emulation.specs.declared.unescaping.Counts.{Counts as Unescaped}
-use Rattle.unit.specs.declared.reading.Counts.{Counts as Unit}
+use Rattle.emulation.specs.declared.unescaping.Counts.{Counts as UnescapedCounts}
+use Rattle.unit.specs.declared.reading.Counts.{Counts as UnitCounts}
 use Rattle.unit.specs.Walk.{Found, payload, end}
 use Rattle.descriptor.specs.declared.fields.Fields.{Fields}
 use Rattle.descriptor.specs.declared.fields.Delay.{Delay}
@@ -29,12 +29,12 @@ countAnswer (passed n) = record { number = 0; place = 0; count = n; bytes = 0; d
 countAnswer (refused number place) = refusalAnswer number place
 
 -- count: the bytes written; dropped: the bytes dropped
-abbrev pub unescapeAnswer : Verdict Unescaped → Answer
+abbrev pub unescapeAnswer : Verdict UnescapedCounts → Answer
 unescapeAnswer (passed n) = record { number = 0; place = 0; count = n .written; bytes = 0; dropped = n .dropped }
 unescapeAnswer (refused number place) = refusalAnswer number place
 
 -- count: the OBUs; bytes: their bytes together; dropped: the bytes dropped in all
-abbrev pub unitAnswer : Verdict Unit → Answer
+abbrev pub unitAnswer : Verdict UnitCounts → Answer
 unitAnswer (passed n) = record { number = 0; place = 0; count = n .obus; bytes = n .bytes; dropped = n .dropped }
 unitAnswer (refused number place) = refusalAnswer number place
 

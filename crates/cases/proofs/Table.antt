@@ -1,17 +1,19 @@
 -- Every case of the table holds: a test that antt computes over the whole table, and that the test is sound at each case. Assumes nothing.
 use Prim.Native.Nat.{ℕ, _<_}
-use mathlib.Core.Bool.{Bool, true, false, not, _&&_}
+use mathlib.Core.Bool.{Bool, true, false, _&&_}
 use mathlib.Core.Path.{_≡_, refl, ap, ap₂}
 use mathlib.Core.List.{[], _∷_}
-use borrow.Author.Tests.{eqb-true, not-true}
+use borrow.Author.Tests.{eqb-true}
 use lib.Dec.{eqb}
 use lib.ListN.{length, getD}
 use Rattle.lists.specs.Lists.{Bytes, pick, same, all}
 use Rattle.lists.specs.Bytes.{byte}
 use Rattle.lists.proofs.Tests.{and-both, clash, same-bytes}
 use Rattle.lists.proofs.Tables.{each}
-use Rattle.refusal.specs.Verdict.{Verdict, passed, refused, _>>=_, _>>_, NoValue, given}
+use Rattle.refusal.specs.Verdict.{Verdict, passed, refused, _>>=_, _>>_, NoValue, given, atPlace}
 use Rattle.emulation.specs.Payload.{escape, escapeAfter, unescape, dropped, legal, forbidden, above3, firstForbidden}
+use Rattle.emulation.specs.Answer.{unescaping}
+use Rattle.emulation.specs.declared.unescaping.Counts.{Counts}
 use Rattle.obu.specs.Leb128.{leb128, lebWithin, lowFirst, inRange}
 use Rattle.obu.specs.Header.{obuRefusal, judged, headerOf, sizedHeader, sizeOf, headerWith, fixedBytes}
 use Rattle.descriptor.specs.declared.fields.Fields.{Fields}
@@ -25,9 +27,13 @@ isPassed : Verdict NoValue → Bool
 isPassed (passed _) = true
 isPassed (refused number place) = false
 
-isRefused : ℕ → Verdict NoValue → Bool
-isRefused number (passed _) = false
-isRefused number (refused n place) = eqb n number && eqb place 0
+isRefused : {A : Type 0} → ℕ → ℕ → Verdict A → Bool
+isRefused number place (passed _) = false
+isRefused number place (refused n p) = eqb n number && eqb p place
+
+isUnescaped : ℕ → ℕ → Verdict Counts → Bool
+isUnescaped written dropped (passed c) = eqb (c .written) written && eqb (c .dropped) dropped
+isUnescaped written dropped (refused number place) = false
 
 -- the ten fields in order, and back
 numbers : Fields → Bytes
@@ -71,23 +77,32 @@ isVideo video (refused number place) = false
 
 test : Case → Bool
 test (escapes obu w) = same (escape obu) w
-test (unescapes payload w d) = legal payload && (same (unescape payload) w && eqb (dropped payload) d)
+test (unescapes payload w d) = isUnescaped (length w) d (unescaping payload (length w)) && same (unescape payload) w
 test (describes d video) = isVideo video (reading d)
 test (passes obu) = isPassed (obuRefusal obu)
-test (refuses obu number) = isRefused number (obuRefusal obu)
-test (illegal payload place) = not (legal payload) && eqb (firstForbidden payload) place
+test (refuses obu number) = isRefused number 0 (obuRefusal obu)
+test (illegal payload place) = isRefused 10 place (unescaping payload (length payload))
 
 is-passed : (v : Verdict NoValue) → isPassed v ≡ true → v ≡ passed tt
 unfolding isPassed
 is-passed (passed _) e = refl
 is-passed (refused number place) e = clash e refl
 
-is-refused : (number : ℕ) (v : Verdict NoValue) → isRefused number v ≡ true → v ≡ refused number 0
+is-refused : {A : Type 0} (number place : ℕ) (v : Verdict A) → isRefused number place v ≡ true → v ≡ refused number place
 unfolding isRefused
-is-refused number (passed _) e = clash e refl
-is-refused number (refused n place) e =
-    let h = and-both (eqb n number) (eqb place 0) e in
-    ap₂ refused (eqb-true n number (h .0)) (eqb-true place 0 (h .1))
+is-refused number place (passed _) e = clash e refl
+is-refused number place (refused n p) e =
+    let h = and-both (eqb n number) (eqb p place) e in
+    ap₂ refused (eqb-true n number (h .0)) (eqb-true p place (h .1))
+
+is-unescaped : (written dropped : ℕ) (v : Verdict Counts) → isUnescaped written dropped v ≡ true
+    → v ≡ passed (record { written = written; dropped = dropped })
+unfolding isUnescaped
+is-unescaped written dropped (passed c) e =
+    let h = and-both (eqb (c .written) written) (eqb (c .dropped) dropped) e in
+    ap₂ (λ (w d : ℕ). passed (record { written = w; dropped = d })) (eqb-true (c .written) written (h .0))
+    (eqb-true (c .dropped) dropped (h .1))
+is-unescaped written dropped (refused number place) e = clash e refl
 
 same-fields : (f g : Fields) → same (numbers f) (numbers g) ≡ true → f ≡ g
 unfolding numbers named
@@ -112,19 +127,16 @@ sound : (c : Case) → test c ≡ true → Holds c
 unfolding test
 sound (escapes obu w) e = same-bytes (escape obu) w e
 sound (unescapes payload w d) e =
-    let h = and-both (legal payload) (same (unescape payload) w && eqb (dropped payload) d) e in
-    let k = and-both (same (unescape payload) w) (eqb (dropped payload) d) (h .1) in
-    (h .0, same-bytes (unescape payload) w (k .0), eqb-true (dropped payload) d (k .1))
+    let h = and-both (isUnescaped (length w) d (unescaping payload (length w))) (same (unescape payload) w) e in
+    (is-unescaped (length w) d (unescaping payload (length w)) (h .0), same-bytes (unescape payload) w (h .1))
 sound (describes d video) e = is-video video (reading d) e
 sound (passes obu) e = is-passed (obuRefusal obu) e
-sound (refuses obu number) e = is-refused number (obuRefusal obu) e
-sound (illegal payload place) e =
-    let h = and-both (not (legal payload)) (eqb (firstForbidden payload) place) e in
-    (not-true (legal payload) (h .0), eqb-true (firstForbidden payload) place (h .1))
+sound (refuses obu number) e = is-refused number 0 (obuRefusal obu) e
+sound (illegal payload place) e = is-refused 10 place (unescaping payload (length payload)) e
 
 -- the table passes, by computation
 tested : all test cases ≡ true
-unfolding all test same cases escapeAfter unescape dropped legal forbidden above3 firstForbidden isPassed isRefused isVideo numbers sameDelay reading wrong versionWrong zerosWrong fieldsOf delayOf judged headerOf sizedHeader sizeOf headerWith fixedBytes leb128 lebWithin lowFirst inRange given pick _>>_ _>>=_
+unfolding all test same cases escapeAfter unescape dropped legal forbidden above3 firstForbidden unescaping atPlace isPassed isRefused isUnescaped isVideo numbers sameDelay reading wrong versionWrong zerosWrong fieldsOf delayOf judged headerOf sizedHeader sizeOf headerWith fixedBytes leb128 lebWithin lowFirst inRange given pick _>>_ _>>=_
 tested = refl
 
 -- the one statement: every case of the table holds of the definitions

@@ -1,15 +1,16 @@
 -- "Proved about the definitions, by a single statement over the table" (document 01): the table, and what each case says. Assumes nothing.
 use Prim.Native.Nat.{ℕ}
-use mathlib.Core.Bool.{true, false}
 use mathlib.Core.Path.{_≡_}
 use mathlib.Core.List.{List, [], _∷_}
+use lib.ListN.{length}
 use Rattle.lists.specs.Lists.{Bytes}
 use Rattle.refusal.specs.Verdict.{passed, refused}
 use Rattle.obu.specs.Header.{obuRefusal}
 use Rattle.descriptor.specs.declared.fields.Delay.the-variants.{Absent}
 use Rattle.descriptor.specs.declared.fields.Video.{Video}
 use Rattle.descriptor.specs.Descriptor.{reading}
-use Rattle.emulation.specs.Payload.{escape, unescape, dropped, legal, firstForbidden}
+use Rattle.emulation.specs.Payload.{escape, unescape}
+use Rattle.emulation.specs.Answer.{unescaping}
 
 pub data Case : Type 0 where
   -- "escape: .. gives .."
@@ -27,8 +28,9 @@ pub data Case : Type 0 where
 
 abbrev pub Holds : Case → Type 0
 Holds (escapes obu w) = escape obu ≡ w
-Holds (unescapes payload w d) = (legal payload ≡ true) × (unescape payload ≡ w) × (dropped payload ≡ d)
-Holds (illegal payload place) = (legal payload ≡ false) × (firstForbidden payload ≡ place)
+Holds (unescapes payload w d) =
+    (unescaping payload (length w) ≡ passed (record { written = length w; dropped = d })) × (unescape payload ≡ w)
+Holds (illegal payload place) = unescaping payload (length payload) ≡ refused 10 place
 Holds (describes d video) = reading d ≡ passed video
 Holds (passes obu) = obuRefusal obu ≡ passed tt
 Holds (refuses obu number) = obuRefusal obu ≡ refused number 0

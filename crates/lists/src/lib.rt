@@ -26,17 +26,17 @@ pub fn rest(s: &[u8], at: usize) -> &[u8]
 }
 
 // So many bytes from a place on, or as many as there are.
-pub fn part(s: &[u8], at: usize, length: usize) -> &[u8]
-    ensures { λ r. ⌜ now r ≡ take length (drop at (now (s .entry))) ⌝ }
+pub fn part(s: &[u8], at: usize, count: usize) -> &[u8]
+    ensures { λ r. ⌜ now r ≡ take count (drop at (now (s .entry))) ⌝ }
 {
     let whole = s.len();
     if whole <= at {
         return &s[whole..];
     }
-    if whole - at <= length {
+    if whole - at <= count {
         return &s[at..];
     }
-    let end = at + length;
+    let end = at + count;
     &s[at..end]
 }
 

@@ -73,11 +73,11 @@ fn fixed_bytes(first: u8) -> usize
     1
 }
 
-fn extension_missing(first: u8, length: usize) -> bool
-    ensures { λ r. ⌜ r ≡ extensionMissing first length ⌝ }
+fn extension_missing(first: u8, bytes: usize) -> bool
+    ensures { λ r. ⌜ r ≡ extensionMissing first bytes ⌝ }
 {
     if extension_bit(first) {
-        return length == 1;
+        return bytes == 1;
     }
     false
 }
@@ -139,20 +139,20 @@ pub fn read_header(obu: &[u8]) -> Judged
 }
 
 // How many bytes remain behind the header, in an OBU of so many bytes.
-fn remaining(header: Header, length: usize) -> usize
-    ensures { λ r. ⌜ r ≡ bytesRemaining header length ⌝ }
+fn remaining(header: Header, bytes: usize) -> usize
+    ensures { λ r. ⌜ r ≡ bytesRemaining header bytes ⌝ }
 {
     let content = header.content;
-    if length < content {
+    if bytes < content {
         return 0;
     }
-    length - content
+    bytes - content
 }
 
-fn size_wrong(header: Header, length: usize) -> bool
-    ensures { λ r. ⌜ r ≡ sizeWrong header length ⌝ }
+fn size_wrong(header: Header, bytes: usize) -> bool
+    ensures { λ r. ⌜ r ≡ sizeWrong header bytes ⌝ }
 {
-    let remain = remaining(header, length);
+    let remain = remaining(header, bytes);
     let size = header.size;
     match size {
         Size::Absent => false,
@@ -160,27 +160,27 @@ fn size_wrong(header: Header, length: usize) -> bool
     }
 }
 
-fn delimiter_with_content(header: Header, length: usize) -> bool
-    ensures { λ r. ⌜ r ≡ delimiterWithContent header length ⌝ }
+fn delimiter_with_content(header: Header, bytes: usize) -> bool
+    ensures { λ r. ⌜ r ≡ delimiterWithContent header bytes ⌝ }
 {
     if header.obu_type != 2 {
         return false;
     }
-    0 < remaining(header, length)
+    0 < remaining(header, bytes)
 }
 
 // The header of an OBU of so many bytes that begins with prefix; 3, 4, 5, 6. HEADER_BYTES bytes of it, or all if there are fewer, are enough.
-pub fn judge(prefix: &[u8], length: usize) -> Judged
-    ensures { λ r. ⌜ judgedSays r ≡ judged (now (prefix .entry)) length ⌝ }
+pub fn judge(prefix: &[u8], bytes: usize) -> Judged
+    ensures { λ r. ⌜ judgedSays r ≡ judged (now (prefix .entry)) bytes ⌝ }
 {
     let read = read_header(prefix);
     let Judged::Passed(header) = read else {
         return read;
     };
-    if size_wrong(header, length) {
+    if size_wrong(header, bytes) {
         return refuse(Refusal::OBU_SIZE);
     }
-    if delimiter_with_content(header, length) {
+    if delimiter_with_content(header, bytes) {
         return refuse(Refusal::OBU_SIZE);
     }
     if header.obu_type == 8 {

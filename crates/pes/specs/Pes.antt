@@ -17,8 +17,8 @@ use Rattle.pes.specs.declared.header.PesRead.the-variants.{Timed, Untime
 
 -- ---- the fields of the header
 -- PES_packet_length
-abbrev pub packetLength : Bytes → ℕ
-packetLength payload = word (byte payload 4) (byte payload 5)
+abbrev pub pesPacketLength : Bytes → ℕ
+pesPacketLength payload = word (byte payload 4) (byte payload 5)
 
 -- PES_scrambling_control
 abbrev pub scramblingControl : Bytes → ℕ
@@ -141,7 +141,7 @@ dts payload = pick (ptsAndDts payload) (presentDts payload) (pts payload)
 
 -- `Header` (src/header.rt) is PES_packet_length, the header's own size, and the times
 abbrev pub headerOf : Bytes → Header
-headerOf payload = record { length = packetLength payload; size = headerSize payload; pts = pts payload; dts = dts payload }
+headerOf payload = record { length = pesPacketLength payload; size = headerSize payload; pts = pts payload; dts = dts payload }
 
 -- what is found at the head of the payload: a header without times, for which the segment gives 30, or one with times
 pub data Found : Type 0 where

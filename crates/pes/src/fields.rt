@@ -1,11 +1,11 @@
 // The fields of a PES header.
 ghost use mathlib.Core.Path.{_≡_};
-ghost use Rattle.pes.specs.Pes.{packetLength, ptsDtsFlags, headerSize, noTimes, ptsAlone, ptsAndDts, pts, presentDts, dts};
+ghost use Rattle.pes.specs.Pes.{pesPacketLength, ptsDtsFlags, headerSize, noTimes, ptsAlone, ptsAndDts, pts, presentDts, dts};
 use lists::byte_at;
 use ticks::Ticks90;
 
 pub fn packet_length(payload: &[u8]) -> u16
-    ensures { λ r. ⌜ r ≡ packetLength (now (payload .entry)) ⌝ }
+    ensures { λ r. ⌜ r ≡ pesPacketLength (now (payload .entry)) ⌝ }
 {
     byte_at(payload, 4) as u16 * 256 + byte_at(payload, 5) as u16
 }

@@ -30,7 +30,7 @@ use Rattle.segment.specs.declared.whole.SegmentCheck.{SegmentCheck}
 use Rattle.segment.specs.declared.whole.SegmentCheck.the-variants as checked
 use Rattle.segment.specs.State.{FirstPat, FirstPmt, AccessUnit, State, packetCount}
 use Rattle.segment.specs.Rules.{closePes, openBytes, carriedUnits}
-use Rattle.segment.specs.Check.{Accepted, Progress, Outputs, start, run, packets, segmentLengthWrong, accepted, ending, checkSegment, roomsOf, holding, zeros, leaves, outputsOf}
+use Rattle.segment.specs.Check.{Accepted, Progress, Outputs, start, run, packets, segmentLengthWrong, accepted, ending, checkSegment, roomsOf, holding, zeros, outputsAfter, outputsOf}
 use Rattle.segment.specs.Answer.{summaryOf, summarised, checkSays}
 use Rattle.segment.specs.Parts.{Extracted, patOf, pmtOf, stateOf, pesOf, withExtracted, Stands, FollowsBy, JudgesBy}
 
@@ -161,12 +161,12 @@ answers (checked.Accepted s) before v out lens times j = ap passed (j .2) ∙ sy
 answers (checked.Refused q) before v out lens times j = sym (ap (λ (w : Verdict Accepted). summarised w) j)
 
 accepted-by : (s : Summary) (before : Outputs) (v : Verdict Accepted) (out lens times : List ℕ) → JudgesBy (checked.Accepted s) before v out lens times
-    → outputsOf out lens times ≡ leaves v before
-unfolding leaves
-accepted-by s before v out lens times j = j .3 ∙ sym (ap (λ (w : Verdict Accepted). leaves w before) (j .1))
+    → outputsOf out lens times ≡ outputsAfter v before
+unfolding outputsAfter
+accepted-by s before v out lens times j = j .3 ∙ sym (ap (λ (w : Verdict Accepted). outputsAfter w before) (j .1))
 
 pub accepted-leaves : (r : SegmentCheck) (s : Summary) → r ≡ checked.Accepted s → (before : Outputs) (v : Verdict Accepted) (out lens times : List ℕ)
-    → JudgesBy r before v out lens times → outputsOf out lens times ≡ leaves v before
+    → JudgesBy r before v out lens times → outputsOf out lens times ≡ outputsAfter v before
 accepted-leaves r s e before v out lens times j =
     accepted-by s before v out lens times (subst (λ (y : SegmentCheck). JudgesBy y before v out lens times) e j)
 
@@ -176,8 +176,8 @@ zeros-as o b e h = e ∙ ap (λ (n : ℕ). replicate n 0) h
 
 pub refused-leaves : (r : SegmentCheck) (q : Refused) → r ≡ checked.Refused q → (before : Outputs) (v : Verdict Accepted) (o l t out lens times : List ℕ)
     → JudgesBy r before v o l t → out ≡ zeros o → lens ≡ zeros l → times ≡ zeros t → length o ≡ length (before .bytes) → length l ≡ length (before .lens)
-    → length t ≡ length (before .times) → outputsOf out lens times ≡ leaves v before
-unfolding leaves
+    → length t ≡ length (before .times) → outputsOf out lens times ≡ outputsAfter v before
+unfolding outputsAfter
 refused-leaves r q e before v o l t out lens times j a b c la lb lc =
     ap (λ (x : List ℕ). outputsOf x lens times) (zeros-as o (before .bytes) a la) ∙ ap₂ (λ (x y : List ℕ). outputsOf (zeros (before .bytes)) x y) (zeros-as l (before .lens) b lb) (zeros-as t (before .times) c lc)
-    ∙ sym (ap (λ (w : Verdict Accepted). leaves w before) (subst (λ (y : SegmentCheck). JudgesBy y before v o l t) e j))
+    ∙ sym (ap (λ (w : Verdict Accepted). outputsAfter w before) (subst (λ (y : SegmentCheck). JudgesBy y before v o l t) e j))

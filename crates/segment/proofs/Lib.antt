@@ -14,3 +14,4 @@ pub mod Ending
 pub mod Accepting
 pub mod ByKind
 pub mod Thirteen
+pub mod ThirteenExample

@@ -104,6 +104,6 @@ zeros out = replicate (length out) 0
 
 -- the outputs after the check: "Success writes from the front and the rest of each output keeps its old bytes."; "A refused segment returns
 -- number and place, all else 0, and leaves zeros throughout the three outputs."
-unfoldable pub leaves : Verdict Accepted → Outputs → Outputs
-leaves (passed a) o = holding (a .units) o
-leaves (refused number place) o = record { bytes = zeros (o .bytes); lens = zeros (o .lens); times = zeros (o .times) }
+unfoldable pub outputsAfter : Verdict Accepted → Outputs → Outputs
+outputsAfter (passed a) o = holding (a .units) o
+outputsAfter (refused number place) o = record { bytes = zeros (o .bytes); lens = zeros (o .lens); times = zeros (o .times) }

@@ -5,7 +5,7 @@ ghost use mathlib.Core.List.{List};
 ghost use lib.ListN.{length};
 ghost use Rattle.lists.specs.Lists.{Bytes};
 ghost use Rattle.segment.specs.State.{AccessUnit, packetCount};
-ghost use Rattle.segment.specs.Check.{Outputs, segmentLengthWrong, roomsOf, accepted, ending, leaves, checkSegment, outputsOf};
+ghost use Rattle.segment.specs.Check.{Outputs, segmentLengthWrong, roomsOf, accepted, ending, outputsAfter, checkSegment, outputsOf};
 ghost use Rattle.segment.specs.Answer.{summarised, checking, checkSays};
 ghost use Rattle.segment.specs.Parts.{Extracted, Fits, Stands, Runs, Judges, JudgesBy, patOf, pmtOf, stateOf};
 use crate::extraction::Extraction;
@@ -171,7 +171,7 @@ fn judge(segment: &[u8], out: &mut [u8], lens: &mut [usize], times: &mut [u64]) 
 // segment is refused, zeros throughout all three.
 pub fn check(segment: &[u8], out: &mut [u8], lens: &mut [usize], times: &mut [u64]) -> SegmentCheck
     ensures { λ r. ⌜ checkSays r ≡ checking (now (segment .entry)) (roomsOf (outputsOf (now (out .entry)) (now (lens .entry)) (now (times .entry)))) ⌝ }
-    ensures { λ _. ⌜ outputsOf (now (out .exit)) (now (lens .exit)) (now (times .exit)) ≡ leaves (checkSegment (now (segment .entry)) (roomsOf (outputsOf (now (out .entry)) (now (lens .entry)) (now (times .entry))))) (outputsOf (now (out .entry)) (now (lens .entry)) (now (times .entry))) ⌝ }
+    ensures { λ _. ⌜ outputsOf (now (out .exit)) (now (lens .exit)) (now (times .exit)) ≡ outputsAfter (checkSegment (now (segment .entry)) (roomsOf (outputsOf (now (out .entry)) (now (lens .entry)) (now (times .entry))))) (outputsOf (now (out .entry)) (now (lens .entry)) (now (times .entry))) ⌝ }
 {
     let answer = judge(segment, out, lens, times);
     match answer {

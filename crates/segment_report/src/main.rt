@@ -1,12 +1,33 @@
-// Checks a segment from standard input and prints what it carries, or the refusal.
+// Checks a segment from standard input and prints what it carries, or the refusal. An input of more than 16,384 packets is not checked, and the program
+// says so: its buffers stand on the stack.
+ghost use mathlib.Core.Path.{_≡_};
+ghost use lib.ListN.{length};
 use libc::STDIN_FILENO;
 use libc::STDOUT_FILENO;
 use refusal::Refused;
 use segment::SegmentCheck;
 use segment::Summary;
 
-// The most units whose lengths and times are printed.
-const MOST_UNITS: usize = 64;
+// The most units that a segment has.
+const MOST_UNITS: usize = 1024;
+
+// The most bytes of a segment that is checked: 16,384 packets.
+const MOST_BYTES: usize = 3080192;
+
+// One byte more, so that a longer input is seen to be longer.
+const INPUT_ROOM: usize = 3080193;
+
+fn input_buffer() -> [u8; INPUT_ROOM]
+    ensures { λ r. ⌜ 3080193 ≡ length r ⌝ }
+{
+    [0; INPUT_ROOM]
+}
+
+fn unit_buffer() -> [u8; MOST_BYTES]
+    ensures { λ r. ⌜ 3080192 ≡ length r ⌝ }
+{
+    [0; MOST_BYTES]
+}
 
 fn print_figure(word: &[u8], n: u64) {
     io::write_all(STDOUT_FILENO, word);
@@ -41,7 +62,7 @@ fn print_unit(index: usize, length: usize, pts: u64, dts: u64) {
     io::write_all(STDOUT_FILENO, b"\n");
 }
 
-fn print_units(units: usize, lens: [usize; 64], times: [u64; 128]) {
+fn print_units(units: usize, lens: [usize; 1024], times: [u64; 2048]) {
     let mut i: usize = 0;
     while i < MOST_UNITS {
         if units <= i {
@@ -53,11 +74,18 @@ fn print_units(units: usize, lens: [usize; 64], times: [u64; 128]) {
 }
 
 fn main() {
-    let mut bytes = io::large_buffer();
+    let mut bytes = input_buffer();
     let n = io::read_full(STDIN_FILENO, &mut bytes);
-    let mut out = io::large_buffer();
-    let mut lens = [0usize; 64];
-    let mut times = [0u64; 128];
+    if MOST_BYTES < n {
+        io::write_all(
+            STDOUT_FILENO,
+            b"not checked: the input is longer than 3080192 bytes\n",
+        );
+        return;
+    }
+    let mut out = unit_buffer();
+    let mut lens = [0usize; MOST_UNITS];
+    let mut times = [0u64; 2048];
     let checked = segment::check(&bytes[..n], &mut out, &mut lens, &mut times);
     match checked {
         SegmentCheck::Refused(refused) => print_refused(refused),

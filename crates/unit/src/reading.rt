@@ -105,7 +105,7 @@ fn judge_obu(payload: &[u8], dropped: usize) -> TsObu
         obu::Judged::Refused(refused) => TsObu::Refused(refused),
         obu::Judged::Passed(header) => TsObu::Passed(Figures {
             obu_type: header.obu_type,
-            dropped,
+            dropped: dropped,
         }),
     }
 }

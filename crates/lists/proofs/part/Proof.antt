@@ -21,7 +21,7 @@ returns : tie.Need-returns
 returns c =
     let s = c .before .before .args .s .now in
     let at = c .before .before .args .at in
-    let n = c .before .before .args .length in
+    let n = c .before .before .args .count in
     ap (take (length s - length s)) (drop-of-length-le s {i = length s} (omega arith)) ∙ take-nil (length s - length s)
     ∙ sym (ap (take n) (drop-of-length-le s {i = at} (omega arith)) ∙ take-nil n)
 
@@ -41,7 +41,7 @@ returns-2 : tie.Need-returns-2
 returns-2 c =
     let s = c .before .before .before .args .s .now in
     let at = c .before .before .before .args .at in
-    let n = c .before .before .before .args .length in
+    let n = c .before .before .before .args .count in
     take-all (length s - at) (drop at s) (omega (arith, length-drop at s)) ∙ sym (take-all n (drop at s) (omega (arith, length-drop at s)))
 
 add-end : tie.Need-add-end
@@ -60,7 +60,7 @@ returns-3 : tie.Need-returns-3
 returns-3 c =
     let s = c .before .before .before .args .s .now in
     let at = c .before .before .before .args .at in
-    let n = c .before .before .before .args .length in
+    let n = c .before .before .before .args .count in
     let e : at + n - at ≡ n = omega arith in
     ap (λ (k : ℕ). take k (drop at s)) e
 

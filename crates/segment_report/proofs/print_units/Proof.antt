@@ -5,10 +5,10 @@ use Rattle.segment_report.proofs.print_units.Statement.{statement}
 use Rattle.segment_report.proofs.print_units.Tie as tie
 
 abbrev Inv-loop : tie.InvT-loop
-Inv-loop units lens times i₀ i = i ≤ 64
+Inv-loop units lens times i₀ i = i ≤ 1024
 
 abbrev μ-loop : tie.MeasureT-loop
-μ-loop units lens times i₀ i = 64 - i
+μ-loop units lens times i₀ i = 1024 - i
 
 loop-holds : tie.Need-loop-holds Inv-loop μ-loop
 loop-holds c = search needs

@@ -15,13 +15,13 @@ header-was c = sym (c .before .before .before .read-header .ensures) ∙ ap judg
 
 -- its size is right
 size-right : (c : tie.Else1)
-    → sizeWrong (c .before .before .before .read .given .0 .0) (c .before .before .before .before .before .before .before .args .length) ≡ false
+    → sizeWrong (c .before .before .before .read .given .0 .0) (c .before .before .before .before .before .before .before .args .bytes) ≡ false
 size-right c = sym (c .before .size-wrong .ensures) ∙ c .if1 .left
 
 -- it is of no delimiter with content
 no-content : (c : tie.Else2)
     → delimiterWithContent (c .before .before .before .before .before .read .given .0 .0)
-    (c .before .before .before .before .before .before .before .before .before .args .length) ≡ false
+    (c .before .before .before .before .before .before .before .before .before .args .bytes) ≡ false
 no-content c = sym (c .before .delimiter-with-content .ensures) ∙ c .if2 .left
 
 read-header-requires : tie.Need-read-header-requires
