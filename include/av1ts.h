@@ -45,17 +45,20 @@ av1ts_answer av1ts_read_unit(const uint8_t *unit, size_t unit_len, uint8_t *out,
 /* The same verdict and figures with no output: all refusals of reading but 8. */
 av1ts_answer av1ts_check_unit(const uint8_t *unit, size_t unit_len);
 
-/* A walk over a carried unit hands out one payload at a time. Its state is a place in the unit. */
+/* A walk over a carried unit hands out one payload at a time. Its state is a place in the unit: it starts at 0, and each step says the place of the
+ * next one. */
 typedef struct {
     uint64_t number, place, end, start, length, next_at;
 } av1ts_step;
 
-/* next_at: the place of the first step. Refuses: 9 no start code at the head (then next_at is 0). */
+/* The check at the start alone. next_at: the place of the first step, which is 0. Refuses: 9 no start code at the head. The step at 0 checks this too,
+ * so a walk may begin with that. */
 av1ts_step av1ts_walk_start(const uint8_t *unit, size_t unit_len);
 
-/* The step at a place: a payload is the length bytes from start on, and next_at the place of the next step; or end is 1. At the end, and where a step refused, next_at
- * is the place handed in: the walk stays. Refuses, at the OBU's index: 3 an OBU of no bytes; 10 an illegal payload. A place that no walk over these bytes reaches is
- * answered by 9, or from the unit's length on by the end. */
+/* The step at a place: a payload is the length bytes from start on, and next_at the place of the next step; or end is 1. At the end, and where a step
+ * refused, next_at is the place handed in: the walk stays. Refuses: 9 (place 0) no start code at the head, also of no bytes at all; at the OBU's index,
+ * which is the number of payloads that the walk has handed out, 3 an OBU of no bytes, 10 an illegal payload. A place that no walk over these bytes
+ * reaches has its answer too: from the unit's length on the end; where no start code stands 9, at place 0; where one stands the step at it. */
 av1ts_step av1ts_walk_step(const uint8_t *unit, size_t unit_len, size_t at);
 
 /* What an AV1 video descriptor says. field: the ten fields, in descriptor order: seq_profile, seq_level_idx_0, seq_tier_0, high_bitdepth, twelve_bit, monochrome,

@@ -9,6 +9,9 @@ use crate::refusal::Refusal;
 use crate::unit::{START_CODE, payloads};
 use std::ops::Range;
 
+/// The condition of 9 at a step.
+pub const NO_START_CODE: &str = "9: no start code at the place";
+
 /// The start of a walk: the place of its first step.
 pub fn start(unit: &[u8]) -> Result<usize, Refusal> {
     if !unit.starts_with(&START_CODE) {
@@ -28,25 +31,27 @@ pub enum Step {
     Refused(Refusal),
 }
 
-/// The step at a place. The places of a walk are those of the start codes, and the unit's length.
-/// The answer is none where no walk gets: at any other place, and in a unit that refuses the start.
-pub fn step(unit: &[u8], at: usize) -> Option<Step> {
-    start(unit).ok()?;
-    if at == unit.len() {
-        return Some(Step::End);
-    }
+/// The step at a place. The places of a walk are 0, those of the start codes, and the unit's length.
+///
+/// A place that no walk reaches is answered too: from the unit's length on by the end, elsewhere by
+/// 9. At place 0 it is 9 wherever no start code stands, in a unit of no bytes too.
+pub fn step(unit: &[u8], at: usize) -> Step {
     let parts = payloads(unit);
-    let index = parts
-        .iter()
-        .position(|part| part.start - START_CODE.len() == at)?;
+    let here = |part: &Range<usize>| part.start - START_CODE.len() == at;
+    let Some(index) = parts.iter().position(here) else {
+        if at > 0 && at >= unit.len() {
+            return Step::End;
+        }
+        return Step::Refused(Refusal::new(9, 0, NO_START_CODE));
+    };
     let part = parts[index].clone();
     let payload = &unit[part.clone()];
     if payload.is_empty() {
-        return Some(Step::Refused(Refusal::new(3, index, "3: no bytes")));
+        return Step::Refused(Refusal::new(3, index, "3: no bytes"));
     }
     if let Some((_, condition)) = payload::first_forbidden(payload) {
-        return Some(Step::Refused(Refusal::new(10, index, condition)));
+        return Step::Refused(Refusal::new(10, index, condition));
     }
     let next = part.end;
-    Some(Step::Payload { part, next })
+    Step::Payload { part, next }
 }

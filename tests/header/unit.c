@@ -44,6 +44,8 @@ int main(void) {
     expect("the second payload", at(av1ts_walk_step(unit, 12, 5), 0, 0, 0, 8, 4, 12));
     expect("the end, and it stays", at(av1ts_walk_step(unit, 12, 12), 0, 0, 1, 0, 0, 12));
     expect("no start code at the head", at(av1ts_walk_start(unit + 1, 11), 9, 0, 0, 0, 0, 0));
+    expect("the first step finds none either", at(av1ts_walk_step(unit + 1, 11, 0), 9, 0, 0, 0, 0, 0));
+    expect("nor in no bytes", at(av1ts_walk_start(unit, 0), 9, 0, 0, 0, 0, 0) && at(av1ts_walk_step(unit, 0, 0), 9, 0, 0, 0, 0, 0));
     expect("a payload of no bytes", at(av1ts_walk_step(unit, 8, 5), 3, 1, 0, 0, 0, 5));
     expect("null pointers of length 0: no OBU to write", is(av1ts_write_unit(NULL, 0, NULL, 0, NULL, 0), 1, 0, 0, 0, 0));
     expect("null pointers of length 0: nothing to read", is(av1ts_read_unit(NULL, 0, NULL, 0, NULL, 0), 9, 0, 0, 0, 0));

@@ -5,7 +5,8 @@ ghost use Rattle.av1ts.specs.Answers.{startAnswer, stepAnswer};
 use unit::Started;
 use unit::Step;
 
-// end 1: the walk has come to the end. Otherwise, with number 0, a payload: where it begins, its length, and the place of the next step.
+// end 1: the walk has come to the end. Otherwise, with number 0, a payload: where it begins, its length, and the place
+// of the next step.
 #[repr(C)]
 pub struct WalkStep {
     pub number: u64,
@@ -56,7 +57,7 @@ pub extern "C" fn av1ts_walk_step(unit: &[u8], at: usize) -> WalkStep
             place: 0,
             end: 0,
             start: part.start as u64,
-            length: part.length as u64,
+            length: part.bytes as u64,
             next_at: part.next as u64,
         },
         Step::End => WalkStep {

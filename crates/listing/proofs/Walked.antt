@@ -1,75 +1,63 @@
 -- The walk over an accepted unit, which puts one line at each step. Assumes nothing.
 use Prim.Native.Nat.{ℕ, _+_, _-_, _*_, _≤_, _<_}
-use mathlib.Core.Bool.{true, not}
+use mathlib.Core.Bool.{true}
 use mathlib.Core.Path.{_≡_, refl, sym, ap, subst, _∙_}
 use mathlib.Core.List.{List, [], _∷_, _++_, append-nil, append-assoc}
 use native.Mathlib.Omega.{arith}
 use native.Mathlib.Numerals.{add-one}
-use borrow.Author.Tests.{eqb-false, not-false}
 use lib.ListN.{length, take, drop}
 use Rattle.lists.specs.Lists.{Bytes}
-use Rattle.refusal.specs.Verdict.{Verdict, passed}
-use Rattle.refusal.proofs.Verdicts.{follows, not-given, never, passed-after, passed-then, given-passed, All}
+use Rattle.refusal.specs.Verdict.{passed}
+use Rattle.refusal.proofs.Verdicts.{never, passed-then}
 use Rattle.emulation.specs.Payload.{legal}
-use Rattle.unit.specs.Unit.{payloads, tsobuRefusal, readUnit}
+use Rattle.unit.specs.Unit.{payloads, readUnit, AcceptsAs}
 use Rattle.unit.specs.Answer.{checking}
-use Rattle.unit.specs.Walk.{starting, stepping, Found, payload, end, goesTo, placeAfter, stepSays, Walks, ended, stepped}
+use Rattle.unit.specs.Walk.{stepping, payload, goesTo, placeAfter, handedOut, stepSays, HandsOut, none, first, Walks}
 use Rattle.unit.specs.declared.walking.Part.{Part}
 use Rattle.unit.specs.declared.walking.Step.{Step}
 use Rattle.unit.specs.declared.walking.Step.the-variants as step
-use Rattle.unit.proofs.Acceptance.{Reads, reads}
+use Rattle.unit.proofs.Acceptance.{reads}
+use Rattle.unit.proofs.AsReading.{accepted-walks}
 use Rattle.unit.proofs.Places.{payload-is}
-use Rattle.unit.proofs.Steps.{handed, handed-part, Fine, walk-whole}
+use Rattle.unit.proofs.Steps.{not-end, gives, gives-part}
 use Rattle.listing.specs.Listing.{payloadLine, payloadLines}
 use Rattle.listing.specs.Parts.{Puts, Accepts, lineRoom, obusRoom}
 use Rattle.listing.proofs.Puttings.{puts-nothing, puts-then, puts-as}
 
 -- ---- an accepted unit
-accepted : (unit : Bytes) → Accepts unit → Reads unit
+accepted : (unit : Bytes) → Accepts unit → (obus : List Bytes) × AcceptsAs unit obus
 unfolding checking
-accepted unit (counts, e) = let k = passed-then (readUnit unit) _ counts e in reads unit (k .0) (k .1) .0
-
-starts : (unit : Bytes) → Accepts unit → starting unit ≡ passed 0
-unfolding starting
-starts unit a = sym (follows (not-given 9 _ (ap not (accepted unit a .headed))) refl)
-
-fine : (p : Bytes) → tsobuRefusal p ≡ passed tt → Fine p
-unfolding tsobuRefusal
-fine p e =
-    let k3 = passed-after _ _ tt e in
-    let k10 = passed-after _ _ tt (k3 .1) in
-    let some = eqb-false (length p) 0 (given-passed 3 _ (k3 .0)) in
-    (omega arith, not-false (legal p) (given-passed 10 _ (k10 .0)))
-
-all-fine : (ps : List Bytes) → All (λ p. tsobuRefusal p ≡ passed tt) ps → All Fine ps
-all-fine [] h = tt
-all-fine (p ∷ ps) h = (fine p (h .0), all-fine ps (h .1))
-
-walks : (unit : Bytes) → Accepts unit → Walks unit 0 (payloads unit)
-walks unit a = walk-whole unit (starts unit a) (all-fine (payloads unit) (accepted unit a .tsobus))
+accepted unit (counts, e) = let k = passed-then (readUnit unit) _ counts e in (k .0, k .1)
 
 -- ---- a step that handed out a payload
-not-end : {p : Part} → _≡_ {A = Verdict Found} (passed (payload p)) (passed end) → ⊥
-not-end h = let z : _≡_ {A = ℕ} 0 1 = cc in omega arith
-
 module _ (unit : Bytes) (at : ℕ) (p : Part) (e : stepping unit at ≡ passed (payload p)) where
-  pub part-legal : legal (take (p .length) (drop (p .start) unit)) ≡ true
+  -- the part that it handed out
+  abbrev part : Bytes
+  part = handedOut unit (stepping unit at)
+
+  part-is : take (p .bytes) (drop (p .start) unit) ≡ part
+  part-is = ap (handedOut unit) (sym e)
+
+  pub part-legal : legal part ≡ true
   part-legal =
-      let h = handed unit at p e in
-      ap legal (handed-part unit at p h ∙ payload-is unit at) ∙ h .fine
+      let h = gives unit at p e in
+      ap legal (sym part-is ∙ gives-part unit at p h ∙ payload-is unit at) ∙ h .fine
 
   goes-on : placeAfter unit at ≡ p .next
   goes-on = ap (goesTo at) e
 
   pub part-onward : length unit - placeAfter unit at < length unit - at
-  part-onward = let h = handed unit at p e in omega (arith, goes-on, h .before-end, h .next)
+  part-onward = let h = gives unit at p e in omega (arith, goes-on, h .before-end, h .next)
 
   -- it is the next of the payloads that the walk hands out
-  walk-on : (rest : List Bytes) → Walks unit at rest → (ps : List Bytes) × (rest ≡ take (p .length) (drop (p .start) unit) ∷ ps) × Walks unit (placeAfter unit at) ps
-  walk-on rest (ended k) = absurd (not-end (sym e ∙ k))
-  walk-on rest (stepped {ps = ps} q k w) =
-      let same : q ≡ p = cc in
-      (ps, ap (λ (x : Part). take (x .length) (drop (x .start) unit) ∷ ps) same, subst (λ (n : ℕ). Walks unit n ps) (ap (λ (x : Part). x .next) same ∙ sym goes-on) w)
+  walk-on : (rest : List Bytes) → Walks unit at rest → (ps : List Bytes) × (rest ≡ part ∷ ps) × Walks unit (placeAfter unit at) ps
+  walk-on rest (at′, none, k) = absurd (not-end (sym e ∙ k))
+  walk-on rest (at′, first {ps = ps} q h w, k) =
+      let same : q ≡ p = cc in (
+        ps,
+        ap (λ (x : Part). take (x .bytes) (drop (x .start) unit) ∷ ps) same ∙ ap (λ (x : Bytes). x ∷ ps) part-is,
+        (at′, subst (λ (n : ℕ). HandsOut unit n ps at′) (ap (λ (x : Part). x .next) same ∙ sym goes-on) w, k),
+      )
 
 -- a step's answer that says a payload is that payload
 says-payload : (q : Step) (p : Part) → stepSays q ≡ passed (payload p) → q ≡ step.Payload p
@@ -78,9 +66,10 @@ says-payload step.End p e = absurd (not-end (sym e))
 says-payload (step.Refused r) p e = never e
 
 -- any other step ends the walk
-walk-off : (unit : Bytes) (at : ℕ) (q : Step) → stepSays q ≡ stepping unit at → ((p : Part) → q ≡ step.Payload p → ⊥) → (rest : List Bytes) → Walks unit at rest → rest ≡ []
-walk-off unit at q e n rest (ended k) = refl
-walk-off unit at q e n rest (stepped p k w) = absurd (n p (says-payload q p (e ∙ k)))
+walk-off : (unit : Bytes) (at : ℕ) (q : Step) → stepSays q ≡ stepping unit at → ((p : Part) → q ≡ step.Payload p → ⊥) → (rest : List Bytes)
+    → Walks unit at rest → rest ≡ []
+walk-off unit at q e n rest (at′, none, k) = refl
+walk-off unit at q e n rest (at′, first p h w, k) = absurd (n p (says-payload q p (e ∙ h)))
 
 -- ---- the lines of the steps so far are put, and `rest` is to come
 pub record Listing (unit text₀ : Bytes) (at : ℕ) (text : Bytes) (place stop index : ℕ) : Type 0 where
@@ -97,11 +86,11 @@ pub listing-start : (unit text : Bytes) (at : ℕ) → Accepts unit → Listing 
 listing-start unit text at a =
     record {
       rest = payloads unit;
-      walk = walks unit a;
+      walk = let h = accepted unit a in accepted-walks unit (h .0) (h .1);
       put = [];
       so-far = puts-nothing text at;
       whole = refl;
-      few = omega (arith, accepted unit a .most);
+      few = let h = accepted unit a in omega (arith, reads unit (h .0) (h .1) .0 .most);
       small = omega arith;
       long = refl;
     }
@@ -116,12 +105,13 @@ module _ {unit text₀ text : Bytes} {at place stop index : ℕ} (s : Listing un
     listing-room h = omega (arith, s .small, s .long, listing-index)
 
     pub listing-step : (later : Bytes) (after : ℕ) → at + obusRoom ≤ length text₀
-        → Puts text stop (payloadLine index (take (p .length) (drop (p .start) unit))) later after → after ≤ stop + lineRoom → length later ≡ length text
+        → Puts text stop (payloadLine index (handedOut unit (stepping unit place))) later after → after ≤ stop + lineRoom
+        → length later ≡ length text
         → Listing unit text₀ at later (placeAfter unit place) after (index + 1)
     unfolding payloadLines
     listing-step later after h k small long =
         let w = walk-on unit place p e (s .rest) (s .walk) in
-        let line = payloadLine index (take (p .length) (drop (p .start) unit)) in
+        let line = payloadLine index (handedOut unit (stepping unit place)) in
         record {
           rest = w .0;
           walk = w .2;
@@ -138,11 +128,14 @@ module _ {unit text₀ text : Bytes} {at place stop index : ℕ} (s : Listing un
         }
 
   -- the walk has come to its end
-  pub listing-end : (q : Step) → stepSays q ≡ stepping unit place → ((p : Part) → q ≡ step.Payload p → ⊥) → Puts text₀ at (payloadLines 0 (payloads unit)) text stop
+  pub listing-end : (q : Step) → stepSays q ≡ stepping unit place → ((p : Part) → q ≡ step.Payload p → ⊥)
+      → Puts text₀ at (payloadLines 0 (payloads unit)) text stop
   unfolding payloadLines
   listing-end q e n =
       puts-as
-      (sym (append-nil (s .put)) ∙ ap (λ (l : List Bytes). s .put ++ payloadLines index l) (sym (walk-off unit place q e n (s .rest) (s .walk))) ∙ s .whole)
+      (sym (append-nil (s .put))
+      ∙ ap (λ (l : List Bytes). s .put ++ payloadLines index l) (sym (walk-off unit place q e n (s .rest) (s .walk)))
+      ∙ s .whole)
       (s .so-far)
 
   pub listing-bound : stop ≤ at + obusRoom

@@ -38,10 +38,11 @@ fn put_obus(text: &mut [u8], at: usize, unit: &[u8]) -> usize
     let mut end = at;
     let mut index: usize = 0;
     loop {
-        let Step::Payload(part) = walk.step() else {
+        let handed = walk.step();
+        let Step::Payload(_) = handed.step else {
             return end;
         };
-        end = put_payload(text, end, index, walk.payload(part));
+        end = put_payload(text, end, index, handed.payload);
         index += 1;
     }
 }

@@ -1,36 +1,32 @@
--- The walk by a reader: a fresh reader is valid where 9 is not given, every step keeps that, a step that refuses leaves the reader where it is, and its steps
--- hand out exactly the payloads. Assumes nothing.
-use Prim.Native.Nat.{ℕ}
-use mathlib.Core.Path.{_≡_, refl, sym, ap, subst}
-use mathlib.Core.List.{List}
-use lib.ListN.{drop}
+-- The walk by a reader: a fresh reader is valid, every step keeps that, and a step that refuses leaves the reader where it is. Its steps
+-- are those of the walk by places, so what that walk hands out and where it refuses holds of the reader. Assumes nothing.
+use Prim.Native.Nat.{ℕ, _<_}
+use mathlib.Core.Path.{_≡_, refl, sym, ap, subst, _∙_}
+use mathlib.Core.List.{List, _∷_}
+use lib.ListN.{length, take, drop}
 use denote.Ref.{RefT, now}
 use Rattle.lists.specs.Lists.{Bytes}
 use Rattle.refusal.specs.Verdict.{Verdict, passed, refused}
-use Rattle.refusal.proofs.Verdicts.{All}
-use Rattle.unit.specs.Unit.{payloads}
-use Rattle.unit.specs.Walk.{WalkPlace, starting, Found, payload, end, stepping, goesTo, placeAfter, fresh, stepOf, behind, ValidWalk, Walks, ended, stepped, ReaderWalks, at-end, on}
+use Rattle.unit.specs.Unit.{payloads, readUnit, AcceptsAs}
+use Rattle.unit.specs.Answer.{reading}
+use Rattle.unit.specs.Walk.{Found, payload, end, stepping, goesTo, handedOut, fresh, stepOf, handedBy, behind, ValidWalk}
+use Rattle.unit.specs.Walk.{HandsOut, none, first, WalkSays, ReaderHandsOut, reader-none, reader-first, ReaderSays, ReaderWalks}
 use Rattle.unit.specs.declared.reader.Walk.{Walk}
 use Rattle.unit.specs.declared.walking.Part.{Part}
-use Rattle.unit.proofs.Steps.{start-valid, step-valid, walk-payloads, walk-whole, Fine}
+use Rattle.unit.proofs.Steps.{WalkNumber, start-valid, step-valid}
+use Rattle.unit.proofs.Walks.{walk-payloads, refused-place}
+use Rattle.unit.proofs.AsReading.{accepted-walks, read-refused, reading-refused}
 
 -- ---- validity
-goes-valid : (unit : Bytes) (at : ℕ) (found : Verdict Found) → stepping unit at ≡ found → WalkPlace unit at → WalkPlace unit (goesTo at found)
-goes-valid unit at (passed (payload p)) e v = step-valid unit at p e
-goes-valid unit at (passed end) e v = v
-goes-valid unit at (refused number place) e v = v
-
-pub after-valid : (unit : Bytes) (at : ℕ) → WalkPlace unit at → WalkPlace unit (placeAfter unit at)
-after-valid unit at v = goes-valid unit at (stepping unit at) refl v
-
-pub fresh-valid : (unit : RefT Bytes) → starting (now unit) ≡ passed 0 → ValidWalk (fresh unit)
-fresh-valid unit e = start-valid (now unit) 0 e
+pub fresh-valid : (unit : RefT Bytes) → ValidWalk (fresh unit)
+fresh-valid unit = start-valid (now unit)
 
 pub behind-valid : (walk : Walk) → ValidWalk walk → ValidWalk (behind walk)
-behind-valid walk v = after-valid (now (walk .src)) (walk .at) v
+behind-valid walk v = step-valid (now (walk .src)) (walk .at) v
 
 -- ---- where a reader stands behind its step
-stands : (walk : Walk) (found : Verdict Found) → stepOf walk ≡ found → behind walk ≡ record { src = walk .src; at = goesTo (walk .at) found }
+stands : (walk : Walk) (found : Verdict Found) → stepOf walk ≡ found
+    → behind walk ≡ record { src = walk .src; at = goesTo (walk .at) found }
 stands walk found e = ap (λ (v : Verdict Found). record { src = walk .src; at = goesTo (walk .at) v }) e
 
 -- "and stays at a step that refused"
@@ -40,23 +36,66 @@ refused-stays walk number place e = stands walk (refused number place) e
 pub end-stays : (walk : Walk) → stepOf walk ≡ passed end → behind walk ≡ walk
 end-stays walk e = stands walk (passed end) e
 
+-- ---- its steps are those by places
 next-is : (walk : Walk) (p : Part) → stepOf walk ≡ passed (payload p) → behind walk .at ≡ p .next
 next-is walk p e = ap (λ (w : Walk). w .at) (stands walk (passed (payload p)) e)
 
--- ---- the whole walk
-by-places : {walk : Walk} {ps : List Bytes} → ReaderWalks walk ps → Walks (now (walk .src)) (walk .at) ps
-by-places (at-end e) = ended e
-by-places {walk} (on {ps = ps} p e w) = stepped p e (subst (λ (n : ℕ). Walks (now (walk .src)) n ps) (next-is walk p e) (by-places w))
+part-is : (walk : Walk) (p : Part) → stepOf walk ≡ passed (payload p) → handedBy walk ≡ take (p .bytes) (drop (p .start) (now (walk .src)))
+part-is walk p e = ap (handedOut (now (walk .src))) e
 
-by-reader : (unit : RefT Bytes) {at : ℕ} {ps : List Bytes} → Walks (now unit) at ps → ReaderWalks (record { src = unit; at = at }) ps
-by-reader unit (ended e) = at-end e
-by-reader unit {at} (stepped {ps = ps} p e w) =
-    on p e (subst (λ (n : ℕ). ReaderWalks (record { src = unit; at = n }) ps) (sym (next-is (record { src = unit; at = at }) p e)) (by-reader unit w))
+-- what a reader's steps hand out, the steps from its place do
+to-places : {walk walk′ : Walk} {ps : List Bytes} → ReaderHandsOut walk ps walk′
+    → (walk′ .src ≡ walk .src) × HandsOut (now (walk .src)) (walk .at) ps (walk′ .at)
+to-places reader-none = (refl, none)
+to-places {walk} {walk′} (reader-first {ps = ps} p e w) =
+    let r = to-places w in
+    let on = subst (λ (n : ℕ). HandsOut (now (walk .src)) n ps (walk′ .at)) (next-is walk p e) (r .1) in
+    (r .0, subst (λ (x : Bytes). HandsOut (now (walk .src)) (walk .at) (x ∷ ps) (walk′ .at)) (sym (part-is walk p e)) (first p e on))
 
--- the steps of a valid reader to the end hand out exactly the payloads from where it stands on
-pub reader-payloads : (walk : Walk) {ps : List Bytes} → ValidWalk walk → ReaderWalks walk ps → ps ≡ payloads (drop (walk .at) (now (walk .src)))
-reader-payloads walk v w = walk-payloads (now (walk .src)) v (by-places w)
+places-say : (walk : Walk) (ps : List Bytes) (says : Verdict Found) → ReaderSays walk ps says
+    → WalkSays (now (walk .src)) (walk .at) ps says
+places-say walk ps says (walk′, w, e) =
+    let r = to-places w in
+    (walk′ .at, r .1, ap (λ (unit : RefT Bytes). stepping (now unit) (walk′ .at)) (sym (r .0)) ∙ e)
 
--- where a walk starts and each payload passes 3 and 10, the steps of a fresh reader to the end hand out exactly the payloads
-pub reader-whole : (unit : RefT Bytes) → starting (now unit) ≡ passed 0 → All Fine (payloads (now unit)) → ReaderWalks (fresh unit) (payloads (now unit))
-reader-whole unit e f = by-reader unit (walk-whole (now unit) e f)
+-- and the other way
+abbrev reader-at : RefT Bytes → ℕ → Walk
+reader-at unit at = record { src = unit; at = at }
+
+to-reader : (unit : RefT Bytes) {at at′ : ℕ} {ps : List Bytes} → HandsOut (now unit) at ps at′
+    → ReaderHandsOut (reader-at unit at) ps (reader-at unit at′)
+to-reader unit none = reader-none
+to-reader unit {at} {at′} (first {ps = ps} p e w) =
+    let walk = reader-at unit at in
+    let walk′ = reader-at unit at′ in
+    let on = subst (λ (n : ℕ). ReaderHandsOut (reader-at unit n) ps walk′) (sym (next-is walk p e)) (to-reader unit w) in
+    subst (λ (x : Bytes). ReaderHandsOut walk (x ∷ ps) walk′) (part-is walk p e) (reader-first p e on)
+
+reader-says : (unit : RefT Bytes) (ps : List Bytes) (says : Verdict Found) → WalkSays (now unit) 0 ps says → ReaderSays (fresh unit) ps says
+reader-says unit ps says (at′, w, e) = (reader-at unit at′, to-reader unit w, e)
+
+-- ---- whole walks
+-- the steps of a reader to the end hand out exactly the payloads from where it stands on
+pub reader-payloads : (walk : Walk) (ps : List Bytes) → ReaderWalks walk ps → ps ≡ payloads (drop (walk .at) (now (walk .src)))
+reader-payloads walk ps w = walk-payloads (now (walk .src)) (walk .at) ps (places-say walk ps (passed end) w)
+
+-- the steps of a fresh reader over an accepted unit hand out all payloads and come to the end
+pub reader-accepted : (unit : RefT Bytes) (l : List Bytes) → AcceptsAs (now unit) l → ReaderWalks (fresh unit) (payloads (now unit))
+reader-accepted unit l a = reader-says unit (payloads (now unit)) (passed end) (accepted-walks (now unit) l a)
+
+-- a step that refuses after k payloads have been handed out has place k
+pub reader-refused-place : (unit : RefT Bytes) (ps : List Bytes) (number place : ℕ) → ReaderSays (fresh unit) ps (refused number place)
+    → place ≡ length ps
+reader-refused-place unit ps number place w = refused-place (now unit) ps number place (places-say (fresh unit) ps (refused number place) w)
+
+-- where reading refuses with 3 or 10 at OBU k, a fresh reader hands out the first k payloads and then refuses with that number and place
+module _ (number : ℕ) (n : WalkNumber number) (unit : RefT Bytes) where
+  pub reader-read-refused : (k : ℕ) → readUnit (now unit) ≡ refused number k
+      → (k < length (payloads (now unit))) × ReaderSays (fresh unit) (take k (payloads (now unit))) (refused number k)
+  reader-read-refused k e = let r = read-refused number n (now unit) k e in (r .0, reader-says unit _ _ (r .1))
+
+  pub reader-reading-refused : (bytes lengths k : ℕ) → reading (now unit) bytes lengths ≡ refused number k
+      → (k < length (payloads (now unit))) × ReaderSays (fresh unit) (take k (payloads (now unit))) (refused number k)
+  reader-reading-refused bytes lengths k e =
+      let r = reading-refused number n (now unit) bytes lengths k e in
+      (r .0, reader-says unit _ _ (r .1))

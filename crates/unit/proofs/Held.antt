@@ -1,5 +1,6 @@
--- What a reader owns, for the walks of its functions. A reader is Copy: what its bytes own is had beside the whole. And a reader at another place is had of
--- it. The laws take `Given`; the rest assumes nothing.
+-- What a reader owns, and what its step hands out, for the walks of functions over them. A reader is Copy: what its bytes own is had beside
+-- the whole. A reader at another place is had of it. Of what a step hands out, the part is had. The laws take `Given`; the rest assumes
+-- nothing.
 use mathlib.Core.Path.{_≡_, refl}
 use Prim.Native.Nat.{ℕ, _<_, _^_}
 use mathlib.Core.List.{[], _∷_}
@@ -16,13 +17,16 @@ use denote.Laws.{Is}
 use denote.Plain.{uint-makes}
 use denote.Builtin.{u8, usize}
 use denote.Ref.{NamedLft}
-use denote.Slice.{sliceVal, ShrSlice}
+use denote.Slice.{sliceVal, ShrSlice, slice-vals}
 use denote.Steps.{owned}
 use denote.Struct.Declared.{Declared}
 use denote.Struct.Laws as LL
 use denote.Struct.Rest.{all-own, ownAt, rest, own-open, own-out, own-put}
 use denote.Struct.Values.{Values}
+use Rattle.unit.specs.declared.reader.Handed.{Handed}
 use Rattle.unit.specs.declared.reader.Walk.{Walk}
+use Rattle.unit.proofs.reader.Handed as G
+use Rattle.unit.proofs.reader.Handed.Laws as G′
 use Rattle.unit.proofs.reader.Walk as T
 use Rattle.unit.proofs.reader.Walk.Laws as T′
 
@@ -60,10 +64,31 @@ module _ {M : Type 1} (𝓤 : URA M) (H : Heap 𝓤) (A : Atoms 𝓤) (W : Given
       qed W (‵ (Own α d) ∷ []) ∵
       use1 W (‵ (Own α d) ⊛ ‵ (Own α d)) (LL.copy D (T′.the-copy α) 𝓤 H A W .twice d (mach ∷ [])) $ split ! $
       use1 W (given (mach ∷ [] ≡ mach ∷ []) (‵ (all-own (D .parts) L vd))) (own-open 𝓤 H A W D L vd mach) $ learn ! (λ _.
-      use1 W (‵ (ownAt (D .parts) L 0 (d .src)) ⊛ ‵ (rest (D .parts) L 0 vd)) (own-out 𝓤 H A W (D .parts) L 0 vd) $ split ! $ move ! (1 ∷ []) $ drop ! $ done !)
+      use1 W (‵ (ownAt (D .parts) L 0 (d .src)) ⊛ ‵ (rest (D .parts) L 0 vd)) (own-out 𝓤 H A W (D .parts) L 0 vd) $
+      split ! $ move ! (1 ∷ []) $ drop ! $ done !)
 
   -- the facts of the new place take the place of the old one's
   pub at-put : (n : ℕ) → n < 2 ^ 64 → ent 𝓤 (sem 𝓤 H A (Own α d)) (sem 𝓤 H A (Own α (at-place d n)))
   at-put n fits =
       qed W (‵ (Own α d) ∷ []) ∵
       owned ! usize (Is usize) (uint-makes 𝓤 H A W w64) n _ (refl, fits) $ move ! (1 ∷ 0 ∷ []) $ by ! (own-put 𝓤 H A W D L 1 vd n mach)
+
+-- the machine value of what a step hands out, and what it owns
+abbrev pub handed-val : NamedLft → Handed → Val
+handed-val α g = LL.val (G.the-type α) (G′.the-laws α) g
+
+module _ {M : Type 1} (𝓤 : URA M) (H : Heap 𝓤) (A : Atoms 𝓤) (W : Given 𝓤 H A) (α : NamedLft) (g : Handed) where
+  abbrev F : Declared
+  F = G.the-type α
+
+  abbrev vg : Values (F .parts)
+  vg = (g .step, (g .payload, tt))
+
+  pub part-out : ent 𝓤 (sem 𝓤 H A (G.the-row α .own g (handed-val α g ∷ [])))
+      (sem 𝓤 H A (ShrSlice (named 0) (α .lft) u8 .own (g .payload) (slice-vals (g .payload))))
+  part-out =
+      qed W (‵ (G.the-row α .own g (handed-val α g ∷ [])) ∷ []) ∵
+      use1 W (given (handed-val α g ∷ [] ≡ handed-val α g ∷ []) (‵ (all-own (F .parts) (G′.the-laws α) vg)))
+      (own-open 𝓤 H A W F (G′.the-laws α) vg (handed-val α g)) $ learn ! (λ _.
+      use1 W (‵ (ownAt (F .parts) (G′.the-laws α) 1 (g .payload)) ⊛ ‵ (rest (F .parts) (G′.the-laws α) 1 vg))
+      (own-out 𝓤 H A W (F .parts) (G′.the-laws α) 1 vg) $ split ! $ move ! (1 ∷ []) $ drop ! $ done !)

@@ -5,6 +5,8 @@ pub mod Acceptance
 pub mod Theorem
 pub mod Places
 pub mod Steps
+pub mod Walks
+pub mod AsReading
 pub mod ByReader
 pub mod Held
 pub mod Readings

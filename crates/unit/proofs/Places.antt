@@ -1,5 +1,5 @@
 -- A string from one of its places on: what stands before the next start code, and the payloads from a start code on. Assumes nothing.
-use Prim.Native.Nat.{ℕ, suc, _+_, _-_, _≤_, _<_}
+use Prim.Native.Nat.{ℕ, zero, suc, _+_, _-_, _≤_, _<_}
 use mathlib.Core.Bool.{Bool, true, false}
 use mathlib.Core.Path.{_≡_, refl, sym, ap, ap₂, _∙_}
 use mathlib.Core.Logic.{_⊎_, inl, inr}
@@ -14,7 +14,8 @@ use Rattle.lists.specs.Lists.{Bytes, those}
 use Rattle.lists.proofs.Tests.{case, clash}
 use Rattle.lists.proofs.Parts.{next, next3}
 use Rattle.unit.specs.Unit.{startCode3, atStartCode, startCodesFrom, Split, split, payloads}
-use Rattle.unit.proofs.Splits.{split-code, split-byte, at-code, codes-yes, codes-no}
+use Rattle.unit.specs.Walk.{obuIndex}
+use Rattle.unit.proofs.Splits.{split-code, split-byte, at-code, codes-yes, codes-no, count-codes}
 
 -- ---- a start code at a place
 code-short : (l : Bytes) → length l < 3 → atStartCode l ≡ false
@@ -178,22 +179,28 @@ those-no : (f : ℕ → Bool) (a : ℕ) (l : List ℕ) → f a ≡ false → tho
 unfolding those
 those-no f a l e = rw (e, those)
 
-pub index-code : (at i : ℕ) (s : Bytes) → i < at → i < length s → atStartCode (drop i s) ≡ true → codesBefore at i s ≡ suc (codesBefore at (i + 1) s)
+-- those from a place on, where one stands at it and where none does
+module _ (i : ℕ) (s : Bytes) (k : i < length s) where
+  codes-code : atStartCode (drop i s) ≡ true → startCodesFrom i (drop i s) ≡ i ∷ startCodesFrom (i + 1) (drop (i + 1) s)
+  codes-code e =
+      let n = next s i k in
+      ap (startCodesFrom i) n ∙ codes-yes i (getD s i 0) (drop (i + 1) s) (rw n at e)
+      ∙ ap (λ (m : ℕ). i ∷ startCodesFrom m (drop (i + 1) s)) (sym (add-one i))
+
+  codes-byte : atStartCode (drop i s) ≡ false → startCodesFrom i (drop i s) ≡ startCodesFrom (i + 1) (drop (i + 1) s)
+  codes-byte e =
+      let n = next s i k in
+      ap (startCodesFrom i) n ∙ codes-no i (getD s i 0) (drop (i + 1) s) (rw n at e)
+      ∙ ap (λ (m : ℕ). startCodesFrom m (drop (i + 1) s)) (sym (add-one i))
+
+pub index-code : (at i : ℕ) (s : Bytes) → i < at → i < length s → atStartCode (drop i s) ≡ true
+    → codesBefore at i s ≡ suc (codesBefore at (i + 1) s)
 index-code at i s h k e =
-    let n = next s i k in
-    let c : startCodesFrom i (drop i s) ≡ i ∷ startCodesFrom (i + 1) (drop (i + 1) s) =
-    ap (startCodesFrom i) n ∙ codes-yes i (getD s i 0) (drop (i + 1) s) (rw n at e)
-    ∙ ap (λ (m : ℕ). i ∷ startCodesFrom m (drop (i + 1) s)) (sym (add-one i)) in
-    ap (λ (l : List ℕ). length (those (λ code. ltb code at) l)) c
+    ap (λ (l : List ℕ). length (those (λ code. ltb code at) l)) (codes-code i s k e)
     ∙ ap length (those-yes (λ code. ltb code at) i (startCodesFrom (i + 1) (drop (i + 1) s)) (lt-ltb i at h))
 
 pub index-byte : (at i : ℕ) (s : Bytes) → i < length s → atStartCode (drop i s) ≡ false → codesBefore at i s ≡ codesBefore at (i + 1) s
-index-byte at i s k e =
-    let n = next s i k in
-    let c : startCodesFrom i (drop i s) ≡ startCodesFrom (i + 1) (drop (i + 1) s) =
-    ap (startCodesFrom i) n ∙ codes-no i (getD s i 0) (drop (i + 1) s) (rw n at e)
-    ∙ ap (λ (m : ℕ). startCodesFrom m (drop (i + 1) s)) (sym (add-one i)) in
-    ap (λ (l : List ℕ). length (those (λ code. ltb code at) l)) c
+index-byte at i s k e = ap (λ (l : List ℕ). length (those (λ code. ltb code at) l)) (codes-byte i s k e)
 
 -- from a place on there are none before it
 none-before : (at i : ℕ) (s : Bytes) → at ≤ i → those (λ code. ltb code at) (startCodesFrom i s) ≡ []
@@ -209,3 +216,19 @@ none-before at i (a ∷ s) h =
 
 pub index-end : (at i : ℕ) (s : Bytes) → at ≤ i → codesBefore at i s ≡ 0
 index-end at i s h = ap length (none-before at i (drop i s) h)
+
+-- of the start codes from i on, those before `at` and those from `at` on are all
+index-rest : (n at i : ℕ) (s : Bytes) → i + n ≡ at → at ≤ length s
+    → codesBefore at i s + length (startCodesFrom at (drop at s)) ≡ length (startCodesFrom i (drop i s))
+index-rest zero at i s e h =
+    let z : i ≡ at = omega arith in
+    omega (arith, index-end at i s (omega arith), ap (λ (k : ℕ). length (startCodesFrom k (drop k s))) z)
+index-rest (suc n) at i s e h =
+    let rest = index-rest n at (i + 1) s (omega arith) h in
+    case (atStartCode (drop i s))
+    (λ c. omega (arith, rest, index-code at i s (omega arith) (omega arith) c, ap length (codes-code i s (omega arith) c)))
+    (λ c. omega (arith, rest, index-byte at i s (omega arith) c, ap length (codes-byte i s (omega arith) c)))
+
+-- so the OBU index of a place is how many payloads stand before it
+pub index-count : (s : Bytes) (at : ℕ) → at ≤ length s → obuIndex s at + length (payloads (drop at s)) ≡ length (payloads s)
+index-count s at h = omega (arith, index-rest at at 0 s (omega arith) h, count-codes at (drop at s), count-codes 0 s)

@@ -196,6 +196,6 @@ unfolding starts
 count-starts place [] = refl
 count-starts place (p ∷ ps) = ap suc (count-starts (place + 3 + length p) ps)
 
--- there are as many payloads as start codes
-pub count-codes : (s : Bytes) → length (startCodes s) ≡ length (payloads s)
-count-codes s = ap length (start-codes s) ∙ count-starts (length (split s .before)) (payloads s)
+-- there are as many payloads as start codes, whatever the first byte's place is
+pub count-codes : (place : ℕ) (s : Bytes) → length (startCodesFrom place s) ≡ length (payloads s)
+count-codes place s = ap length (codes-starts place s) ∙ count-starts (place + length (split s .before)) (payloads s)

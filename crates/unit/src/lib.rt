@@ -5,6 +5,7 @@ mod reading;
 mod walking;
 mod writing;
 
+pub use reader::Handed;
 pub use reader::Walk;
 pub use reading::Counts;
 pub use reading::UnitRead;

@@ -1,19 +1,21 @@
-// A walk over a carried unit as a reader that holds the unit's bytes and the place of the next step. Each function takes the reader apart and leaves the
-// work to one of walking.rt, on the bytes and the place.
+// A walk over a carried unit as a reader that holds the unit's bytes and the place of the next step. A step takes the
+// reader apart and leaves the work to two functions of walking.rt, on the bytes and the place.
 ghost use mathlib.Core.Path.{_≡_};
-ghost use lib.ListN.{take, drop};
-ghost use Rattle.unit.specs.Walk.{starting, startedSays, stepSays, fresh, stepOf, behind};
-use crate::walking::Part;
-use crate::walking::Started;
+ghost use Rattle.unit.specs.Walk.{stepSays, fresh, stepOf, handedBy, behind};
 use crate::walking::Step;
 use crate::walking::payload;
-use crate::walking::start;
 use crate::walking::step_on;
 
 // The carried bytes, and the place of the next step, which only a step changes.
 pub struct Walk<'a> {
     src: &'a [u8],
     at: usize,
+}
+
+// What a step hands out: its answer, and the payload as a part of the carried bytes, empty where there is none.
+pub struct Handed<'a> {
+    pub step: Step,
+    pub payload: &'a [u8],
 }
 
 impl<'a> Walk<'a> {
@@ -24,26 +26,17 @@ impl<'a> Walk<'a> {
         Walk { src: unit, at: 0 }
     }
 
-    // The place of the first step; 9.
-    pub fn start(self) -> Started
-        ensures { λ r. ⌜ startedSays r ≡ starting (now (self .entry .src)) ⌝ }
-    {
-        start(self.src)
-    }
-
-    // The step at the reader's place, behind which the reader then stands; at the end and at a refusal it stays; 3, 10.
-    pub fn step(&mut self) -> Step
-        ensures { λ r. ⌜ (stepSays r ≡ stepOf (now (self .entry))) × (now (self .exit) ≡ behind (now (self .entry))) ⌝ }
+    // The step at the reader's place, behind which it then stands; at the end and at a refusal it stays; 9, 3, 10.
+    pub fn step(&mut self) -> Handed<'a>
+        ensures { λ r. ⌜ stepSays (r .step) ≡ stepOf (now (self .entry)) ⌝ }
+        ensures { λ r. ⌜ now (r .payload) ≡ handedBy (now (self .entry)) ⌝ }
+        ensures { λ _. ⌜ now (self .exit) ≡ behind (now (self .entry)) ⌝ }
     {
         let stepped = step_on(self.src, self.at);
         self.at = stepped.at;
-        stepped.step
-    }
-
-    // The part of the unit that a step handed out.
-    pub fn payload(self, part: Part) -> &'a [u8]
-        ensures { λ r. ⌜ now r ≡ take (part .length) (drop (part .start) (now (self .entry .src))) ⌝ }
-    {
-        payload(self.src, part.start, part.length)
+        Handed {
+            step: stepped.step,
+            payload: payload(self.src, stepped.step),
+        }
     }
 }

@@ -2,9 +2,10 @@
 ghost use mathlib.Core.Path.{_≡_};
 ghost use mathlib.Core.Bool.{true};
 ghost use Prim.Native.Nat.{_≤_};
-ghost use lib.ListN.{length, take, drop};
+ghost use lib.ListN.{length, drop};
 ghost use Rattle.unit.specs.Unit.{atStartCode};
-ghost use Rattle.unit.specs.Walk.{starting, startedSays, stepping, payloadStep, stepSays, goesTo, placeAfter, obuIndex};
+ghost use Rattle.unit.specs.Walk.{starting, startedSays, obuIndex, payloadStep, atEnd, stepping};
+ghost use Rattle.unit.specs.Walk.{goesTo, placeAfter, handedOut, stepSays};
 use crate::codes::code_at;
 use crate::codes::find;
 use emulation::Judged;
@@ -13,10 +14,10 @@ use lists::part;
 use refusal::Refusal;
 use refusal::Refused;
 
-// Where a payload begins in the unit, its length, and the place of the next step.
+// Where a payload begins in the unit, how many bytes it has, and the place of the next step.
 pub struct Part {
     pub start: usize,
-    pub length: usize,
+    pub bytes: usize,
     pub next: usize,
 }
 
@@ -94,16 +95,26 @@ fn payload_step(unit: &[u8], at: usize) -> Step
     };
     Step::Payload(Part {
         start,
-        length: next - start,
+        bytes: next - start,
         next,
     })
 }
 
-// The step at a place: the payload there, the end, or the refusal, at which the walk stays; 3, 10.
+// A walk is at its end at a place.
+fn at_end(unit: &[u8], at: usize) -> bool
+    ensures { λ r. ⌜ r ≡ atEnd (now (unit .entry)) at ⌝ }
+{
+    if at == 0 {
+        return false;
+    }
+    unit.len() <= at
+}
+
+// The step at a place: the payload there, the end, or the refusal, at which the walk stays; 9, 3, 10.
 pub fn step_at(unit: &[u8], at: usize) -> Step
     ensures { λ r. ⌜ stepSays r ≡ stepping (now (unit .entry)) at ⌝ }
 {
-    if unit.len() <= at {
+    if at_end(unit, at) {
         return Step::End;
     }
     if code_at(unit, at) {
@@ -126,9 +137,10 @@ fn place_after(step: Step, at: usize) -> usize
     }
 }
 
-// The step at a place, and the place after it; 3, 10.
+// The step at a place, and the place after it; 9, 3, 10.
 pub(crate) fn step_on(unit: &[u8], at: usize) -> Stepped
-    ensures { λ r. ⌜ (stepSays (r .step) ≡ stepping (now (unit .entry)) at) × (r .at ≡ placeAfter (now (unit .entry)) at) ⌝ }
+    ensures { λ r. ⌜ stepSays (r .step) ≡ stepping (now (unit .entry)) at ⌝ }
+    ensures { λ r. ⌜ r .at ≡ placeAfter (now (unit .entry)) at ⌝ }
 {
     let step = step_at(unit, at);
     Stepped {
@@ -137,9 +149,13 @@ pub(crate) fn step_on(unit: &[u8], at: usize) -> Stepped
     }
 }
 
-// The part of the unit that a step handed out.
-pub fn payload(unit: &[u8], start: usize, length: usize) -> &[u8]
-    ensures { λ r. ⌜ now r ≡ take length (drop start (now (unit .entry))) ⌝ }
+// The payload that a step handed out, as a part of the unit; an empty part where it handed out none.
+pub fn payload(unit: &[u8], step: Step) -> &[u8]
+    ensures { λ r. ⌜ now r ≡ handedOut (now (unit .entry)) (stepSays step) ⌝ }
 {
-    part(unit, start, length)
+    match step {
+        Step::Payload(p) => part(unit, p.start, p.bytes),
+        Step::End => part(unit, 0, 0),
+        Step::Refused(_) => part(unit, 0, 0),
+    }
 }

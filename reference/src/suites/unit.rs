@@ -215,9 +215,8 @@ impl Caller {
                 hex(carried)
             )
         });
-        let Ok(mut at) = start else {
-            return;
-        };
+        // Where the start refuses, the first step does too.
+        let mut at = 0;
         loop {
             let (next, label) = self.step(suite, carried, at, more);
             if next == at {
@@ -229,9 +228,9 @@ impl Caller {
         }
     }
 
-    /// One step at a place of a walk; answers the place of the next step and, where the walk stays,
-    /// the label for staying.
-    pub fn step(
+    /// One step at any place; answers the place of the next step and, where the walk stays, the
+    /// label for staying.
+    fn step(
         &mut self,
         suite: &mut Suite,
         carried: &[u8],
@@ -239,35 +238,34 @@ impl Caller {
         more: &[&str],
     ) -> (usize, &'static str) {
         let got = av1ts::walk::walk_step(self.given.part(), at);
-        let step = walk::step(carried, at).expect("the place of a walk");
         let here = Step {
             next_at: at as u64,
             ..Step::default()
         };
-        let (expected, label, again) = match &step {
+        let (expected, label, again) = match walk::step(carried, at) {
             walk::Step::End => (
                 Step { end: 1, ..here },
                 "walk: the end".to_string(),
                 "walk: stays at the end",
             ),
-            walk::Step::Refused(refusal) => (
+            Refused(refusal) => (
                 Step {
                     number: refusal.number,
                     place: refusal.place,
                     ..here
                 },
                 format!("walk: {}", refusal.condition),
-                if refusal.number == 3 {
-                    "walk: stays at 3"
-                } else {
-                    "walk: stays at 10"
+                match refusal.number {
+                    9 => "walk: stays at 9",
+                    3 => "walk: stays at 3",
+                    _ => "walk: stays at 10",
                 },
             ),
             walk::Step::Payload { part, next } => (
                 Step {
                     start: part.start as u64,
                     length: part.len() as u64,
-                    next_at: *next as u64,
+                    next_at: next as u64,
                     ..Step::default()
                 },
                 "walk: a payload".to_string(),
@@ -284,34 +282,36 @@ impl Caller {
         (expected.next_at as usize, again)
     }
 
-    /// A step at a place of a walk, whatever the steps before it come to.
-    pub fn walk_place(&mut self, suite: &mut Suite, carried: &[u8], at: usize) {
+    /// A step at any place, whatever the steps before it come to.
+    pub fn step_at(&mut self, suite: &mut Suite, carried: &[u8], at: usize, more: &[&str]) {
         self.given.give(carried);
-        let earlier = unit::start_codes(carried);
-        let refuses = |&place: &usize| matches!(walk::step(carried, place), Some(Refused(_)));
-        let behind = earlier.iter().take_while(|&&place| place < at).any(refuses);
-        let more: &[&str] = match (behind, walk::step(carried, at)) {
-            (false, _) => &[],
-            (true, Some(Refused(_))) => &["walk: refusal behind a step that refuses"],
-            (true, _) => &["walk: behind a step that refuses"],
-        };
         self.step(suite, carried, at, more);
     }
 
-    /// A step at a place that the papers leave free: the call returns, changes nothing, and what it
-    /// hands out lies inside the unit.
-    pub fn free_step(&mut self, suite: &mut Suite, carried: &[u8], at: usize, more: &[&str]) {
+    /// Where reading refuses with 3 or 10 at OBU k, the walk hands out k payloads and then refuses
+    /// with that number and place; where it refuses with 9, the walk does at its first step. Both
+    /// answers are the library's.
+    pub fn walk_as_reading(&mut self, suite: &mut Suite, carried: &[u8]) {
         self.given.give(carried);
-        let got = av1ts::walk::walk_step(self.given.part(), at);
-        let handed_out = got.number == 0 && got.end == 0;
-        let inside = got
-            .start
-            .checked_add(got.length)
-            .is_some_and(|e| e <= carried.len() as u64);
-        let passed = (!handed_out || inside) && self.given.unchanged(carried);
-        suite.case(more, passed, || {
+        let unit = self.given.part();
+        let read = av1ts::unit::check_unit(unit);
+        let label = match read.number {
+            9 => "walk: refuses as reading, 9",
+            3 => "walk: refuses as reading, 3",
+            10 => "walk: refuses as reading, 10",
+            _ => return,
+        };
+        let mut handed_out = 0;
+        let mut step = av1ts::walk::walk_step(unit, 0);
+        while step.number == 0 && step.end == 0 && handed_out < carried.len() as u64 {
+            handed_out += 1;
+            step = av1ts::walk::walk_step(unit, step.next_at as usize);
+        }
+        let passed =
+            handed_out == read.place && (step.number, step.place) == (read.number, read.place);
+        suite.case(&[label], passed, || {
             format!(
-                "free walk step at {at}: got {got:?}; input {}",
+                "reading: {read:?}; walk: {handed_out} payloads, then {step:?}; input {}",
                 hex(carried)
             )
         });

@@ -31,6 +31,9 @@ pub const SUITE: Definition = Definition {
             "walk: stays at 3",
             "walk: stays at 10",
             "walk: the end",
+            "walk: refuses as reading, 9",
+            "walk: refuses as reading, 3",
+            "walk: refuses as reading, 10",
         ]));
         list
     },
@@ -105,6 +108,7 @@ fn run(suite: &mut Suite) {
         caller.check(suite, &carried, &more);
         caller.read_wide(suite, &carried, &more);
         caller.walk(suite, &carried, &more);
+        caller.walk_as_reading(suite, &carried);
 
         // A list: one of its OBUs damaged, and sometimes its lengths.
         let mut list = list;

@@ -27,6 +27,9 @@ pub const SUITE: Definition = Definition {
             "9: no start code at the head",
             "walk: a payload",
             "walk: the end",
+            "walk: refuses as reading, 9",
+            "walk: refuses as reading, 3",
+            "walk: refuses as reading, 10",
             "walk: 3: no bytes",
             "walk: 10: 00 00 00",
             "walk: 10: 00 00 02",
@@ -44,6 +47,7 @@ fn every(suite: &mut Suite, head: &[u8], alphabet: &[u8], longest: usize) {
             caller.check(suite, &carried, &[]);
             caller.read_wide(suite, &carried, &[]);
             caller.walk(suite, &carried, &[]);
+            caller.walk_as_reading(suite, &carried);
         }
     }
 }

@@ -3,8 +3,8 @@
 
 use super::unit::{Caller, any_list, carry, carry_closed};
 use crate::kit::{Definition, Random, Suite, labels};
-use reference::unit::{self, MOST_CARRIED};
-use reference::walk;
+use reference::unit::{MOST_CARRIED, start_codes};
+use reference::walk::{self, Step::Refused};
 
 pub const SUITE: Definition = Definition {
     name: "walk",
@@ -21,18 +21,50 @@ pub const SUITE: Definition = Definition {
             "walk: stays at 3",
             "walk: stays at 10",
             "walk: stays at the end",
+            "walk: 9: no start code at the place",
+            "walk: stays at 9",
             "walk: no 1",
             "walk: no 2",
-            "walk: behind a step that refuses",
-            "walk: refusal behind a step that refuses",
-            "free place: inside the unit",
-            "free place: past the unit",
-            "free place: far past the unit",
-            "free place: no start code at the head",
+            "walk: refuses as reading, 9",
+            "walk: refuses as reading, 3",
+            "walk: refuses as reading, 10",
+            "place: 0, no bytes",
+            "place: 0, no start code",
+            "place: a start code",
+            "place: a start code, none at the head",
+            "place: a start code behind a step that refuses",
+            "place: a start code that refuses, behind another",
+            "place: the unit's length",
+            "place: inside the unit, no start code",
+            "place: past the unit",
+            "place: far past the unit",
         ])
     },
     run,
 };
+
+/// How a place stands to a unit.
+fn place_label(carried: &[u8], at: usize) -> &'static str {
+    let places = start_codes(carried);
+    let refuses = |place: usize| matches!(walk::step(carried, place), Refused(_));
+    if places.contains(&at) {
+        let behind = places.iter().any(|&place| place < at && refuses(place));
+        return match (places[0], behind) {
+            (1.., _) => "place: a start code, none at the head",
+            (_, false) => "place: a start code",
+            (_, true) if refuses(at) => "place: a start code that refuses, behind another",
+            (_, true) => "place: a start code behind a step that refuses",
+        };
+    }
+    match at {
+        0 if carried.is_empty() => "place: 0, no bytes",
+        0 => "place: 0, no start code",
+        _ if at == carried.len() => "place: the unit's length",
+        _ if at < carried.len() => "place: inside the unit, no start code",
+        _ if at < carried.len() + 5 => "place: past the unit",
+        _ => "place: far past the unit",
+    }
+}
 
 /// Steps at every place of a unit and past it.
 fn everywhere(suite: &mut Suite, caller: &mut Caller, carried: &[u8]) {
@@ -46,21 +78,7 @@ fn everywhere(suite: &mut Suite, caller: &mut Caller, carried: &[u8]) {
     ];
     let last = [usize::MAX - 1, usize::MAX];
     for at in (0..len + 5).chain(far).chain(last) {
-        if walk::step(carried, at).is_some() {
-            // The place of a walk, even where an earlier step of it would refuse.
-            caller.walk_place(suite, carried, at);
-        } else {
-            let label = if walk::start(carried).is_err() {
-                "free place: no start code at the head"
-            } else if at < len {
-                "free place: inside the unit"
-            } else if at < len + 5 {
-                "free place: past the unit"
-            } else {
-                "free place: far past the unit"
-            };
-            caller.free_step(suite, carried, at, &[label]);
-        }
+        caller.step_at(suite, carried, at, &[place_label(carried, at)]);
     }
 }
 
@@ -88,15 +106,17 @@ fn run(suite: &mut Suite) {
             }));
         }
         let carried = carry(&payloads);
-        let more: &[&str] = if unit::start_codes(&carried).len() > 64 {
+        let more: &[&str] = if start_codes(&carried).len() > 64 {
             &["walk: no 1"]
         } else {
             &[]
         };
         caller.walk(suite, &carried, more);
+        caller.walk_as_reading(suite, &carried);
         if round % 4 == 0 && carried.len() < 60 {
             everywhere(suite, &mut caller, &carried);
             everywhere(suite, &mut caller, &carried[1..]);
+            everywhere(suite, &mut caller, &carried[3..]);
         }
     }
 
@@ -117,11 +137,13 @@ fn run(suite: &mut Suite) {
         &[][..],
         &[0],
         &[0, 0],
+        &[0, 0, 0],
         &[0, 0, 1],
         &[0, 0, 1, 0, 0, 1],
         &[0x30, 0, 0, 1, 0x30],
     ] {
         caller.walk(suite, carried, &[]);
+        caller.walk_as_reading(suite, carried);
         everywhere(suite, &mut caller, carried);
     }
 

@@ -1,15 +1,15 @@
 -- The payload runs from behind the start code to the next one, which `find` gives; it is empty, illegal, or handed out.
 use borrow.Author.Needs.{needs}
 use native.Mathlib.Omega.{arith}
-use Prim.Native.Nat.{ℕ, _+_, _-_}
+use Prim.Native.Nat.{ℕ, _+_, _-_, _≤_}
 use mathlib.Core.Path.{_≡_, refl, ap, _∙_}
-use lib.ListN.{take, drop}
+use lib.ListN.{length, take, drop}
 use Rattle.lists.specs.Lists.{Bytes}
 use Rattle.emulation.specs.Answer.{judgedSays, judging}
 use Rattle.emulation.proofs.Answers.{judged-legal, judged-illegal}
 use Rattle.unit.specs.Walk.{payloadFrom, stepSays}
 use Rattle.unit.proofs.Places.{before, code-fits, next-fits, payload-is}
-use Rattle.unit.proofs.Steps.{step-empty, step-illegal, step-legal}
+use Rattle.unit.proofs.Steps.{step-empty, step-illegal, step-legal, part-is}
 use Rattle.unit.proofs.walking.payload_step.Statement.{statement}
 use Rattle.unit.proofs.walking.payload_step.Tie as tie
 
@@ -20,12 +20,15 @@ find-requires : tie.Need-find-requires
 find-requires c κs = code-fits (c .before .args .unit .now) (c .before .args .at) (c .before .pre)
 
 refused-requires : tie.Need-refused-requires
-refused-requires c κs = let start = c .before .before .before in omega (arith, code-fits (start .args .unit .now) (start .args .at) (start .pre))
+refused-requires c κs =
+    let start = c .before .before .before in
+    omega (arith, code-fits (start .args .unit .now) (start .args .at) (start .pre))
 
 returns : tie.Need-returns
 returns c =
     let start = c .before .before .before .before in
-    ap stepSays (c .refused .ensures) ∙ step-empty (start .args .unit .now) (start .args .at) (omega (arith, c .before .before .find .ensures))
+    ap stepSays (c .refused .ensures)
+    ∙ step-empty (start .args .unit .now) (start .args .at) (omega (arith, c .before .before .find .ensures))
 
 sub-judge : tie.Need-sub-judge
 sub-judge c = search needs
@@ -65,7 +68,8 @@ returns-2 c =
     let j : judgedSays (c .before .before .before .judge .result) ≡ judging (payloadFrom s at) =
     c .before .before .before .judge .ensures ∙ ap judging (lent s at _ found) in
     ap stepSays (c .refused2 .ensures)
-    ∙ step-illegal s at (omega (arith, found, c .before .before .before .before .before .if1 .left)) (judged-illegal (payloadFrom s at) _ _ j (c .before .enum-told2 .given .1))
+    ∙ step-illegal s at (omega (arith, found, c .before .before .before .before .before .if1 .left))
+    (judged-illegal (payloadFrom s at) _ _ j (c .before .enum-told2 .given .1))
 
 sub-t9 : tie.Need-sub-t9
 sub-t9 c = omega (arith, c .before .before .before .before .before .find .ensures)
@@ -78,8 +82,9 @@ returns-3 c =
     let found = c .before .before .before .before .before .find .ensures in
     let j : judgedSays (c .before .before .judge .result) ≡ judging (payloadFrom s at) =
     c .before .before .judge .ensures ∙ ap judging (lent s at _ found) in
-    step-legal s at _ (omega (arith, found, c .before .before .before .before .if1 .left)) (judged-legal (payloadFrom s at) _ _ j (c .enum-told .given .1) .0) refl
-    (omega (arith, found)) found
+    let one : 1 ≤ length (payloadFrom s at) = omega (arith, found, c .before .before .before .before .if1 .left) in
+    let fine = judged-legal (payloadFrom s at) _ _ j (c .enum-told .given .1) .0 in
+    part-is s at _ refl (omega (arith, found)) found ∙ step-legal s at one fine
 
 pub payload-step-spec : {M : Type 1} → statement M
 payload-step-spec =

@@ -1,0 +1,164 @@
+-- The walk beside reading: of a unit that reading accepts it hands out all payloads and comes to the end; where reading refuses with 3 or
+-- 10 at an OBU, it hands out the payloads before that one and refuses with the same number and place. Assumes nothing.
+use Prim.Native.Nat.{ℕ, _≤_, _<_}
+use mathlib.Core.Bool.{Bool, true, false, not}
+use mathlib.Core.Path.{_≡_, refl, sym, ap, ap₂, subst, _∙_}
+use mathlib.Core.Logic.{_⊎_, inl, inr}
+use mathlib.Core.List.{List, [], _∷_}
+use native.Mathlib.Omega.{arith}
+use borrow.Author.Tests.{eqb-false, eqb-true, ne-eqb, not-false}
+use lib.Dec.{eqb}
+use lib.ListN.{length, take, drop, length-append}
+use lib.Seq.{take-append-seam}
+use Rattle.lists.specs.Lists.{Bytes, pick}
+use Rattle.lists.specs.Bytes.{byte}
+use Rattle.lists.proofs.Tests.{case}
+use Rattle.refusal.specs.Verdict.{passed, refused, given, inTurn}
+use Rattle.refusal.proofs.Verdicts.{refuse, pass-on, passed-after, given-passed, not-given, All}
+use Rattle.refusal.proofs.Refusing.{Without, without-passed, without-refused, without-given, without-then, without-bind}
+use Rattle.refusal.proofs.Refusing.{same-number, refused-later, refused-here, bind-refused, turns-refused}
+use Rattle.emulation.specs.Payload.{legal, unescape}
+use Rattle.emulation.proofs.Theorems.{unescape-some}
+use Rattle.obu.specs.declared.leb128.Leb.{Leb}
+use Rattle.obu.specs.declared.leb128.Leb.the-variants.{Number, Bad}
+use Rattle.obu.specs.declared.header.Size.the-variants.{Absent}
+use Rattle.obu.specs.Leb128.{leb128}
+use Rattle.obu.specs.Header.{hasSizeBit, sizeSaid, sizeOf, sizedHeader, headerOf, judged, obuRefusal}
+use Rattle.obu.specs.Order.{Kind, OrderMeans, orderRefusal}
+use Rattle.obu.proofs.Meaning.{order-means}
+use Rattle.unit.specs.Unit.{atStartCode, payloads, tsobuRefusal, readUnit, AcceptsAs}
+use Rattle.unit.specs.Answer.{checking, reading}
+use Rattle.unit.specs.Walk.{payloadFrom, obuIndex, stepping, HandsOut, WalkSays, Walks}
+use Rattle.unit.proofs.Acceptance.{reads}
+use Rattle.unit.proofs.Places.{payloadAt, payload-is, payloads-from, code-fits}
+use Rattle.unit.proofs.Steps.{step-empty, step-illegal, step-code, WalkNumber}
+use Rattle.unit.proofs.Walks.{Fine, place-more, walk-front, walk-from, refused-place}
+
+-- ---- a unit that reading accepts
+fine : (p : Bytes) → tsobuRefusal p ≡ passed tt → Fine p
+unfolding tsobuRefusal
+fine p e =
+    let k3 = passed-after _ _ tt e in
+    let k10 = passed-after _ _ tt (k3 .1) in
+    let some = eqb-false (length p) 0 (given-passed 3 _ (k3 .0)) in
+    (omega arith, not-false (legal p) (given-passed 10 _ (k10 .0)))
+
+all-fine : (ps : List Bytes) → All (λ p. tsobuRefusal p ≡ passed tt) ps → All Fine ps
+all-fine [] h = tt
+all-fine (p ∷ ps) h = (fine p (h .0), all-fine ps (h .1))
+
+pub accepted-walks : (unit : Bytes) (l : List Bytes) → AcceptsAs unit l → Walks unit 0 (payloads unit)
+accepted-walks unit l a =
+    let r = reads unit l a .0 in
+    walk-from unit 0 (inr (r .headed)) (omega (arith, code-fits unit 0 (r .headed))) (all-fine (payloads unit) (r .tsobus))
+
+-- ---- the numbers 3 and 10
+module _ (number : ℕ) (w : WalkNumber number) where
+  -- another number is neither
+  differs : (other : ℕ) → eqb other 3 ≡ false → eqb other 10 ≡ false → other ≡ number → ⊥
+  differs other e3 e10 k = by w
+    where
+      by : WalkNumber number → ⊥
+      by (inl z) = eqb-false other 3 e3 (k ∙ z)
+      by (inr z) = eqb-false other 10 e10 (k ∙ z)
+
+  -- the other tries give neither
+  tries : (other : ℕ) (t : Bool) → eqb other 3 ≡ false → eqb other 10 ≡ false → Without number (given other t)
+  tries other t e3 e10 = without-given number other t (differs other e3 e10)
+
+  leb-said : (leb : Leb) → Without number (sizeSaid leb)
+  leb-said (Number value width) = without-passed number _
+  leb-said Bad = without-refused number 5 0 (differs 5 refl refl)
+
+  size-said : (t : Bool) (rest : Bytes) → Without number (pick t (sizeSaid (leb128 rest)) (passed Absent))
+  unfolding pick
+  size-said true rest = leb-said (leb128 rest)
+  size-said false rest = without-passed number _
+
+  header-said : (obu : Bytes) → 1 ≤ length obu → Without number (headerOf obu)
+  unfolding headerOf sizedHeader sizeOf
+  header-said obu h =
+      let some : given 3 (eqb (length obu) 0) ≡ passed tt = not-given 3 _ (ne-eqb (length obu) 0 (λ z. omega arith)) in
+      without-then number _ _ (subst (Without number) (sym some) (without-passed number tt))
+      (without-then number _ _ (tries 4 _ refl refl)
+      (without-then number _ _ (tries 4 _ refl refl)
+      (without-bind number _ _ (size-said (hasSizeBit (byte obu 0)) _) (λ size. without-passed number _))))
+
+  -- an OBU that is not empty is refused with neither
+  obu-said : (obu : Bytes) → 1 ≤ length obu → Without number (obuRefusal obu)
+  unfolding judged
+  obu-said obu h =
+      without-then number _ _
+      (without-bind number _ _ (header-said obu h) (λ header.
+      without-then number _ _ (tries 5 _ refl refl)
+      (without-then number _ _ (tries 5 _ refl refl)
+      (without-then number _ _ (tries 6 _ refl refl) (without-passed number _)))))
+      (without-passed number tt)
+
+  -- nor does the order
+  order-said : (kinds : List Kind) → Without number (orderRefusal kinds)
+  order-said kinds = record { not = λ place e. differs 7 refl refl (sym (subst (OrderMeans kinds) e (order-means kinds) .0)) }
+
+  -- ---- a payload that reading refuses with one of them is refused so by the step at its start code
+  payload-refused : (p : Bytes) (place : ℕ) → tsobuRefusal p ≡ refused number place
+      → ((number ≡ 3) × (length p ≡ 0)) ⊎ ((number ≡ 10) × (1 ≤ length p) × (legal p ≡ false))
+  unfolding tsobuRefusal
+  payload-refused p place e =
+      case (eqb (length p) 0)
+      (λ z. inl (same-number (sym e ∙ sym (refuse 3 _ z)), eqb-true (length p) 0 z))
+      (λ z.
+      let n = eqb-false (length p) 0 z in
+      let some : 1 ≤ length p = omega arith in
+      case (legal p)
+      (λ f. absurd (obu-said (unescape p) (unescape-some p some) .not place (pass-on 3 z (pass-on 10 (ap not f) refl) ∙ e)))
+      (λ f. inr (same-number (sym e ∙ sym (pass-on 3 z (refuse 10 _ (ap not f)))), some, f)))
+
+  step-refused : (unit : Bytes) (at place : ℕ) → atStartCode (drop at unit) ≡ true → tsobuRefusal (payloadAt unit at) ≡ refused number place
+      → stepping unit at ≡ refused number (obuIndex unit at)
+  step-refused unit at place c e = by (payload-refused (payloadFrom unit at) place (ap tsobuRefusal (sym (payload-is unit at)) ∙ e))
+    where
+      by : ((number ≡ 3) × (length (payloadFrom unit at) ≡ 0))
+          ⊎ ((number ≡ 10) × (1 ≤ length (payloadFrom unit at)) × (legal (payloadFrom unit at) ≡ false))
+          → stepping unit at ≡ refused number (obuIndex unit at)
+      by (inl (n, z)) = sym (step-code unit at c (ap (λ (m : ℕ). refused m (obuIndex unit at)) n ∙ step-empty unit at z))
+      by (inr (n, h, f)) = sym (step-code unit at c (ap (λ (m : ℕ). refused m (obuIndex unit at)) n ∙ step-illegal unit at h f))
+
+  -- ---- such a refusal is that of a payload in turn
+  read-turns : (unit : Bytes) (k : ℕ) → readUnit unit ≡ refused number k
+      → (atStartCode unit ≡ true) × (inTurn tsobuRefusal 0 (payloads unit) ≡ refused number k)
+  unfolding readUnit
+  read-turns unit k e =
+      let h2 = refused-later number k _ _ (tries 2 _ refl refl) e in
+      let h9 = refused-later number k _ _ (tries 9 _ refl refl) (h2 .1) in
+      let h1 = refused-later number k _ _ (tries 1 _ refl refl) (h9 .1) in (
+        not-false (atStartCode unit) (given-passed 9 _ (h9 .0)),
+        refused-here number k _ _
+            (without-then number _ _ (tries 2 _ refl refl) (without-then number _ _ (order-said _) (without-passed number _))) (h1 .1),
+      )
+
+  -- ---- where reading refuses with 3 or 10 at OBU k, the walk hands out the first k payloads and then refuses with that number and place
+  pub read-refused : (unit : Bytes) (k : ℕ) → readUnit unit ≡ refused number k
+      → (k < length (payloads unit)) × WalkSays unit 0 (take k (payloads unit)) (refused number k)
+  read-refused unit k e =
+      let h = read-turns unit k e in
+      let t = turns-refused tsobuRefusal 0 (payloads unit) number k (h .1) in
+      let r = walk-front unit 0 (t .front) (t .one ∷ t .back) (inr (h .0)) (t .whole) (all-fine (t .front) (t .before)) in
+      let c = place-more unit (r .to) (t .one) (t .back) (r .place) (r .left) in
+      let both = sym (payloads-from unit (r .to) c) ∙ r .left in
+      let one : payloadAt unit (r .to) ≡ t .one = cc in
+      let s = step-refused unit (r .to) (t .refusal .0) c (ap tsobuRefusal one ∙ t .refusal .1) in
+      let at : obuIndex unit (r .to) ≡ length (t .front) = refused-place unit (t .front) number _ (r .to, r .hands, s) in
+      let count : k ≡ length (t .front) = omega (arith, t .at) in
+      let front : t .front ≡ take k (payloads unit) =
+      sym (ap₂ (λ (n : ℕ) (l : List Bytes). take n l) count (t .whole) ∙ take-append-seam (t .front) (t .one ∷ t .back)) in (
+        omega (arith, count, ap length (t .whole), length-append (t .front) (t .one ∷ t .back)),
+        (r .to, subst (λ (ps : List Bytes). HandsOut unit 0 ps (r .to)) front (r .hands), s ∙ ap (refused number) (at ∙ sym count)),
+      )
+
+  pub reading-refused : (unit : Bytes) (bytes lengths k : ℕ) → reading unit bytes lengths ≡ refused number k
+      → (k < length (payloads unit)) × WalkSays unit 0 (take k (payloads unit)) (refused number k)
+  unfolding reading checking
+  reading-refused unit bytes lengths k e =
+      read-refused unit k
+      (bind-refused number k (readUnit unit) _ (λ obus. without-passed number _)
+      (bind-refused number k (checking unit) _ (λ counts. without-then number _ _ (tries 8 _ refl refl) (without-passed number _)) e))
