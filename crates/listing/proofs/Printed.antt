@@ -6,12 +6,12 @@ use Rattle.refusal.specs.Verdict.{_>>=_, _>>_, given, atPlace, inTurn}
 use Rattle.emulation.specs.Payload.{above3, forbidden, legal, unescape, dropped}
 use Rattle.obu.specs.Leb128.{leb128, lebWithin, lowFirst, inRange}
 use Rattle.obu.specs.Header.{fixedBytes, sizeOf, headerWith, sizedHeader, headerOf, judged}
-use Rattle.obu.specs.Order.{kindOfType, afterFrame, atFrame, beforeFrame, orderRefusal}
+use Rattle.obu.specs.Order.{kindOfNumber, afterFrame, atFrame, beforeFrame, orderRefusal}
 use Rattle.unit.specs.Unit.{atStartCode, split, sum, tsobuRefusal, readUnit}
 use Rattle.unit.specs.Answer.{checking}
 use Rattle.listing.specs.Text.{ascii, placesFrom, decimal}
 use Rattle.listing.specs.Listing.{headerLine, obuLine, payloadLines, judgingListed, listText}
 
 printed : listText (0 ∷ 0 ∷ 1 ∷ 0x12 ∷ 0 ∷ 0 ∷ 0 ∷ 1 ∷ 0x30 ∷ 0xAA ∷ 0 ∷ 0 ∷ []) ≡ ascii "obus 2 removed 0\n0 type 2 size 2 removed 0\n1 type 6 size 4 removed 0\n"
-unfolding pick any _>>=_ _>>_ given atPlace inTurn above3 forbidden legal unescape dropped leb128 lebWithin lowFirst inRange fixedBytes sizeOf headerWith sizedHeader headerOf judged kindOfType afterFrame atFrame beforeFrame orderRefusal atStartCode split sum tsobuRefusal readUnit checking placesFrom decimal headerLine obuLine payloadLines judgingListed listText
+unfolding pick any _>>=_ _>>_ given atPlace inTurn above3 forbidden legal unescape dropped leb128 lebWithin lowFirst inRange fixedBytes sizeOf headerWith sizedHeader headerOf judged kindOfNumber afterFrame atFrame beforeFrame orderRefusal atStartCode split sum tsobuRefusal readUnit checking placesFrom decimal headerLine obuLine payloadLines judgingListed listText
 printed = refl

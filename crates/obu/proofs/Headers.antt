@@ -1,7 +1,7 @@
--- The header of an OBU lies within it, its first ten bytes decide it (`judged-first`), and its type is the one that gives the kind. Assumes nothing.
+-- The header of an OBU lies within it, its first ten bytes decide it (`judged-first`), and it gives the number of the OBU's kind (`judged-number`). Assumes nothing.
 use Prim.Native.Nat.{ℕ, _+_, _-_, _≤_, _<_, zero-le}
 use mathlib.Core.Bool.{Bool, true, false, _&&_}
-use mathlib.Core.Path.{_≡_, refl, sym, ap, subst, _∙_}
+use mathlib.Core.Path.{_≡_, refl, ap, subst, _∙_}
 use native.Mathlib.Omega.{arith}
 use borrow.Author.Tests.{eqb-false, ne-eqb, leb-true, leb-false}
 use lib.Dec.{eqb, leb}
@@ -19,8 +19,8 @@ use Rattle.obu.specs.declared.header.Size.{Size}
 use Rattle.obu.specs.declared.header.Size.the-variants.{Absent, Present}
 use Rattle.obu.specs.declared.header.Header.{Header}
 use Rattle.obu.specs.Leb128.{leb128}
-use Rattle.obu.specs.Header.{forbiddenBit, extensionBit, typeBits, hasSizeBit, fixedBytes, extensionMissing, sizeSaid, sizeOf, sizeBytes, headerWith, sizedHeader, headerOf, judged, mostHeader}
-use Rattle.obu.specs.Order.{kindOf, kindOfType}
+use Rattle.obu.specs.Header.{forbiddenBit, extensionBit, hasSizeBit, fixedBytes, extensionMissing, sizeSaid, sizeOf, sizeBytes, headerWith, sizedHeader, headerOf, judged, mostHeader}
+use Rattle.obu.specs.Order.{kindNumber, numberSaid}
 use Rattle.obu.proofs.Lebs.{leb-taken, first-eight}
 
 -- ---- the fixed bytes
@@ -97,28 +97,13 @@ pub judged-first : (k : ℕ) (s : Bytes) (n : ℕ) → mostHeader ≤ k → judg
 unfolding judged
 judged-first k s n h = rw (header-first k s h)
 
--- ---- the header of an OBU has the type that gives its kind
-with-type : (first : ℕ) (rest : Bytes) (h : Header) → sizedHeader first rest ≡ passed h → h .«obu_type» ≡ typeBits first
-unfolding sizedHeader headerWith
-with-type first rest h e =
-    let p = passed-then (sizeOf first rest) (λ size. passed (headerWith first size)) h e in
-    sym (ap (λ (x : Header). x .«obu_type») (passed-same (headerWith first (p .0)) h (p .2)))
-
-pub header-type : (s : Bytes) (h : Header) → headerOf s ≡ passed h → h .«obu_type» ≡ typeBits (byte s 0)
-unfolding headerOf
-header-type s h e =
-    with-type (byte s 0) (drop (fixedBytes (byte s 0)) s) h
-    (passed-after _ _ h (passed-after _ _ h (passed-after _ _ h e .1) .1) .1)
-
-pub header-kind : (s : Bytes) (h : Header) → headerOf s ≡ passed h → kindOf s ≡ kindOfType (h .«obu_type»)
-header-kind s h e = ap kindOfType (sym (header-type s h e))
-
--- and so has an OBU that passed
+-- ---- an OBU that passed has a header
 pub judged-header : (s : Bytes) (n : ℕ) (h : Header) → judged s n ≡ passed h → headerOf s ≡ passed h
 unfolding judged
 judged-header s n h e =
     let p = passed-then (headerOf s) _ h e in
     p .1 ∙ passed-after _ _ h (passed-after _ _ h (passed-after _ _ h (p .2) .1) .1) .1
 
-pub judged-kind : (s : Bytes) (n : ℕ) (h : Header) → judged s n ≡ passed h → kindOf s ≡ kindOfType (h .«obu_type»)
-judged-kind s n h e = header-kind s h (judged-header s n h e)
+-- which gives the number of its kind
+pub judged-number : (s : Bytes) (n : ℕ) (h : Header) → judged s n ≡ passed h → numberSaid (headerOf s) ≡ kindNumber h
+judged-number s n h e = ap numberSaid (judged-header s n h e)

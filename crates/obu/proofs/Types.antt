@@ -9,7 +9,7 @@ use lib.Dec.{eqb, leb}
 use lib.ListN.{getD}
 use Rattle.lists.specs.Lists.{any}
 use Rattle.lists.proofs.Tests.{case}
-use Rattle.obu.specs.Order.{Kind, Kind-discrete, sequenceHeader, temporalDelimiter, frameHeader, tileGroup, metadata, frame, redundantFrameHeader, tileList, padding, reserved, kindOfType, is, headKind, tileKind}
+use Rattle.obu.specs.Order.{Kind, Kind-discrete, sequenceHeader, temporalDelimiter, frameHeader, tileGroup, metadata, frame, redundantFrameHeader, tileList, padding, reserved, kindOfNumber, is, headKind, tileKind}
 
 -- two kinds that the test finds equal are equal
 same-by : (a b : Kind) (d : Dec (a ≡ b)) → (elim d as (λ x. Bool) [ yes e ↦ true | no e ↦ false ]) ≡ true → a ≡ b
@@ -46,8 +46,8 @@ module _ (f : Kind → Bool) (g : ℕ → Bool) where
       (λ h. rw h (e ∙ ap g (sym (eqb-true t n h))))
       (λ h. rw h (r (eqb-false t n h)))
 
-  by-number : map f named ≡ map g numbers → ((t : ℕ) → Reserved t → f reserved ≡ g t) → (t : ℕ) → f (kindOfType t) ≡ g t
-  unfolding kindOfType named numbers
+  by-number : map f named ≡ map g numbers → ((t : ℕ) → Reserved t → f reserved ≡ g t) → (t : ℕ) → f (kindOfNumber t) ≡ g t
+  unfolding kindOfNumber named numbers
   by-number e r t =
       by-test t 1 sequenceHeader _ (ap (λ (l : List Bool). getD l 0 true) e) (λ n1.
       by-test t 2 temporalDelimiter _ (ap (λ (l : List Bool). getD l 1 true) e) (λ n2.
@@ -61,24 +61,24 @@ module _ (f : Kind → Bool) (g : ℕ → Bool) where
       r t (record { not1 = n1; not2 = n2; not3 = n3; not4 = n4; not5 = n5; not6 = n6; not7 = n7; not8 = n8; not15 = n15 }))))))))))
 
 -- "type 2", "one 6", "one 3", "ending in a 4"
-pub is-2 : (t : ℕ) → is (kindOfType t) temporalDelimiter ≡ eqb t 2
+pub is-2 : (t : ℕ) → is (kindOfNumber t) temporalDelimiter ≡ eqb t 2
 unfolding named numbers
 is-2 = by-number (λ k. is k temporalDelimiter) (λ t. eqb t 2) refl (λ t u. sym (ne-eqb t 2 (u .not2)))
 
-pub is-6 : (t : ℕ) → is (kindOfType t) frame ≡ eqb t 6
+pub is-6 : (t : ℕ) → is (kindOfNumber t) frame ≡ eqb t 6
 unfolding named numbers
 is-6 = by-number (λ k. is k frame) (λ t. eqb t 6) refl (λ t u. sym (ne-eqb t 6 (u .not6)))
 
-pub is-3 : (t : ℕ) → is (kindOfType t) frameHeader ≡ eqb t 3
+pub is-3 : (t : ℕ) → is (kindOfNumber t) frameHeader ≡ eqb t 3
 unfolding named numbers
 is-3 = by-number (λ k. is k frameHeader) (λ t. eqb t 3) refl (λ t u. sym (ne-eqb t 3 (u .not3)))
 
-pub is-4 : (t : ℕ) → is (kindOfType t) tileGroup ≡ eqb t 4
+pub is-4 : (t : ℕ) → is (kindOfNumber t) tileGroup ≡ eqb t 4
 unfolding named numbers
 is-4 = by-number (λ k. is k tileGroup) (λ t. eqb t 4) refl (λ t u. sym (ne-eqb t 4 (u .not4)))
 
 -- "any of 4, 7, 15"
-pub tile-types : (t : ℕ) → tileKind (kindOfType t) ≡ (eqb t 4 || eqb t 7 || eqb t 15)
+pub tile-types : (t : ℕ) → tileKind (kindOfNumber t) ≡ (eqb t 4 || eqb t 7 || eqb t 15)
 unfolding any named numbers
 tile-types =
     by-number tileKind (λ t. eqb t 4 || eqb t 7 || eqb t 15) refl
@@ -91,7 +91,7 @@ up t n h k = omega arith
 reserved-9 : (t : ℕ) → Reserved t → 2 ≤ t → 9 ≤ t
 reserved-9 t u k = up t 8 (u .not8) (up t 7 (u .not7) (up t 6 (u .not6) (up t 5 (u .not5) (up t 4 (u .not4) (up t 3 (u .not3) (up t 2 (u .not2) k))))))
 
-pub head-types : (t : ℕ) → headKind (kindOfType t) ≡ (leb t 1 || eqb t 5 || leb 9 t)
+pub head-types : (t : ℕ) → headKind (kindOfNumber t) ≡ (leb t 1 || eqb t 5 || leb 9 t)
 unfolding any named numbers
 head-types =
     by-number headKind (λ t. leb t 1 || eqb t 5 || leb 9 t) refl

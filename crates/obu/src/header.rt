@@ -4,6 +4,7 @@ ghost use Prim.Native.Nat.{_≤_};
 ghost use Rattle.refusal.specs.Verdict.{refused};
 ghost use Rattle.refusal.specs.Number.{numberOf};
 ghost use Rattle.obu.specs.Header.{forbiddenBit, typeBits, extensionBit, hasSizeBit, fixedBytes, extensionMissing, sizeBytes, headerWith, sizedHeader, headerOf, bytesRemaining, sizeWrong, delimiterWithContent, judged, judgedSays};
+ghost use Rattle.obu.specs.Order.{kindNumber};
 use crate::leb128::Leb;
 use crate::leb128::read_leb128;
 use refusal::Refusal;
@@ -167,6 +168,13 @@ fn delimiter_with_content(header: Header, bytes: usize) -> bool
         return false;
     }
     0 < remaining(header, bytes)
+}
+
+// The number of the kind of an OBU with this header, which the order rule goes by.
+pub fn kind_number(header: Header) -> u8
+    ensures { λ r. ⌜ r ≡ kindNumber header ⌝ }
+{
+    header.obu_type
 }
 
 // The header of an OBU of so many bytes that begins with prefix; 3, 4, 5, 6. HEADER_BYTES bytes of it, or all if there are fewer, are enough.

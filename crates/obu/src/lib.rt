@@ -8,6 +8,7 @@ pub use header::Header;
 pub use header::Judged;
 pub use header::Size;
 pub use header::judge;
+pub use header::kind_number;
 pub use header::read_header;
 pub use leb128::Leb;
 pub use leb128::read_leb128;

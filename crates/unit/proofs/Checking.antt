@@ -11,10 +11,10 @@ use Rattle.lists.specs.Lists.{Bytes}
 use Rattle.refusal.specs.Verdict.{Verdict, passed, refused, _>>=_, _>>_, given, inTurn}
 use Rattle.refusal.proofs.Verdicts.{refuse, pass-on, follows, stops, then-bind, then-refused, never, passed-after, passed-same, passed-then}
 use Rattle.emulation.specs.Payload.{unescape}
-use Rattle.obu.specs.Order.{Kind, kindOf, kindOfType, orderRefusal}
+use Rattle.obu.specs.Order.{Kind, kindOf, kindOfNumber, orderRefusal}
 use Rattle.unit.specs.Unit.{mostCarried, mostObus, mostObuBytes, atStartCode, payloads, obusIn, sum, tsobuRefusal, readUnit, droppedIn}
 use Rattle.unit.specs.Answer.{checking, reading, readSays}
-use Rattle.unit.specs.Parts.{obuType, endsFrom, payloadCounts, wholeCounts, JudgedUnit}
+use Rattle.unit.specs.Parts.{kindIn, endsFrom, payloadCounts, wholeCounts, JudgedUnit}
 use Rattle.unit.specs.declared.reading.Counts.{Counts}
 use Rattle.unit.specs.declared.reading.UnitRead.{UnitRead}
 use Rattle.unit.proofs.Acceptance.{reads}
@@ -23,8 +23,8 @@ use Rattle.unit.proofs.Lengths.{sum-lengths}
 abbrev pub counts : Bytes → Counts
 counts s = record { obus = length (obusIn s); bytes = sum (map length (obusIn s)); dropped = droppedIn s }
 
--- the kinds of the OBUs, by the types in their payloads
-kinds : (ps : List Bytes) → map kindOfType (map obuType ps) ≡ map kindOf (map unescape ps)
+-- the kinds of the OBUs, by the numbers in their payloads
+kinds : (ps : List Bytes) → map kindOfNumber (map kindIn ps) ≡ map kindOf (map unescape ps)
 kinds [] = refl
 kinds (p ∷ ps) = ap (λ (l : List Kind). kindOf (unescape p) ∷ l) (kinds ps)
 
@@ -87,16 +87,16 @@ module _ (s : Bytes) where
         let n : length (payloads s) ≡ length (obusIn s) = sym (length-map (payloads s) unescape) in
         (p .0, sym (passed-same _ c (p .1)) ∙ λ i. record { obus = n i; bytes = sum (map length (obusIn s)); dropped = droppedIn s })
 
-    pub check-whole : (c : Counts) (types : List ℕ) → passed c ≡ payloadCounts s → take (length (payloads s)) types ≡ map obuType (payloads s) → wholeCounts c types ≡ checking s
+    pub check-whole : (c : Counts) (numbers : List ℕ) → passed c ≡ payloadCounts s → take (length (payloads s)) numbers ≡ map kindIn (payloads s) → wholeCounts c numbers ≡ checking s
     unfolding wholeCounts
-    check-whole c types k t =
+    check-whole c numbers k t =
         let n = counts-are c k in
         let m : c .obus ≡ length (payloads s) = ap (λ (x : Counts). x .obus) (n .1) ∙ length-map (payloads s) unescape in
-        let o : map kindOfType (take (c .obus) types) ≡ map kindOf (obusIn s) =
-        ap (λ (i : ℕ). map kindOfType (take i types)) m ∙ ap (map kindOfType) t ∙ kinds (payloads s) in
+        let o : map kindOfNumber (take (c .obus) numbers) ≡ map kindOf (obusIn s) =
+        ap (λ (i : ℕ). map kindOfNumber (take i numbers)) m ∙ ap (map kindOfNumber) t ∙ kinds (payloads s) in
         behind
         (follows (n .0)
-        (ap (λ (x : Counts). given 2 (ltb mostObuBytes (x .bytes)) >> orderRefusal (map kindOfType (take (c .obus) types)) >> passed x) (n .1)
+        (ap (λ (x : Counts). given 2 (ltb mostObuBytes (x .bytes)) >> orderRefusal (map kindOfNumber (take (c .obus) numbers)) >> passed x) (n .1)
         ∙ ap (λ (l : List Kind). given 2 (ltb mostObuBytes (sum (map length (obusIn s)))) >> orderRefusal l >> passed (counts s)) o))
 
 -- how many OBUs the payloads that passed have
@@ -105,19 +105,19 @@ unfolding payloadCounts
 counts-obus s c k = ap (λ (x : Counts). x .obus) (sym (passed-same _ c (passed-after (inTurn tsobuRefusal 0 (payloads s)) _ c (sym k) .1)))
 
 -- ---- the answer with the ends
-whole-counts : (c : Counts) (types : List ℕ) (d : Counts) → wholeCounts c types ≡ passed d → d ≡ c
+whole-counts : (c : Counts) (numbers : List ℕ) (d : Counts) → wholeCounts c numbers ≡ passed d → d ≡ c
 unfolding wholeCounts
-whole-counts c types d e = sym (passed-same c d (passed-after _ _ d (passed-after _ _ d e .1) .1))
+whole-counts c numbers d e = sym (passed-same c d (passed-after _ _ d (passed-after _ _ d e .1) .1))
 
 pub answer-refused : (s : Bytes) (r : UnitRead) (ends : List ℕ) (number place : ℕ) → readSays r ≡ refused number place → refused number place ≡ checking s
     → JudgedUnit s (record { answer = r; ends = ends })
 answer-refused s r ends number place e k =
     record { answer = e ∙ k; ends = λ c p. never (k ∙ p) }
 
-pub answer-whole : (s : Bytes) (r : UnitRead) (c : Counts) (at types : List ℕ) → readSays r ≡ wholeCounts c types → wholeCounts c types ≡ checking s → c .obus ≡ length (payloads s)
+pub answer-whole : (s : Bytes) (r : UnitRead) (c : Counts) (at numbers : List ℕ) → readSays r ≡ wholeCounts c numbers → wholeCounts c numbers ≡ checking s → c .obus ≡ length (payloads s)
     → take (length (payloads s)) at ≡ endsFrom 0 (payloads s) → JudgedUnit s (record { answer = r; ends = at })
-answer-whole s r c at types e k n a =
-    record { answer = e ∙ k; ends = λ d p. ap (λ (m : ℕ). take m at) (ap (λ (x : Counts). x .obus) (whole-counts c types d (k ∙ p)) ∙ n) ∙ a }
+answer-whole s r c at numbers e k n a =
+    record { answer = e ∙ k; ends = λ d p. ap (λ (m : ℕ). take m at) (ap (λ (x : Counts). x .obus) (whole-counts c numbers d (k ∙ p)) ∙ n) ∙ a }
 
 -- ---- what an accepted unit is
 pub record Checked (s : Bytes) (c : Counts) : Type 0 where

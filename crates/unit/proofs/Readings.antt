@@ -27,10 +27,10 @@ use Rattle.obu.specs.declared.header.Judged.the-variants as obu
 use Rattle.obu.specs.Header.{judged, judgedSays as obuSays}
 use Rattle.obu.specs.declared.ordering.Ordered.{Ordered}
 use Rattle.obu.specs.declared.ordering.Ordered.the-variants as ordered
-use Rattle.obu.specs.Order.{kindOfType, orderRefusal, orderedSays}
-use Rattle.obu.proofs.Headers.{judged-first, header-type, judged-header}
+use Rattle.obu.specs.Order.{kindOfNumber, kindNumber, orderRefusal, orderedSays}
+use Rattle.obu.proofs.Headers.{judged-first, judged-number}
 use Rattle.unit.specs.Unit.{mostObus, mostObuBytes, atStartCode, payloads, obusIn, sum, tsobuRefusal, droppedIn}
-use Rattle.unit.specs.Parts.{obuType, figures, tsobuFigures, tsobuSays, legalFigures, endsFrom, EndsOf, payloadCounts, Judges, wholeCounts}
+use Rattle.unit.specs.Parts.{kindIn, figures, tsobuFigures, tsobuSays, legalFigures, endsFrom, EndsOf, payloadCounts, Judges, wholeCounts}
 use Rattle.unit.specs.declared.reading.Counts.{Counts}
 use Rattle.unit.specs.declared.reading.UnitRead.the-variants as read
 use Rattle.unit.specs.declared.reading.Ends.{Ends}
@@ -137,12 +137,12 @@ unfolding legalFigures
 figures-refused payload q r e k = refusal-stays (passed (figures payload)) (sym (ap obuSays k) ∙ e)
 
 pub figures-passed : (payload : Bytes) (q : Obu) (h : Header) (d : ℕ) → obuSays q ≡ judged (unescape payload) (length (unescape payload)) → q ≡ obu.Passed h → d ≡ dropped payload
-    → passed (record { «obu_type» = h .«obu_type»; dropped = d }) ≡ legalFigures payload
+    → (n : ℕ) → n ≡ kindNumber h → passed (record { kind = n; dropped = d }) ≡ legalFigures payload
 unfolding legalFigures
-figures-passed payload q h d e k f =
+figures-passed payload q h d e k f n g =
     let j : passed h ≡ judged (unescape payload) (length (unescape payload)) = sym (ap obuSays k) ∙ e in
-    let t = header-type (unescape payload) h (judged-header (unescape payload) (length (unescape payload)) h (sym j)) in
-    value-goes j (λ i. passed (record { «obu_type» = t i; dropped = f i }))
+    let t : n ≡ kindIn payload = g ∙ sym (judged-number (unescape payload) (length (unescape payload)) h (sym j)) in
+    value-goes j (λ i. passed (record { kind = t i; dropped = f i }))
 
 pub tsobu-empty : (payload : Bytes) → length payload ≡ 0 → refused 3 0 ≡ tsobuFigures payload
 unfolding tsobuFigures tsobuRefusal given pick _>>_
@@ -227,17 +227,17 @@ passing-none {s} {at} {code} {k} j h = empty (payloads (drop code s)) (omega (ar
     empty (b ∷ l) e = absurd (omega arith)
 
 -- ---- the payloads of a unit, judged in turn: `k` of them passed
-pub record Judging (s : Bytes) (at types : List ℕ) (bytes drops code k : ℕ) : Type 0 where
+pub record Judging (s : Bytes) (at kinds : List ℕ) (bytes drops code k : ℕ) : Type 0 where
   pub passing : Passing s at code k
-  pub long : length types ≡ 64
+  pub long : length kinds ≡ 64
   pub small : bytes + drops ≤ code
   pub passed-so-far : inTurn tsobuRefusal 0 (payloads s) ≡ inTurn tsobuRefusal k (payloads (drop code s))
   pub sum-bytes : bytes + sum (map length (map unescape (payloads (drop code s)))) ≡ sum (map length (obusIn s))
   pub sum-dropped : drops + sum (map dropped (payloads (drop code s))) ≡ droppedIn s
-  pub noted : take k types ++ map obuType (payloads (drop code s)) ≡ map obuType (payloads s)
+  pub noted : take k kinds ++ map kindIn (payloads (drop code s)) ≡ map kindIn (payloads s)
 
-pub judging-start : (s : Bytes) (e : Ends) (types : List ℕ) → length types ≡ 64 → atStartCode s ≡ true → EndsOf s e → e .more ≡ false → Judging s (e .at) types 0 0 0 0
-judging-start s e types l c o m =
+pub judging-start : (s : Bytes) (e : Ends) (kinds : List ℕ) → length kinds ≡ 64 → atStartCode s ≡ true → EndsOf s e → e .more ≡ false → Judging s (e .at) kinds 0 0 0 0
+judging-start s e kinds l c o m =
     record {
       passing = passing-start s (e .at) c (ap (λ (n : ℕ). take n (e .at)) (sym (o .count m)) ∙ o .at m);
       long = l;
@@ -248,9 +248,9 @@ judging-start s e types l c o m =
       noted = refl;
     }
 
-module _ {s : Bytes} {at types : List ℕ} {bytes drops code k : ℕ} (j : Judging s at types bytes drops code k) (h : k < length (payloads s)) where
+module _ {s : Bytes} {at kinds : List ℕ} {bytes drops code k : ℕ} (j : Judging s at kinds bytes drops code k) (h : k < length (payloads s)) where
   pub judging-step : (f : Figures) → tsobuRefusal (payloadAt s code) ≡ passed tt → f ≡ figures (payloadAt s code) → k < 64
-      → Judging s at (set types k (f .«obu_type»)) (bytes + (nextCode s code - (code + 3) - f .dropped)) (drops + f .dropped) (nextCode s code) (k + 1)
+      → Judging s at (set kinds k (f .kind)) (bytes + (nextCode s code - (code + 3) - f .dropped)) (drops + f .dropped) (nextCode s code) (k + 1)
   unfolding sum endsFrom
   judging-step f p e small =
       let q = passing-payloads (j .passing) h in
@@ -259,10 +259,10 @@ module _ {s : Bytes} {at types : List ℕ} {bytes drops code k : ℕ} (j : Judgi
       let dr : f .dropped ≡ dropped pay = ap (λ (x : Figures). x .dropped) e in
       let len = payload-length s code in
       let both = given-or-dropped pay in
-      let room : k < length types = omega (arith, j .long) in
+      let room : k < length kinds = omega (arith, j .long) in
       record {
         passing = passing-step (j .passing) h;
-        long = length-set types k (f .«obu_type») ∙ j .long;
+        long = length-set kinds k (f .kind) ∙ j .long;
         small = omega (arith, j .small);
         passed-so-far =
             j .passed-so-far ∙ ap (inTurn tsobuRefusal k) q ∙ turn-passed tsobuRefusal k pay rest p ∙ ap (λ (i : ℕ). inTurn tsobuRefusal i rest) (sym (add-one k));
@@ -270,11 +270,11 @@ module _ {s : Bytes} {at types : List ℕ} {bytes drops code k : ℕ} (j : Judgi
             omega (arith, j .sum-bytes, ap (λ (l : List Bytes). sum (map length (map unescape l))) q);
         sum-dropped = omega (arith, j .sum-dropped, ap (λ (l : List Bytes). sum (map dropped l)) q);
         noted =
-            ap (λ (l : List ℕ). l ++ map obuType rest)
-            (ap (λ (m : ℕ). take m (set types k (f .«obu_type»))) (add-one k) ∙ take-suc-set types k (f .«obu_type») room)
-            ∙ append-snoc (take k types) (f .«obu_type») (map obuType rest)
-            ∙ ap (λ (t : ℕ). take k types ++ (t ∷ map obuType rest)) (ap (λ (x : Figures). x .«obu_type») e)
-            ∙ ap (λ (l : List Bytes). take k types ++ map obuType l) (sym q)
+            ap (λ (l : List ℕ). l ++ map kindIn rest)
+            (ap (λ (m : ℕ). take m (set kinds k (f .kind))) (add-one k) ∙ take-suc-set kinds k (f .kind) room)
+            ∙ append-snoc (take k kinds) (f .kind) (map kindIn rest)
+            ∙ ap (λ (t : ℕ). take k kinds ++ (t ∷ map kindIn rest)) (ap (λ (x : Figures). x .kind) e)
+            ∙ ap (λ (l : List Bytes). take k kinds ++ map kindIn l) (sym q)
             ∙ j .noted;
       }
 
@@ -288,9 +288,9 @@ module _ {s : Bytes} {at types : List ℕ} {bytes drops code k : ℕ} (j : Judgi
       stops _ t
 
 -- all passed
-module _ {s : Bytes} {at types : List ℕ} {bytes drops code k : ℕ} (j : Judging s at types bytes drops code k) (h : length (payloads s) ≤ k) where
+module _ {s : Bytes} {at kinds : List ℕ} {bytes drops code k : ℕ} (j : Judging s at kinds bytes drops code k) (h : length (payloads s) ≤ k) where
   pub judging-done : (count : ℕ) → count ≡ length (payloads s)
-      → Judges s (record { found = read.Obus (record { obus = count; bytes = bytes; dropped = drops }); types = types })
+      → Judges s (record { found = read.Obus (record { obus = count; bytes = bytes; dropped = drops }); kinds = kinds })
   unfolding payloadCounts sum inTurn
   judging-done count n =
       let z = passing-none (j .passing) h in
@@ -299,31 +299,31 @@ module _ {s : Bytes} {at types : List ℕ} {bytes drops code k : ℕ} (j : Judgi
       let d : drops ≡ droppedIn s = omega (arith, j .sum-dropped, ap (λ (l : List Bytes). sum (map dropped l)) z) in
       record {
         found = follows (j .passed-so-far ∙ ap (inTurn tsobuRefusal k) z) (λ i. passed (record { obus = n i; bytes = b i; dropped = d i }));
-        types = λ e.
-            ap (λ (x : ℕ). take x types) m ∙ sym (append-nil (take k types)) ∙ ap (λ (l : List Bytes). take k types ++ map obuType l) (sym z) ∙ j .noted;
+        kinds = λ e.
+            ap (λ (x : ℕ). take x kinds) m ∙ sym (append-nil (take k kinds)) ∙ ap (λ (l : List Bytes). take k kinds ++ map kindIn l) (sym z) ∙ j .noted;
       }
 
--- where a payload was refused, nothing is asked of the types
-pub refused-judges : {s : Bytes} (types : List ℕ) {why : Refusal} {k : ℕ} → refused (numberOf why) k ≡ payloadCounts s
-    → Judges s (record { found = read.Refused (record { why = why; place = k }); types = types })
+-- where a payload was refused, nothing is asked of the kinds
+pub refused-judges : {s : Bytes} (kinds : List ℕ) {why : Refusal} {k : ℕ} → refused (numberOf why) k ≡ payloadCounts s
+    → Judges s (record { found = read.Refused (record { why = why; place = k }); kinds = kinds })
 unfolding payloadCounts
-refused-judges {s} types {why} {k} e =
+refused-judges {s} kinds {why} {k} e =
     let r = then-refused (inTurn tsobuRefusal 0 (payloads s)) _ (numberOf why) k (sym e) in
-    record { found = e; types = λ p. let z : _≡_ {A = ℕ} 0 1 = cc in absurd (omega arith) }
+    record { found = e; kinds = λ p. let z : _≡_ {A = ℕ} 0 1 = cc in absurd (omega arith) }
 
 -- ---- the payloads passed
-module _ (counts : Counts) (types : List ℕ) where
-  pub whole-over : mostObuBytes < counts .bytes → refused 2 0 ≡ wholeCounts counts types
+module _ (counts : Counts) (kinds : List ℕ) where
+  pub whole-over : mostObuBytes < counts .bytes → refused 2 0 ≡ wholeCounts counts kinds
   unfolding wholeCounts
   whole-over h = refuse 2 _ (lt-ltb mostObuBytes (counts .bytes) h)
 
-  pub whole-broken : (q : Ordered) (r : Refused) → counts .bytes ≤ mostObuBytes → orderedSays q ≡ orderRefusal (map kindOfType (take (counts .obus) types)) → q ≡ ordered.Refused r
-      → refusedBy r ≡ wholeCounts counts types
+  pub whole-broken : (q : Ordered) (r : Refused) → counts .bytes ≤ mostObuBytes → orderedSays q ≡ orderRefusal (map kindOfNumber (take (counts .obus) kinds)) → q ≡ ordered.Refused r
+      → refusedBy r ≡ wholeCounts counts kinds
   unfolding wholeCounts
   whole-broken q r h e k = pass-on 2 (le-ltb mostObuBytes (counts .bytes) h) (stops _ (sym e ∙ ap orderedSays k))
 
-  pub whole-legal : (q : Ordered) → counts .bytes ≤ mostObuBytes → orderedSays q ≡ orderRefusal (map kindOfType (take (counts .obus) types)) → q ≡ ordered.Legal
-      → passed counts ≡ wholeCounts counts types
+  pub whole-legal : (q : Ordered) → counts .bytes ≤ mostObuBytes → orderedSays q ≡ orderRefusal (map kindOfNumber (take (counts .obus) kinds)) → q ≡ ordered.Legal
+      → passed counts ≡ wholeCounts counts kinds
   unfolding wholeCounts
   whole-legal q h e k = pass-on 2 (le-ltb mostObuBytes (counts .bytes) h) (follows (sym e ∙ ap orderedSays k) refl)
 

@@ -14,8 +14,8 @@ use Rattle.refusal.specs.Verdict.{Verdict, passed, refused, _>>_, NoValue, inTu
 use Rattle.refusal.proofs.Verdicts.{refuse, pass-on, turn-passed, turn-refused, stops, follows}
 use Rattle.obu.specs.declared.header.Header.{Header}
 use Rattle.obu.specs.Header.{judged, obuRefusal}
-use Rattle.obu.specs.Order.{Kind, kindOf, kindOfType, orderRefusal}
-use Rattle.obu.proofs.Headers.{judged-kind}
+use Rattle.obu.specs.Order.{Kind, kindOf, kindOfNumber, kindNumber, orderRefusal}
+use Rattle.obu.proofs.Headers.{judged-number}
 use Rattle.unit.specs.Unit.{mostObus, mostObuBytes, sum, obusOf, writeRefusal, carried, writeUnit}
 use Rattle.unit.specs.Demand3.{Demand3Lent}
 use Rattle.unit.proofs.Theorem.{written, demand3-lent}
@@ -57,12 +57,12 @@ module _ (lens : List ℕ) (bytes : Bytes) where
       (pass-on 2 (ap₂ (λ (x y : Bool). x || not y) (le-ltb mostObuBytes (length bytes) (s .2)) (eq-eqb (sum lens) (length bytes) (s .3))) e)
 
 -- ---- each OBU in turn, and the order
--- i OBUs passed, and `types` begins with their types
-pub record Judging (lens : List ℕ) (bytes : Bytes) (i at : ℕ) (types : List ℕ) : Type 0 where
+-- i OBUs passed, and `numbers` begins with the numbers of their kinds
+pub record Judging (lens : List ℕ) (bytes : Bytes) (i at : ℕ) (numbers : List ℕ) : Type 0 where
   pub place : At lens bytes i at
-  pub long : length types ≡ mostObus
+  pub long : length numbers ≡ mostObus
   pub turns : inTurn obuRefusal i (left lens bytes i at) ≡ inTurn obuRefusal 0 (obusOf lens bytes)
-  pub kinds : map kindOfType (take i types) ++ map kindOf (left lens bytes i at) ≡ map kindOf (obusOf lens bytes)
+  pub kinds : map kindOfNumber (take i numbers) ++ map kindOf (left lens bytes i at) ≡ map kindOf (obusOf lens bytes)
 
 -- the refusal of an OBU, from the verdict on it as the next one that is lent
 module _ (lens : List ℕ) (bytes : Bytes) (i at : ℕ) (a : At lens bytes i at) (k : i < length lens) where
@@ -79,32 +79,32 @@ module _ (lens : List ℕ) (bytes : Bytes) (i at : ℕ) (a : At lens bytes i at)
   obu-refused number place e = let j = sym judged-next ∙ e in rw j
 
 module _ (lens : List ℕ) (bytes : Bytes) where
-  pub judging-start : (types : List ℕ) → sum lens ≡ length bytes → length types ≡ mostObus → Judging lens bytes 0 0 types
-  judging-start types e l = record { place = omega arith; long = l; turns = refl; kinds = refl }
+  pub judging-start : (numbers : List ℕ) → sum lens ≡ length bytes → length numbers ≡ mostObus → Judging lens bytes 0 0 numbers
+  judging-start numbers e l = record { place = omega arith; long = l; turns = refl; kinds = refl }
 
-  module _ (i at : ℕ) (types : List ℕ) (j : Judging lens bytes i at types) where
+  module _ (i at : ℕ) (numbers : List ℕ) (j : Judging lens bytes i at numbers) where
     -- the next OBU passed
     pub judging-next : i < length lens → length lens ≤ mostObus → (h : Header) → judged (lentObu lens bytes i at) (getD lens i 0) ≡ passed h
-        → Judging lens bytes (i + 1) (at + getD lens i 0) (set types i (h .«obu_type»))
-    judging-next k m h e =
+        → (t : ℕ) → t ≡ kindNumber h → Judging lens bytes (i + 1) (at + getD lens i 0) (set numbers i t)
+    judging-next k m h e t f =
         let obu : Bytes = nextObu lens bytes i at in
         let rest : List Bytes = left lens bytes (i + 1) (at + getD lens i 0) in
-        let before : List Kind = map kindOfType (take i types) in
-        let t : ℕ = h .«obu_type» in
+        let before : List Kind = map kindOfNumber (take i numbers) in
         let n = left-next lens bytes i at k in
-        let kind : kindOf obu ≡ kindOfType t = ap kindOf (sym (lent-obu lens bytes i at)) ∙ judged-kind (lentObu lens bytes i at) (getD lens i 0) h e in
-        let taken : take (i + 1) (set types i t) ≡ take i types ++ (t ∷ []) =
-        ap (λ (x : ℕ). take x (set types i t)) (add-one i) ∙ take-suc-set types i t (omega (arith, j .long)) in
+        let kind : kindOf obu ≡ kindOfNumber t =
+        ap kindOf (sym (lent-obu lens bytes i at)) ∙ ap kindOfNumber (judged-number (lentObu lens bytes i at) (getD lens i 0) h e ∙ sym f) in
+        let taken : take (i + 1) (set numbers i t) ≡ take i numbers ++ (t ∷ []) =
+        ap (λ (x : ℕ). take x (set numbers i t)) (add-one i) ∙ take-suc-set numbers i t (omega (arith, j .long)) in
         record {
           place = at-next lens bytes i at (j .place) k;
-          long = length-set types i t ∙ j .long;
+          long = length-set numbers i t ∙ j .long;
           turns =
               ap (λ (x : ℕ). inTurn obuRefusal x rest) (add-one i) ∙ sym (turn-passed obuRefusal i obu rest (obu-passed lens bytes i at (j .place) k h e))
               ∙ ap (inTurn obuRefusal i) (sym n) ∙ j .turns;
           kinds =
-              ap (λ (l : List ℕ). map kindOfType l ++ map kindOf rest) taken
-              ∙ ap (λ (l : List Kind). l ++ map kindOf rest) (map-append kindOfType (take i types) (t ∷ []))
-              ∙ append-snoc before (kindOfType t) (map kindOf rest) ∙ ap (λ (x : Kind). before ++ x ∷ map kindOf rest) (sym kind)
+              ap (λ (l : List ℕ). map kindOfNumber l ++ map kindOf rest) taken
+              ∙ ap (λ (l : List Kind). l ++ map kindOf rest) (map-append kindOfNumber (take i numbers) (t ∷ []))
+              ∙ append-snoc before (kindOfNumber t) (map kindOf rest) ∙ ap (λ (x : Kind). before ++ x ∷ map kindOf rest) (sym kind)
               ∙ ap (λ (l : List Bytes). before ++ map kindOf l) (sym n) ∙ j .kinds;
         }
 
@@ -118,11 +118,11 @@ module _ (lens : List ℕ) (bytes : Bytes) where
         (sym (j .turns) ∙ ap (inTurn obuRefusal i) (left-next lens bytes i at k) ∙ turn-refused obuRefusal i (nextObu lens bytes i at) _ number place refusal))
 
     -- all passed
-    pub judging-end : {v : Verdict NoValue} → Sized lens bytes → length lens ≤ i → v ≡ orderRefusal (map kindOfType (take i types)) → v ≡ writeRefusal lens bytes
+    pub judging-end : {v : Verdict NoValue} → Sized lens bytes → length lens ≤ i → v ≡ orderRefusal (map kindOfNumber (take i numbers)) → v ≡ writeRefusal lens bytes
     unfolding inTurn
     judging-end s k e =
         let n = left-end lens bytes i at k in
-        let before : List Kind = map kindOfType (take i types) in
+        let before : List Kind = map kindOfNumber (take i numbers) in
         let kinds : before ≡ map kindOf (obusOf lens bytes) = sym (append-nil before) ∙ ap (λ (l : List Bytes). before ++ map kindOf l) (sym n) ∙ j .kinds in
         sized-tries lens bytes s (follows (sym (j .turns) ∙ ap (inTurn obuRefusal i) n) (e ∙ ap orderRefusal kinds))
 

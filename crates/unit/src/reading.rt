@@ -42,9 +42,9 @@ struct Ends {
     at: [usize; 64],
 }
 
-// An OBU's type and the bytes dropped from its payload.
+// The number of an OBU's kind, and the bytes dropped from its payload.
 struct Figures {
-    obu_type: u8,
+    kind: u8,
     dropped: usize,
 }
 
@@ -53,10 +53,10 @@ enum TsObu {
     Refused(Refused),
 }
 
-// What the payloads of a unit were found to be, with the types of the OBUs.
+// What the payloads of a unit were found to be, with the numbers of the OBUs' kinds.
 struct Payloads {
     found: UnitRead,
-    types: [u8; 64],
+    kinds: [u8; 64],
 }
 
 // A unit's answer, with the places where its payloads end.
@@ -104,7 +104,7 @@ fn judge_obu(payload: &[u8], dropped: usize) -> TsObu
     match judged {
         obu::Judged::Refused(refused) => TsObu::Refused(refused),
         obu::Judged::Passed(header) => TsObu::Passed(Figures {
-            obu_type: header.obu_type,
+            kind: obu::kind_number(header),
             dropped: dropped,
         }),
     }
@@ -137,7 +137,7 @@ fn judge_payloads(unit: &[u8], ends: Ends) -> Payloads
 {
     let count = ends.count;
     let at = ends.at;
-    let mut types = [0u8; 64];
+    let mut kinds = [0u8; 64];
     let mut bytes: usize = 0;
     let mut dropped: usize = 0;
     let mut code: usize = 0;
@@ -150,10 +150,10 @@ fn judge_payloads(unit: &[u8], ends: Ends) -> Payloads
             TsObu::Refused(refused) => {
                 let why = refused.why;
                 let found = UnitRead::Refused(Refused { why, place: k });
-                return Payloads { found, types };
+                return Payloads { found, kinds };
             }
             TsObu::Passed(figures) => {
-                types[k] = figures.obu_type;
+                kinds[k] = figures.kind;
                 bytes += end - start - figures.dropped;
                 dropped += figures.dropped;
                 code = end;
@@ -166,7 +166,7 @@ fn judge_payloads(unit: &[u8], ends: Ends) -> Payloads
         bytes,
         dropped,
     });
-    Payloads { found, types }
+    Payloads { found, kinds }
 }
 
 fn refusal(why: Refusal) -> UnitRead
@@ -175,16 +175,16 @@ fn refusal(why: Refusal) -> UnitRead
     UnitRead::Refused(Refused { why, place: 0 })
 }
 
-// The payloads passed, with these counts and the types of the OBUs: 2 for the OBUs' sum, 7.
-fn judge_whole(counts: Counts, types: [u8; 64]) -> UnitRead
+// The payloads passed, with these counts and the numbers of the OBUs' kinds: 2 for the OBUs' sum, 7.
+fn judge_whole(counts: Counts, kinds: [u8; 64]) -> UnitRead
     requires { ⌜ counts .obus ≤ 64 ⌝ }
-    ensures { λ r. ⌜ readSays r ≡ wholeCounts counts types ⌝ }
+    ensures { λ r. ⌜ readSays r ≡ wholeCounts counts kinds ⌝ }
 {
     if MOST_OBU_BYTES < counts.bytes {
         return refusal(Refusal::LENGTH);
     }
     let count = counts.obus;
-    let ordered = obu::order(&types[..count]);
+    let ordered = obu::order(&kinds[..count]);
     match ordered {
         obu::Ordered::Refused(refused) => UnitRead::Refused(refused),
         obu::Ordered::Legal => UnitRead::Obus(counts),
@@ -218,8 +218,8 @@ fn judge_unit(unit: &[u8]) -> Judged
             ends: none,
         };
     };
-    let types = payloads.types;
-    let answer = judge_whole(counts, types);
+    let kinds = payloads.kinds;
+    let answer = judge_whole(counts, kinds);
     Judged { answer, ends: at }
 }
 

@@ -19,6 +19,7 @@ use emulation::escaped_length;
 use obu::Judged;
 use obu::Ordered;
 use obu::judge;
+use obu::kind_number;
 use obu::order;
 use refusal::Refusal;
 use refusal::Refused;
@@ -63,7 +64,7 @@ fn judge_obus(obus: &[u8], lens: &[usize]) -> Ordered
     requires { ⌜ (1 ≤ length (now lens)) × (length (now lens) ≤ mostObus) × (length (now obus) ≤ mostObuBytes) × (sum (now lens) ≡ length (now obus)) ⌝ }
     ensures { λ r. ⌜ orderedSays r ≡ writeRefusal (now (lens .entry)) (now (obus .entry)) ⌝ }
 {
-    let mut types = [0u8; 64];
+    let mut kinds = [0u8; 64];
     let mut at: usize = 0;
     let mut i: usize = 0;
     while i < lens.len() {
@@ -76,13 +77,13 @@ fn judge_obus(obus: &[u8], lens: &[usize]) -> Ordered
                 return Ordered::Refused(Refused { why, place: i });
             }
             Judged::Passed(header) => {
-                types[i] = header.obu_type;
+                kinds[i] = kind_number(header);
             }
         }
         at = end;
         i += 1;
     }
-    order(&types[..i])
+    order(&kinds[..i])
 }
 
 // How many bytes the escaped form of an OBU has, which is within the limit of escaping.

@@ -1,4 +1,4 @@
--- The invariant: the rule says of the whole what it says of the types from i on. The measure is what is left of the types.
+-- The invariant: the rule says of the whole what it says of the kinds from i on. The measure is what is left of the kinds.
 use Prim.Native.Nat.{_-_}
 use mathlib.Core.Path.{_≡_, refl, sym, _∙_}
 use native.Mathlib.Omega.{arith}
@@ -11,10 +11,10 @@ use Rattle.obu.proofs.ordering.before_frame.Statement.{statement}
 use Rattle.obu.proofs.ordering.before_frame.Tie as tie
 
 abbrev Inv-loop : tie.InvT-loop
-Inv-loop types from i₀ i = beforeFrame from (kindsFrom types from) ≡ beforeFrame i (kindsFrom types i)
+Inv-loop kinds from i₀ i = beforeFrame from (kindsFrom kinds from) ≡ beforeFrame i (kindsFrom kinds i)
 
 abbrev μ-loop : tie.MeasureT-loop
-μ-loop types from i₀ i = length types - i
+μ-loop kinds from i₀ i = length kinds - i
 
 loop-holds : tie.Need-loop-holds Inv-loop μ-loop
 loop-holds c = refl

@@ -1,5 +1,5 @@
--- The invariant: the rule says of the whole what it says of the types from i on, `ended` being whether the one before is a 4. The measure is
--- what is left of the types.
+-- The invariant: the rule says of the whole what it says of the kinds from i on, `ended` being whether the one before is a 4. The measure is
+-- what is left of the kinds.
 use Prim.Native.Nat.{_-_}
 use mathlib.Core.Bool.{false}
 use mathlib.Core.Path.{_≡_, refl, sym, _∙_}
@@ -13,10 +13,10 @@ use Rattle.obu.proofs.ordering.in_tiles.Statement.{statement}
 use Rattle.obu.proofs.ordering.in_tiles.Tie as tie
 
 abbrev Inv-loop : tie.InvT-loop
-Inv-loop types from ended₀ i₀ ended i = inTiles from false (kindsFrom types from) ≡ inTiles i ended (kindsFrom types i)
+Inv-loop kinds from ended₀ i₀ ended i = inTiles from false (kindsFrom kinds from) ≡ inTiles i ended (kindsFrom kinds i)
 
 abbrev μ-loop : tie.MeasureT-loop
-μ-loop types from ended₀ i₀ ended i = length types - i
+μ-loop kinds from ended₀ i₀ ended i = length kinds - i
 
 loop-holds : tie.Need-loop-holds Inv-loop μ-loop
 loop-holds c = refl

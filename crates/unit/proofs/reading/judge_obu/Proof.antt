@@ -53,14 +53,17 @@ returns c =
     ∙ judged-short (unescape p) _ _ 10 (omega arith) (first-bytes (unescape p) zeros _ _ (e .0) (e .1) .1) (omega (arith, start .pre, given-or-dropped p)) in
     figures-refused p _ _ j (c .before .judged .given .1)
 
+kind-number-requires : tie.Need-kind-number-requires
+kind-number-requires c κs = search needs
+
 returns-2 : tie.Need-returns-2
 returns-2 c =
-    let start = c .before .before .before .before .before .before .before .before .before in
+    let start = c .before .before .before .before .before .before .before .before .before .before in
     let p = start .args .payload .now in
-    let e = c .before .before .before .before .before .before .unescape-prefix .ensures in
-    let j = c .before .before .before .judge .ensures
+    let e = c .before .before .before .before .before .before .before .unescape-prefix .ensures in
+    let j = c .before .before .before .before .judge .ensures
     ∙ judged-short (unescape p) _ _ 10 (omega arith) (first-bytes (unescape p) zeros _ _ (e .0) (e .1) .1) (omega (arith, start .pre, given-or-dropped p)) in
-    figures-passed p _ _ _ j (c .before .judged2 .given .1) (start .pre)
+    figures-passed p _ _ _ j (c .before .before .judged2 .given .1) (start .pre) _ (c .kind-number .ensures)
 
 pub judge-obu-spec : {M : Type 1} → statement M
 judge-obu-spec =
@@ -74,5 +77,6 @@ judge-obu-spec =
     judge-requires
     enum-known-judged
     enum-known-judged-2
+    kind-number-requires
     returns
     returns-2)

@@ -17,10 +17,10 @@ use Rattle.unit.proofs.reading.judge_payloads.Statement.{statement}
 use Rattle.unit.proofs.reading.judge_payloads.Tie as tie
 
 abbrev Inv-loop : tie.InvT-loop
-Inv-loop unit count at types₀ bytes₀ dropped₀ code₀ k₀ types bytes dropped code k = Judging unit at types bytes dropped code k
+Inv-loop unit count at kinds₀ bytes₀ dropped₀ code₀ k₀ kinds bytes dropped code k = Judging unit at kinds bytes dropped code k
 
 abbrev μ-loop : tie.MeasureT-loop
-μ-loop unit count at types₀ bytes₀ dropped₀ code₀ k₀ types bytes dropped code k = count - k
+μ-loop unit count at kinds₀ bytes₀ dropped₀ code₀ k₀ kinds bytes dropped code k = count - k
 
 -- ---- in a turn
 left : (c : tie.In-loop Inv-loop μ-loop) → c .before .loop .k < length (payloads (c .before .before .before .before .args .unit .now))
@@ -103,8 +103,8 @@ returns c =
 enum-known-judged-2 : tie.Need-enum-known-judged-2 Inv-loop μ-loop
 enum-known-judged-2 c = search needs
 
-array-write-types : tie.Need-array-write-types Inv-loop μ-loop
-array-write-types c = few (c .before .before .before .before .before)
+array-write-kinds : tie.Need-array-write-kinds Inv-loop μ-loop
+array-write-kinds c = few (c .before .before .before .before .before)
 
 sub-bytes : tie.Need-sub-bytes Inv-loop μ-loop
 sub-bytes c = omega (arith, end-is (c .before .before .before .before .before))
@@ -136,7 +136,7 @@ loop-again c =
     let f = c .before .before .before .judged2 .given .0 .0 in
     let ok = fine (c .before .before .before .before .before) f (c .before .before .before .judged2 .given .1) in
     subst
-    (λ (e : ℕ). Judging s (i .before .before .before .before .args .ends .at) (set (i .before .loop .types) (i .before .loop .k) (f .«obu_type»)) (i .before .loop .bytes + (e - (i .before .loop .code + 3) - f .dropped)) (i .before .loop .dropped + f .dropped) e (i .before .loop .k + 1))
+    (λ (e : ℕ). Judging s (i .before .before .before .before .args .ends .at) (set (i .before .loop .kinds) (i .before .loop .k) (f .kind)) (i .before .loop .bytes + (e - (i .before .loop .code + 3) - f .dropped)) (i .before .loop .dropped + f .dropped) e (i .before .loop .k + 1))
     (sym (end-is i))
     (judging-step (i .before .loop .inv) (left i) f (ok .0) (ok .1) (few i))
 
@@ -163,7 +163,7 @@ judge-payloads-spec =
     enum-known-judged
     returns
     enum-known-judged-2
-    array-write-types
+    array-write-kinds
     sub-bytes
     sub-bytes-2
     add-bytes

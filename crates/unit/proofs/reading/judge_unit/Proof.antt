@@ -80,7 +80,7 @@ returns-5 c =
     let m = sym some-more ∙ ends .more in
     let found = sym k ∙ judged .found in
     answer-whole _ _ _ _ _ (c .judge-whole .ensures)
-    (check-whole _ h e m _ _ found (judged .types (counts-are _ h e m _ found .0)))
+    (check-whole _ h e m _ _ found (judged .kinds (counts-are _ h e m _ found .0)))
     (counts-obus _ _ found)
     (ap (λ (n : ℕ). take n (c .before .before .before .before .before .before .before .before .payload-ends .result .at)) (sym (ends .count some-more)) ∙ ends .at some-more)
 

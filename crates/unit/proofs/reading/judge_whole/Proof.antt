@@ -1,4 +1,4 @@
--- The sum is tried, then the order of the OBUs' types.
+-- The sum is tried, then the order of the OBUs' kinds.
 use borrow.Author.Needs.{needs}
 use mathlib.Core.Path.{sym, ap, _∙_}
 use lib.Seq.{length-take-le}
@@ -13,8 +13,8 @@ refusal-requires c κs = search needs
 returns : tie.Need-returns
 returns c = ap readSays (c .refusal .ensures) ∙ whole-over _ _ (c .before .if1 .taken)
 
-array-share-prefix-types : tie.Need-array-share-prefix-types
-array-share-prefix-types c = search needs
+array-share-prefix-kinds : tie.Need-array-share-prefix-kinds
+array-share-prefix-kinds c = search needs
 
 slice-aggregate-order : tie.Need-slice-aggregate-order
 slice-aggregate-order c = sym (length-take-le _ _ (search needs))
@@ -40,7 +40,7 @@ judge-whole-spec =
     (tie.spec
     refusal-requires
     returns
-    array-share-prefix-types
+    array-share-prefix-kinds
     slice-aggregate-order
     order-requires
     enum-known-ordered

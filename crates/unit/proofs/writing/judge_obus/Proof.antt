@@ -1,4 +1,4 @@
--- Each OBU passed so far passes the tries of its own, and `types` begins with their types; the tries of those left are then those of all.
+-- Each OBU passed so far passes the tries of its own, and `kinds` begins with the numbers of their kinds; the tries of those left are then those of all.
 use native.Mathlib.Omega.{arith}
 use borrow.Author.Needs.{needs}
 use Prim.Native.Nat.{_-_}
@@ -12,10 +12,10 @@ use Rattle.unit.proofs.writing.judge_obus.Statement.{statement}
 use Rattle.unit.proofs.writing.judge_obus.Tie as tie
 
 abbrev Inv-loop : tie.InvT-loop
-Inv-loop obus lens types₀ at₀ i₀ types at i = Judging lens obus i at types
+Inv-loop obus lens kinds₀ at₀ i₀ kinds at i = Judging lens obus i at kinds
 
 abbrev μ-loop : tie.MeasureT-loop
-μ-loop obus lens types₀ at₀ i₀ types at i = length lens - i
+μ-loop obus lens kinds₀ at₀ i₀ kinds at i = length lens - i
 
 loop-holds : tie.Need-loop-holds Inv-loop μ-loop
 loop-holds c =
@@ -53,14 +53,17 @@ returns : tie.Need-returns Inv-loop μ-loop
 returns c =
     let start = c .before .before .before .before .before .before .before .before .before .before .before in
     let at = c .before .before .before .before .before .before .before .before .loop in
-    judging-refused (start .args .lens .now) (start .args .obus .now) (at .i) (at .at) (at .types) (at .inv) (start .pre) (omega arith) _ _
+    judging-refused (start .args .lens .now) (start .args .obus .now) (at .i) (at .at) (at .kinds) (at .inv) (start .pre) (omega arith) _ _
     (sym (c .before .before .before .before .judge .ensures) ∙ ap judgedSays (c .before .before .judged .given .1))
 
 enum-known-judged-2 : tie.Need-enum-known-judged-2 Inv-loop μ-loop
 enum-known-judged-2 c = search needs
 
-array-write-types : tie.Need-array-write-types Inv-loop μ-loop
-array-write-types c = omega arith
+kind-number-requires : tie.Need-kind-number-requires Inv-loop μ-loop
+kind-number-requires c κs = search needs
+
+array-write-kinds : tie.Need-array-write-kinds Inv-loop μ-loop
+array-write-kinds c = omega arith
 
 add-i : tie.Need-add-i Inv-loop μ-loop
 add-i c = omega arith
@@ -70,13 +73,13 @@ loop-less c = omega arith
 
 loop-again : tie.Need-loop-again Inv-loop μ-loop
 loop-again c =
-    let start = c .before .before .before .before .before .before .before .before .before .before in
-    let at = c .before .before .before .before .before .before .before .loop in
-    judging-next (start .args .lens .now) (start .args .obus .now) (at .i) (at .at) (at .types) (at .inv) (omega arith) (start .pre .1) _
-    (sym (c .before .before .before .judge .ensures) ∙ ap judgedSays (c .before .judged2 .given .1))
+    let start = c .before .before .before .before .before .before .before .before .before .before .before in
+    let at = c .before .before .before .before .before .before .before .before .loop in
+    judging-next (start .args .lens .now) (start .args .obus .now) (at .i) (at .at) (at .kinds) (at .inv) (omega arith) (start .pre .1) _
+    (sym (c .before .before .before .before .judge .ensures) ∙ ap judgedSays (c .before .before .judged2 .given .1)) _ (c .kind-number .ensures)
 
-array-share-prefix-types : tie.Need-array-share-prefix-types Inv-loop μ-loop
-array-share-prefix-types c = omega arith
+array-share-prefix-kinds : tie.Need-array-share-prefix-kinds Inv-loop μ-loop
+array-share-prefix-kinds c = omega arith
 
 slice-aggregate-order : tie.Need-slice-aggregate-order Inv-loop μ-loop
 slice-aggregate-order c = sym (length-take-le _ _ (omega arith))
@@ -88,7 +91,7 @@ returns-2 : tie.Need-returns-2 Inv-loop μ-loop
 returns-2 c =
     let start = c .before .before .before .before .before .before in
     let at = c .before .before .before .loop in
-    judging-end (start .args .lens .now) (start .args .obus .now) (at .i) (at .at) (at .types) (at .inv) (start .pre) (omega arith) (c .order .ensures)
+    judging-end (start .args .lens .now) (start .args .obus .now) (at .i) (at .at) (at .kinds) (at .inv) (start .pre) (omega arith) (c .order .ensures)
 
 pub judge-obus-spec : {M : Type 1} → statement M
 judge-obus-spec =
@@ -107,11 +110,12 @@ judge-obus-spec =
     enum-known-judged
     returns
     enum-known-judged-2
-    array-write-types
+    kind-number-requires
+    array-write-kinds
     add-i
     loop-less
     loop-again
-    array-share-prefix-types
+    array-share-prefix-kinds
     slice-aggregate-order
     order-requires
     returns-2)
