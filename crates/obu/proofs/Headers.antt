@@ -1,4 +1,5 @@
--- The header of an OBU lies within it, its first ten bytes decide it (`judged-first`), and it gives the number of the OBU's kind (`judged-number`). Assumes nothing.
+-- The header of an OBU lies within it, its first ten bytes decide it (`judged-first`), and it gives the number of the OBU's kind
+-- (`judged-number`). Assumes nothing.
 use Prim.Native.Nat.{ℕ, _+_, _-_, _≤_, _<_, zero-le}
 use mathlib.Core.Bool.{Bool, true, false, _&&_}
 use mathlib.Core.Path.{_≡_, refl, ap, subst, _∙_}
@@ -19,7 +20,8 @@ use Rattle.obu.specs.declared.header.Size.{Size}
 use Rattle.obu.specs.declared.header.Size.the-variants.{Absent, Present}
 use Rattle.obu.specs.declared.header.Header.{Header}
 use Rattle.obu.specs.Leb128.{leb128}
-use Rattle.obu.specs.Header.{forbiddenBit, extensionBit, hasSizeBit, fixedBytes, extensionMissing, sizeSaid, sizeOf, sizeBytes, headerWith, sizedHeader, headerOf, judged, mostHeader}
+use Rattle.obu.specs.Header.{forbiddenBit, extensionBit, hasSizeBit, fixedBytes, extensionMissing, sizeSaid, sizeOf, sizeBytes}
+use Rattle.obu.specs.Header.{headerWith, sizedHeader, headerOf, judged, mostHeader}
 use Rattle.obu.specs.Order.{kindNumber, numberSaid}
 use Rattle.obu.proofs.Lebs.{leb-taken, first-eight}
 
@@ -48,7 +50,8 @@ said-within (Number value width) rest size e p =
     subst (λ (z : Size). sizeBytes z ≤ length rest) (passed-same (Present value width) size p) (leb-taken rest value width e .1)
 said-within Bad rest size e p = never p
 
-size-within : (t : Bool) (rest : Bytes) (size : Size) → pick t (sizeSaid (leb128 rest)) (passed Absent) ≡ passed size → sizeBytes size ≤ length rest
+size-within : (t : Bool) (rest : Bytes) (size : Size) → pick t (sizeSaid (leb128 rest)) (passed Absent) ≡ passed size
+    → sizeBytes size ≤ length rest
 unfolding pick
 size-within true rest size e = said-within (leb128 rest) rest size refl e
 size-within false rest size e = subst (λ (z : Size). sizeBytes z ≤ length rest) (passed-same Absent size e) zero-le
@@ -84,7 +87,9 @@ header-long k s h j =
     let m : fixedBytes (byte s 0) ≤ 2 = fixed-most (byte s 0) in
     let f : ℕ = fixedBytes (byte s 0) in
     let d : drop f (take k s) ≡ take (k - f) (drop f s) = drop-take f k s (omega arith) in
-    rw (n, b, d, ne-eqb k 0 (λ e. omega arith), ne-eqb k 1 (λ e. omega arith), ne-eqb (length s) 0 (λ e. omega arith), ne-eqb (length s) 1 (λ e. omega arith))
+    let not-k : (m : ℕ) → m < 2 → eqb k m ≡ false = λ m l. ne-eqb k m (λ e. omega arith) in
+    let not-s : (m : ℕ) → m < 2 → eqb (length s) m ≡ false = λ m l. ne-eqb (length s) m (λ e. omega arith) in
+    rw (n, b, d, not-k 0 (omega arith), not-k 1 (omega arith), not-s 0 (omega arith), not-s 1 (omega arith))
     (rw (sized-first (byte s 0) (k - f) (drop f s) (omega arith)))
 
 pub header-first : (k : ℕ) (s : Bytes) → mostHeader ≤ k → headerOf (take k s) ≡ headerOf s

@@ -45,7 +45,8 @@ nothing-yet (Number v w) =
     ap₂ Number e f
 nothing-yet Bad = refl
 
-one-more : (value scale i low : ℕ) (r : Leb) → gathered value scale i (lowFirst low r) ≡ gathered (value + scale * low) (scale * 128) (i + 1) r
+one-more : (value scale i low : ℕ) (r : Leb)
+    → gathered value scale i (lowFirst low r) ≡ gathered (value + scale * low) (scale * 128) (i + 1) r
 unfolding gathered lowFirst
 one-more value scale i low (Number v w) =
     let e : value + scale * (low + 128 * v) ≡ value + scale * low + scale * 128 * v =
@@ -92,7 +93,8 @@ module _ {s : Bytes} {value scale i : ℕ} (h : SoFar s value scale i) where
     -- the bytes end with the top bit set
     pub so-far-cut : length s ≤ i → Bad ≡ leb128 s
     unfolding leb128 gathered lebWithin inRange
-    so-far-cut l = sym (ap inRange (h .same ∙ ap₂ (λ (n : ℕ) (t : Bytes). gathered value scale i (lebWithin n t)) one-left (drop-of-length-le s l)))
+    so-far-cut l = sym (ap inRange
+        (h .same ∙ ap₂ (λ (n : ℕ) (t : Bytes). gathered value scale i (lebWithin n t)) one-left (drop-of-length-le s l)))
 
     module _ (l : i < length s) where
       -- the next byte, as the definition has it
@@ -102,7 +104,8 @@ module _ {s : Bytes} {value scale i : ℕ} (h : SoFar s value scale i) where
       -- a byte with its top bit clear is the last
       pub so-far-last : getD s i 0 < 128 → inRange (Number (value + scale * (getD s i 0 % 128)) (i + 1)) ≡ leb128 s
       unfolding leb128 gathered
-      so-far-last m = sym (ap inRange (at-byte ∙ ap (gathered value scale i) (sym (last-byte (8 - (i + 1)) (getD s i 0) (drop (i + 1) s) m))))
+      so-far-last m = sym (ap inRange
+          (at-byte ∙ ap (gathered value scale i) (sym (last-byte (8 - (i + 1)) (getD s i 0) (drop (i + 1) s) m))))
 
       -- a byte with its top bit set
       pub so-far-more : 128 ≤ getD s i 0 → getD s i 0 < 256 → SoFar s (value + scale * (getD s i 0 % 128)) (scale * 128) (i + 1)

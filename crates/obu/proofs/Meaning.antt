@@ -11,7 +11,8 @@ use lib.ListN.{length, take}
 use Rattle.lists.specs.Lists.{all, any}
 use Rattle.lists.proofs.Tests.{case, all-both}
 use Rattle.refusal.specs.Verdict.{Verdict, passed, refused, NoValue}
-use Rattle.obu.specs.Order.{Kind, temporalDelimiter, frameHeader, tileGroup, frame, is, headKind, tileKind, WholeFrame, oneFrame, headerAndTiles, OrderLegal, afterFrame, inTiles, atFrame, beforeFrame, orderRefusal, BrokenAt, OrderMeans}
+use Rattle.obu.specs.Order.{Kind, temporalDelimiter, frameHeader, tileGroup, frame, is, headKind, tileKind, WholeFrame, oneFrame}
+use Rattle.obu.specs.Order.{headerAndTiles, OrderLegal, afterFrame, inTiles, atFrame, beforeFrame, orderRefusal, BrokenAt, OrderMeans}
 use Rattle.refusal.proofs.Verdicts.{never}
 use Rattle.obu.proofs.Types.{same-kind}
 use Rattle.obu.proofs.Steps.{tiles-on, tiles-stop, one-frame, one-header, no-frame, head-on, head-stop, delimited, not-delimited}
@@ -55,7 +56,8 @@ module _ (f : Rule) (i : ℕ) where
 
 -- one kind on, where f goes on as g does
 module _ (f g : Rule) (i : ℕ) (k : Kind) (s : List Kind) (e : (t : List Kind) → f i (k ∷ t) ≡ g (suc i) t) (o : Open g) where
-  least-later : (place n : ℕ) → Broken g (suc i) s place n → (j : ℕ) → j < suc n → (rest : List Kind) × (f i (take (suc j) (k ∷ s) ++ rest) ≡ passed tt)
+  least-later : (place n : ℕ) → Broken g (suc i) s place n → (j : ℕ) → j < suc n
+      → (rest : List Kind) × (f i (take (suc j) (k ∷ s) ++ rest) ≡ passed tt)
   least-later place n b zero lt = (o (suc i) .0, e (o (suc i) .0) ∙ o (suc i) .1)
   least-later place n b (suc j) lt = let r = b .least j (omega arith) in (r .0, e (take (suc j) s ++ r .0) ∙ r .1)
 
@@ -119,7 +121,8 @@ says-tiles i false [] = says-end (λ j. inTiles j false) i (unfold inTiles in re
 says-tiles i ended (k ∷ s) =
     let more = says-tiles (suc i) (is k tileGroup) s in
     case (tileKind k)
-    (λ e. says-later (λ j. inTiles j ended) (λ j. inTiles j (is k tileGroup)) i k s (λ t. tiles-on i k t ended e) (open-tiles (is k tileGroup)) more)
+    (λ e. says-later (λ j. inTiles j ended) (λ j. inTiles j (is k tileGroup)) i k s (λ t. tiles-on i k t ended e)
+    (open-tiles (is k tileGroup)) more)
     (λ e. says-head (λ j. inTiles j ended) i k s (λ t. tiles-stop i k t ended e))
 
 says-frame : (i : ℕ) (l : List Kind) → Says atFrame i l (atFrame i l)
@@ -229,7 +232,8 @@ order-legal (k ∷ s) e =
     (λ h. with-first [] (k ∷ s) (inl refl) (before-legal 0 (k ∷ s) (sym (not-delimited k s h) ∙ e)))
 
 -- ---- a legal list passes
-tiles-fine : (i : ℕ) (ended : Bool) (tiles : List Kind) → all tileKind tiles ≡ true → inTiles i ended (tiles ++ (tileGroup ∷ [])) ≡ passed tt
+tiles-fine : (i : ℕ) (ended : Bool) (tiles : List Kind) → all tileKind tiles ≡ true
+    → inTiles i ended (tiles ++ (tileGroup ∷ [])) ≡ passed tt
 tiles-fine i ended [] e = unfold inTiles any in refl
 tiles-fine i ended (k ∷ s) e =
     let h = all-both tileKind k s e in
@@ -307,7 +311,8 @@ only-one : (l : List Kind) (v w : Verdict NoValue) → OrderMeans l v → OrderM
 only-one l (passed a) (passed b) h k = refl
 only-one l (passed a) (refused number place) h k = absurd (k .1 .not-legal h)
 only-one l (refused number place) (passed b) h k = absurd (h .1 .not-legal k)
-only-one l (refused m i) (refused n j) h k = ap₂ (λ (number place : ℕ). refused number place) (h .0 ∙ sym (k .0)) (same-place l i j (h .1) (k .1))
+only-one l (refused m i) (refused n j) h k = ap₂ (λ (number place : ℕ). refused number place) (h .0 ∙ sym (k .0))
+    (same-place l i j (h .1) (k .1))
 
 pub order-only : (l : List Kind) (v : Verdict NoValue) → OrderMeans l v → v ≡ orderRefusal l
 order-only l v h = only-one l v (orderRefusal l) h (order-means l)

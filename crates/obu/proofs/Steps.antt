@@ -4,7 +4,8 @@ use mathlib.Core.Bool.{Bool, true, false}
 use mathlib.Core.Path.{_≡_}
 use mathlib.Core.List.{List, _∷_}
 use Rattle.refusal.specs.Verdict.{refused}
-use Rattle.obu.specs.Order.{Kind, temporalDelimiter, frameHeader, tileGroup, frame, is, headKind, tileKind, afterFrame, inTiles, atFrame, beforeFrame, orderRefusal}
+use Rattle.obu.specs.Order.{Kind, temporalDelimiter, frameHeader, tileGroup, frame, is, headKind, tileKind, afterFrame, inTiles}
+use Rattle.obu.specs.Order.{atFrame, beforeFrame, orderRefusal}
 
 module _ (i : ℕ) (k : Kind) (s : List Kind) where
   pub tiles-on : (ended : Bool) → tileKind k ≡ true → inTiles i ended (k ∷ s) ≡ inTiles (suc i) (is k tileGroup) s

@@ -3,7 +3,9 @@ ghost use mathlib.Core.Path.{_≡_};
 ghost use Prim.Native.Nat.{_≤_};
 ghost use Rattle.refusal.specs.Verdict.{refused};
 ghost use Rattle.refusal.specs.Number.{numberOf};
-ghost use Rattle.obu.specs.Header.{forbiddenBit, typeBits, extensionBit, hasSizeBit, fixedBytes, extensionMissing, sizeBytes, headerWith, sizedHeader, headerOf, bytesRemaining, sizeWrong, delimiterWithContent, judged, judgedSays};
+ghost use Rattle.obu.specs.Header.{forbiddenBit, typeBits, extensionBit, hasSizeBit, fixedBytes};
+ghost use Rattle.obu.specs.Header.{extensionMissing, sizeBytes, headerWith, sizedHeader, headerOf};
+ghost use Rattle.obu.specs.Header.{bytesRemaining, sizeWrong, delimiterWithContent, judged, judgedSays};
 ghost use Rattle.obu.specs.Order.{kindNumber};
 use crate::leb128::Leb;
 use crate::leb128::read_leb128;
@@ -177,7 +179,8 @@ pub fn kind_number(header: Header) -> u8
     header.obu_type
 }
 
-// The header of an OBU of so many bytes that begins with prefix; 3, 4, 5, 6. HEADER_BYTES bytes of it, or all if there are fewer, are enough.
+// The header of an OBU of so many bytes that begins with prefix; 3, 4, 5, 6. HEADER_BYTES bytes of it, or all if there
+// are fewer, are enough.
 pub fn judge(prefix: &[u8], bytes: usize) -> Judged
     ensures { λ r. ⌜ judgedSays r ≡ judged (now (prefix .entry)) bytes ⌝ }
 {

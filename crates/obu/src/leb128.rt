@@ -25,7 +25,8 @@ fn in_range(value: u64, width: usize) -> Leb
     Leb::Number { value, width }
 }
 
-// The leb128 that s begins with: `value` is what the bytes read so far say, `scale` what the lowest of the next seven bits counts for.
+// The leb128 that s begins with: `value` is what the bytes read so far say, `scale` what the lowest of the next seven
+// bits counts for.
 pub fn read_leb128(s: &[u8]) -> Leb
     ensures { λ r. ⌜ r ≡ leb128 (now (s .entry)) ⌝ }
 {

@@ -5,7 +5,8 @@ ghost use mathlib.Core.List.{map};
 ghost use Prim.Native.Nat.{_<_};
 ghost use lib.ListN.{length, drop};
 ghost use Rattle.refusal.specs.Verdict.{refused};
-ghost use Rattle.obu.specs.Order.{kindOfNumber, headKind, tileKind, afterFrame, inTiles, atFrame, beforeFrame, orderRefusal, orderedSays};
+ghost use Rattle.obu.specs.Order.{kindOfNumber, headKind, tileKind, afterFrame, inTiles, atFrame, beforeFrame};
+ghost use Rattle.obu.specs.Order.{orderRefusal, orderedSays};
 use refusal::Refusal;
 use refusal::Refused;
 
@@ -109,7 +110,8 @@ fn before_frame(kinds: &[u8], from: usize) -> Ordered
     broken(i)
 }
 
-// Whether OBUs with these numbers of their kinds are in order; 7 at the index that breaks it, or at the count if they end too soon.
+// Whether OBUs with these numbers of their kinds are in order; 7 at the index that breaks it, or at the count if they
+// end too soon.
 pub fn order(kinds: &[u8]) -> Ordered
     ensures { λ r. ⌜ orderedSays r ≡ orderRefusal (map kindOfNumber (now (kinds .entry))) ⌝ }
 {

@@ -12,7 +12,8 @@ use Rattle.refusal.specs.Verdict.{Verdict, passed, refused, _>>=_, _>>_, given,
 use Rattle.refusal.proofs.Verdicts.{refuse, pass-on, follows, stops, then-bind, then-refused, never, passed-after, passed-same, passed-then}
 use Rattle.emulation.specs.Payload.{unescape}
 use Rattle.obu.specs.Order.{Kind, kindOf, kindOfNumber, orderRefusal}
-use Rattle.unit.specs.Unit.{mostCarried, mostObus, mostObuBytes, atStartCode, payloads, obusIn, sum, tsobuRefusal, readUnit, droppedIn}
+use Rattle.unit.specs.Unit.{mostCarried, mostObus, mostObuBytes, atStartCode, payloads, obusIn, sum, tsobuRefusal, readUnit}
+use Rattle.unit.specs.Unit.{droppedIn}
 use Rattle.unit.specs.Answer.{checking, reading, readSays}
 use Rattle.unit.specs.Parts.{kindIn, endsFrom, payloadCounts, wholeCounts, JudgedUnit}
 use Rattle.unit.specs.declared.reading.Counts.{Counts}
@@ -70,7 +71,8 @@ module _ (s : Bytes) where
 
   module _ (h : length s ≤ mostCarried) (e : atStartCode s ≡ true) (m : false ≡ ltb mostObus (length (payloads s))) where
     behind : {v : Verdict Counts}
-        → v ≡ (inTurn tsobuRefusal 0 (payloads s) >> given 2 (ltb mostObuBytes (sum (map length (obusIn s)))) >> orderRefusal (map kindOf (obusIn s)) >> passed (counts s))
+        → v ≡ (inTurn tsobuRefusal 0 (payloads s) >> given 2 (ltb mostObuBytes (sum (map length (obusIn s))))
+        >> orderRefusal (map kindOf (obusIn s)) >> passed (counts s))
         → v ≡ checking s
     unfolding tries
     behind k = pass-on 2 (le-ltb mostCarried (length s) h) (pass-on 9 (ap not e) (pass-on 1 (sym m) k)) ∙ tries-are
@@ -87,7 +89,8 @@ module _ (s : Bytes) where
         let n : length (payloads s) ≡ length (obusIn s) = sym (length-map (payloads s) unescape) in
         (p .0, sym (passed-same _ c (p .1)) ∙ λ i. record { obus = n i; bytes = sum (map length (obusIn s)); dropped = droppedIn s })
 
-    pub check-whole : (c : Counts) (numbers : List ℕ) → passed c ≡ payloadCounts s → take (length (payloads s)) numbers ≡ map kindIn (payloads s) → wholeCounts c numbers ≡ checking s
+    pub check-whole : (c : Counts) (numbers : List ℕ) → passed c ≡ payloadCounts s
+        → take (length (payloads s)) numbers ≡ map kindIn (payloads s) → wholeCounts c numbers ≡ checking s
     unfolding wholeCounts
     check-whole c numbers k t =
         let n = counts-are c k in
@@ -96,7 +99,8 @@ module _ (s : Bytes) where
         ap (λ (i : ℕ). map kindOfNumber (take i numbers)) m ∙ ap (map kindOfNumber) t ∙ kinds (payloads s) in
         behind
         (follows (n .0)
-        (ap (λ (x : Counts). given 2 (ltb mostObuBytes (x .bytes)) >> orderRefusal (map kindOfNumber (take (c .obus) numbers)) >> passed x) (n .1)
+        (ap (λ (x : Counts). given 2 (ltb mostObuBytes (x .bytes)) >> orderRefusal (map kindOfNumber (take (c .obus) numbers)) >> passed x)
+        (n .1)
         ∙ ap (λ (l : List Kind). given 2 (ltb mostObuBytes (sum (map length (obusIn s)))) >> orderRefusal l >> passed (counts s)) o))
 
 -- how many OBUs the payloads that passed have
@@ -109,15 +113,21 @@ whole-counts : (c : Counts) (numbers : List ℕ) (d : Counts) → wholeCounts c 
 unfolding wholeCounts
 whole-counts c numbers d e = sym (passed-same c d (passed-after _ _ d (passed-after _ _ d e .1) .1))
 
-pub answer-refused : (s : Bytes) (r : UnitRead) (ends : List ℕ) (number place : ℕ) → readSays r ≡ refused number place → refused number place ≡ checking s
+pub answer-refused : (s : Bytes) (r : UnitRead) (ends : List ℕ) (number place : ℕ) → readSays r ≡ refused number place
+    → refused number place ≡ checking s
     → JudgedUnit s (record { answer = r; ends = ends })
 answer-refused s r ends number place e k =
     record { answer = e ∙ k; ends = λ c p. never (k ∙ p) }
 
-pub answer-whole : (s : Bytes) (r : UnitRead) (c : Counts) (at numbers : List ℕ) → readSays r ≡ wholeCounts c numbers → wholeCounts c numbers ≡ checking s → c .obus ≡ length (payloads s)
+pub answer-whole : (s : Bytes) (r : UnitRead) (c : Counts) (at numbers : List ℕ) → readSays r ≡ wholeCounts c numbers
+    → wholeCounts c numbers ≡ checking s → c .obus ≡ length (payloads s)
     → take (length (payloads s)) at ≡ endsFrom 0 (payloads s) → JudgedUnit s (record { answer = r; ends = at })
 answer-whole s r c at numbers e k n a =
-    record { answer = e ∙ k; ends = λ d p. ap (λ (m : ℕ). take m at) (ap (λ (x : Counts). x .obus) (whole-counts c numbers d (k ∙ p)) ∙ n) ∙ a }
+    record {
+      answer = e ∙ k;
+      ends = λ d p. ap (λ (m : ℕ). take m at) (ap (λ (x : Counts). x .obus) (whole-counts c numbers d (k ∙ p)) ∙ n)
+          ∙ a;
+    }
 
 -- ---- what an accepted unit is
 pub record Checked (s : Bytes) (c : Counts) : Type 0 where
@@ -132,7 +142,8 @@ checked s c e =
     let k = passed-then (readUnit s) _ c e in
     let r = reads s (k .0) (k .1) in
     let same = passed-same _ c (k .2) in
-    let n : c .obus ≡ length (payloads s) = sym (ap (λ (x : Counts). x .obus) same) ∙ ap length (sym (r .1)) ∙ length-map (payloads s) unescape in
+    let n : c .obus ≡ length (payloads s) = sym (ap (λ (x : Counts). x .obus) same) ∙ ap length (sym (r .1))
+    ∙ length-map (payloads s) unescape in
     record {
       headed = r .0 .headed;
       obus = n;
@@ -146,7 +157,8 @@ module _ (s : Bytes) (bytes lengths : ℕ) where
   unfolding reading _>>=_
   reading-refused number place e = rw e
 
-  short-by : (c : Counts) → checking s ≡ passed c → (ltb bytes (c .bytes) || ltb lengths (c .obus)) ≡ true → refused 8 0 ≡ reading s bytes lengths
+  short-by : (c : Counts) → checking s ≡ passed c → (ltb bytes (c .bytes) || ltb lengths (c .obus)) ≡ true
+      → refused 8 0 ≡ reading s bytes lengths
   unfolding reading _>>=_
   short-by c e t = rw e (refuse 8 (passed c) t)
 
@@ -154,7 +166,8 @@ module _ (s : Bytes) (bytes lengths : ℕ) where
   short-of-bytes c e h = short-by c e (ap (λ (t : Bool). t || ltb lengths (c .obus)) (lt-ltb bytes (c .bytes) h))
 
   pub short-of-lengths : (c : Counts) → checking s ≡ passed c → lengths < c .obus → refused 8 0 ≡ reading s bytes lengths
-  short-of-lengths c e h = short-by c e (ap (λ (t : Bool). ltb bytes (c .bytes) || t) (lt-ltb lengths (c .obus) h) ∙ or-true (ltb bytes (c .bytes)))
+  short-of-lengths c e h = short-by c e
+      (ap (λ (t : Bool). ltb bytes (c .bytes) || t) (lt-ltb lengths (c .obus) h) ∙ or-true (ltb bytes (c .bytes)))
 
   pub reading-fits : (c : Counts) → checking s ≡ passed c → c .bytes ≤ bytes → c .obus ≤ lengths → passed c ≡ reading s bytes lengths
   unfolding reading _>>=_

@@ -30,14 +30,16 @@ use Rattle.obu.specs.declared.ordering.Ordered.the-variants as ordered
 use Rattle.obu.specs.Order.{kindOfNumber, kindNumber, orderRefusal, orderedSays}
 use Rattle.obu.proofs.Headers.{judged-first, judged-number}
 use Rattle.unit.specs.Unit.{mostObus, mostObuBytes, atStartCode, payloads, obusIn, sum, tsobuRefusal, droppedIn}
-use Rattle.unit.specs.Parts.{kindIn, figures, tsobuFigures, tsobuSays, legalFigures, endsFrom, EndsOf, payloadCounts, Judges, wholeCounts}
+use Rattle.unit.specs.Parts.{kindIn, figures, tsobuFigures, tsobuSays, legalFigures, endsFrom, EndsOf, payloadCounts, Judges}
+use Rattle.unit.specs.Parts.{wholeCounts}
 use Rattle.unit.specs.declared.reading.Counts.{Counts}
 use Rattle.unit.specs.declared.reading.UnitRead.the-variants as read
 use Rattle.unit.specs.declared.reading.Ends.{Ends}
 use Rattle.unit.specs.declared.reading.Figures.{Figures}
 use Rattle.unit.specs.declared.reading.TsObu.{TsObu}
 use Rattle.unit.specs.declared.reading.TsObu.the-variants as tsobu
-use Rattle.unit.proofs.Places.{Place, nextCode, payloadAt, payload-length, next-fits, next-place, payloads-from, payloads-end, place-code}
+use Rattle.unit.proofs.Places.{Place, nextCode, payloadAt, payload-length, next-fits, next-place, payloads-from, payloads-end}
+use Rattle.unit.proofs.Places.{place-code}
 
 -- ---- where payloads end
 pub ends-from : (s : Bytes) (code : ℕ) → atStartCode (drop code s) ≡ true
@@ -72,7 +74,8 @@ pub ending-more : {s : Bytes} {at : List ℕ} {count code : ℕ} → Ending s at
 ending-more {s} {at} {count} {code} j h =
     omega (arith, j .counted, ap length (payloads-from s code (ending-code j h)))
 
-pub ending-step : {s : Bytes} {at : List ℕ} {count code next : ℕ} → Ending s at count code → code < length s → count < 64 → next ≡ nextCode s code
+pub ending-step : {s : Bytes} {at : List ℕ} {count code next : ℕ} → Ending s at count code → code < length s → count < 64
+    → next ≡ nextCode s code
     → Ending s (set at count next) (count + 1) next
 ending-step {s} {at} {count} {code} {next} j h k e =
     let c = ending-code j h in
@@ -123,7 +126,8 @@ first-bytes u z first n e f =
 pub judged-short : (u first : Bytes) (n k : ℕ) → 10 ≤ k → first ≡ take k u → n ≡ length u → judged first n ≡ judged u (length u)
 judged-short u first n k h e f = ap₂ judged e f ∙ judged-first k u (length u) h
 
-refusal-stays : {A : Type 0} {v : Verdict Header} {number place : ℕ} (w : Verdict A) → refused number place ≡ v → refused number place ≡ ((v >> passed (tt {0})) >> w)
+refusal-stays : {A : Type 0} {v : Verdict Header} {number place : ℕ} (w : Verdict A) → refused number place ≡ v
+    → refused number place ≡ ((v >> passed (tt {0})) >> w)
 unfolding _>>_
 refusal-stays w e = rw (← e)
 
@@ -131,12 +135,14 @@ value-goes : {A : Type 0} {v : Verdict Header} {h : Header} {w x : Verdict A} �
 unfolding _>>_
 value-goes e f = rw (← e) f
 
-pub figures-refused : (payload : Bytes) (q : Obu) (r : Refused) → obuSays q ≡ judged (unescape payload) (length (unescape payload)) → q ≡ obu.Refused r
+pub figures-refused : (payload : Bytes) (q : Obu) (r : Refused) → obuSays q ≡ judged (unescape payload) (length (unescape payload))
+    → q ≡ obu.Refused r
     → refusedBy r ≡ legalFigures payload
 unfolding legalFigures
 figures-refused payload q r e k = refusal-stays (passed (figures payload)) (sym (ap obuSays k) ∙ e)
 
-pub figures-passed : (payload : Bytes) (q : Obu) (h : Header) (d : ℕ) → obuSays q ≡ judged (unescape payload) (length (unescape payload)) → q ≡ obu.Passed h → d ≡ dropped payload
+pub figures-passed : (payload : Bytes) (q : Obu) (h : Header) (d : ℕ) → obuSays q ≡ judged (unescape payload) (length (unescape payload))
+    → q ≡ obu.Passed h → d ≡ dropped payload
     → (n : ℕ) → n ≡ kindNumber h → passed (record { kind = n; dropped = d }) ≡ legalFigures payload
 unfolding legalFigures
 figures-passed payload q h d e k f n g =
@@ -157,7 +163,8 @@ unfolding tsobuFigures tsobuRefusal legalFigures given pick _>>_
 tsobu-legal payload h e = rw (ne-eqb (length payload) 0 h, e)
 
 -- one payload's answer, as a refusal or a pass
-pub tsobu-refused : (payload : Bytes) (q : TsObu) (r : Refused) → tsobuSays q ≡ tsobuFigures payload → q ≡ tsobu.Refused r → tsobuRefusal payload ≡ refusedBy r
+pub tsobu-refused : (payload : Bytes) (q : TsObu) (r : Refused) → tsobuSays q ≡ tsobuFigures payload → q ≡ tsobu.Refused r
+    → tsobuRefusal payload ≡ refusedBy r
 unfolding tsobuFigures
 tsobu-refused payload q r e k =
     then-refused (tsobuRefusal payload) (figures payload) (numberOf (r .why)) (r .place) (sym e ∙ ap tsobuSays k)
@@ -176,7 +183,8 @@ pub record Passing (s : Bytes) (at : List ℕ) (code k : ℕ) : Type 0 where
   pub ends : drop k (take (length (payloads s)) at) ≡ endsFrom code (payloads (drop code s))
   pub counted : k + length (payloads (drop code s)) ≡ length (payloads s)
 
-pub passing-start : (s : Bytes) (at : List ℕ) → atStartCode s ≡ true → take (length (payloads s)) at ≡ endsFrom 0 (payloads s) → Passing s at 0 0
+pub passing-start : (s : Bytes) (at : List ℕ) → atStartCode s ≡ true → take (length (payloads s)) at ≡ endsFrom 0 (payloads s)
+    → Passing s at 0 0
 passing-start s at c e = record { place = inr c; within = omega arith; ends = e; counted = omega arith }
 
 -- a payload is left: the next, its end, and the place behind it
@@ -236,7 +244,8 @@ pub record Judging (s : Bytes) (at kinds : List ℕ) (bytes drops code k : ℕ) 
   pub sum-dropped : drops + sum (map dropped (payloads (drop code s))) ≡ droppedIn s
   pub noted : take k kinds ++ map kindIn (payloads (drop code s)) ≡ map kindIn (payloads s)
 
-pub judging-start : (s : Bytes) (e : Ends) (kinds : List ℕ) → length kinds ≡ 64 → atStartCode s ≡ true → EndsOf s e → e .more ≡ false → Judging s (e .at) kinds 0 0 0 0
+pub judging-start : (s : Bytes) (e : Ends) (kinds : List ℕ) → length kinds ≡ 64 → atStartCode s ≡ true → EndsOf s e → e .more ≡ false
+    → Judging s (e .at) kinds 0 0 0 0
 judging-start s e kinds l c o m =
     record {
       passing = passing-start s (e .at) c (ap (λ (n : ℕ). take n (e .at)) (sym (o .count m)) ∙ o .at m);
@@ -248,9 +257,11 @@ judging-start s e kinds l c o m =
       noted = refl;
     }
 
-module _ {s : Bytes} {at kinds : List ℕ} {bytes drops code k : ℕ} (j : Judging s at kinds bytes drops code k) (h : k < length (payloads s)) where
+module _ {s : Bytes} {at kinds : List ℕ} {bytes drops code k : ℕ} (j : Judging s at kinds bytes drops code k)
+    (h : k < length (payloads s)) where
   pub judging-step : (f : Figures) → tsobuRefusal (payloadAt s code) ≡ passed tt → f ≡ figures (payloadAt s code) → k < 64
-      → Judging s at (set kinds k (f .kind)) (bytes + (nextCode s code - (code + 3) - f .dropped)) (drops + f .dropped) (nextCode s code) (k + 1)
+      → Judging s at (set kinds k (f .kind)) (bytes + (nextCode s code - (code + 3) - f .dropped)) (drops + f .dropped) (nextCode s code)
+      (k + 1)
   unfolding sum endsFrom
   judging-step f p e small =
       let q = passing-payloads (j .passing) h in
@@ -265,7 +276,8 @@ module _ {s : Bytes} {at kinds : List ℕ} {bytes drops code k : ℕ} (j : Judgi
         long = length-set kinds k (f .kind) ∙ j .long;
         small = omega (arith, j .small);
         passed-so-far =
-            j .passed-so-far ∙ ap (inTurn tsobuRefusal k) q ∙ turn-passed tsobuRefusal k pay rest p ∙ ap (λ (i : ℕ). inTurn tsobuRefusal i rest) (sym (add-one k));
+            j .passed-so-far ∙ ap (inTurn tsobuRefusal k) q ∙ turn-passed tsobuRefusal k pay rest p
+            ∙ ap (λ (i : ℕ). inTurn tsobuRefusal i rest) (sym (add-one k));
         sum-bytes =
             omega (arith, j .sum-bytes, ap (λ (l : List Bytes). sum (map length (map unescape l))) q);
         sum-dropped = omega (arith, j .sum-dropped, ap (λ (l : List Bytes). sum (map dropped l)) q);
@@ -288,19 +300,22 @@ module _ {s : Bytes} {at kinds : List ℕ} {bytes drops code k : ℕ} (j : Judgi
       stops _ t
 
 -- all passed
-module _ {s : Bytes} {at kinds : List ℕ} {bytes drops code k : ℕ} (j : Judging s at kinds bytes drops code k) (h : length (payloads s) ≤ k) where
+module _ {s : Bytes} {at kinds : List ℕ} {bytes drops code k : ℕ} (j : Judging s at kinds bytes drops code k)
+    (h : length (payloads s) ≤ k) where
   pub judging-done : (count : ℕ) → count ≡ length (payloads s)
       → Judges s (record { found = read.Obus (record { obus = count; bytes = bytes; dropped = drops }); kinds = kinds })
   unfolding payloadCounts sum inTurn
   judging-done count n =
       let z = passing-none (j .passing) h in
       let m : length (payloads s) ≡ k = omega (arith, j .passing .counted, ap length z) in
-      let b : bytes ≡ sum (map length (obusIn s)) = omega (arith, j .sum-bytes, ap (λ (l : List Bytes). sum (map length (map unescape l))) z) in
+      let b : bytes ≡ sum (map length (obusIn s)) = omega
+      (arith, j .sum-bytes, ap (λ (l : List Bytes). sum (map length (map unescape l))) z) in
       let d : drops ≡ droppedIn s = omega (arith, j .sum-dropped, ap (λ (l : List Bytes). sum (map dropped l)) z) in
       record {
         found = follows (j .passed-so-far ∙ ap (inTurn tsobuRefusal k) z) (λ i. passed (record { obus = n i; bytes = b i; dropped = d i }));
         kinds = λ e.
-            ap (λ (x : ℕ). take x kinds) m ∙ sym (append-nil (take k kinds)) ∙ ap (λ (l : List Bytes). take k kinds ++ map kindIn l) (sym z) ∙ j .noted;
+            ap (λ (x : ℕ). take x kinds) m ∙ sym (append-nil (take k kinds)) ∙ ap (λ (l : List Bytes). take k kinds ++ map kindIn l) (sym z)
+            ∙ j .noted;
       }
 
 -- where a payload was refused, nothing is asked of the kinds
@@ -317,12 +332,14 @@ module _ (counts : Counts) (kinds : List ℕ) where
   unfolding wholeCounts
   whole-over h = refuse 2 _ (lt-ltb mostObuBytes (counts .bytes) h)
 
-  pub whole-broken : (q : Ordered) (r : Refused) → counts .bytes ≤ mostObuBytes → orderedSays q ≡ orderRefusal (map kindOfNumber (take (counts .obus) kinds)) → q ≡ ordered.Refused r
+  pub whole-broken : (q : Ordered) (r : Refused) → counts .bytes ≤ mostObuBytes
+      → orderedSays q ≡ orderRefusal (map kindOfNumber (take (counts .obus) kinds)) → q ≡ ordered.Refused r
       → refusedBy r ≡ wholeCounts counts kinds
   unfolding wholeCounts
   whole-broken q r h e k = pass-on 2 (le-ltb mostObuBytes (counts .bytes) h) (stops _ (sym e ∙ ap orderedSays k))
 
-  pub whole-legal : (q : Ordered) → counts .bytes ≤ mostObuBytes → orderedSays q ≡ orderRefusal (map kindOfNumber (take (counts .obus) kinds)) → q ≡ ordered.Legal
+  pub whole-legal : (q : Ordered) → counts .bytes ≤ mostObuBytes
+      → orderedSays q ≡ orderRefusal (map kindOfNumber (take (counts .obus) kinds)) → q ≡ ordered.Legal
       → passed counts ≡ wholeCounts counts kinds
   unfolding wholeCounts
   whole-legal q h e k = pass-on 2 (le-ltb mostObuBytes (counts .bytes) h) (follows (sym e ∙ ap orderedSays k) refl)
@@ -333,17 +350,23 @@ pub record Copying (s : Bytes) (ends out₀ lens₀ out lens : List ℕ) (code n
   pub bytes : Part out₀ (flatten (obusIn s)) n (flatten (map unescape (payloads (drop code s)))) out
   pub lengths : Part lens₀ (map length (obusIn s)) k (map length (map unescape (payloads (drop code s)))) lens
 
-pub copying-start : (s : Bytes) (ends out lens : List ℕ) → atStartCode s ≡ true → take (length (payloads s)) ends ≡ endsFrom 0 (payloads s) → Copying s ends out lens out lens 0 0 0
+pub copying-start : (s : Bytes) (ends out lens : List ℕ) → atStartCode s ≡ true → take (length (payloads s)) ends ≡ endsFrom 0 (payloads s)
+    → Copying s ends out lens out lens 0 0 0
 copying-start s ends out lens c e =
     record { passing = passing-start s ends c e; bytes = start out (flatten (obusIn s)); lengths = start lens (map length (obusIn s)) }
 
-module _ {s : Bytes} {ends out₀ lens₀ out lens : List ℕ} {code n k : ℕ} (j : Copying s ends out₀ lens₀ out lens code n k) (h : k < length (payloads s)) (fits : length (flatten (obusIn s)) ≤ length out₀) (few : length (payloads s) ≤ length lens₀) where
-  next-bytes : Part out₀ (flatten (obusIn s)) n (unescape (payloadAt s code) ++ flatten (map unescape (payloads (drop (nextCode s code) s)))) out
+module _ {s : Bytes} {ends out₀ lens₀ out lens : List ℕ} {code n k : ℕ} (j : Copying s ends out₀ lens₀ out lens code n k)
+    (h : k < length (payloads s)) (fits : length (flatten (obusIn s)) ≤ length out₀) (few : length (payloads s) ≤ length lens₀) where
+  next-bytes : Part out₀ (flatten (obusIn s)) n
+      (unescape (payloadAt s code) ++ flatten (map unescape (payloads (drop (nextCode s code) s)))) out
   unfolding flatten
-  next-bytes = subst (λ (l : List Bytes). Part out₀ (flatten (obusIn s)) n (flatten (map unescape l)) out) (passing-payloads (j .passing) h) (j .bytes)
+  next-bytes = subst (λ (l : List Bytes). Part out₀ (flatten (obusIn s)) n (flatten (map unescape l)) out) (passing-payloads (j .passing) h)
+      (j .bytes)
 
-  next-length : Part lens₀ (map length (obusIn s)) k (length (unescape (payloadAt s code)) ∷ map length (map unescape (payloads (drop (nextCode s code) s)))) lens
-  next-length = subst (λ (l : List Bytes). Part lens₀ (map length (obusIn s)) k (map length (map unescape l)) lens) (passing-payloads (j .passing) h) (j .lengths)
+  next-length : Part lens₀ (map length (obusIn s)) k
+      (length (unescape (payloadAt s code)) ∷ map length (map unescape (payloads (drop (nextCode s code) s)))) lens
+  next-length = subst (λ (l : List Bytes). Part lens₀ (map length (obusIn s)) k (map length (map unescape l)) lens)
+      (passing-payloads (j .passing) h) (j .lengths)
 
   lens-fit : length (map length (obusIn s)) ≤ length lens₀
   lens-fit = omega (arith, length-map (obusIn s) length, length-map (payloads s) unescape, few)
@@ -366,12 +389,15 @@ module _ {s : Bytes} {ends out₀ lens₀ out lens : List ℕ} {code n k : ℕ} 
       record {
         passing = passing-step (j .passing) h;
         bytes =
-            subst (λ (m : ℕ). Part out₀ (flatten (obusIn s)) (n + m) (flatten (map unescape (payloads (drop (nextCode s code) s)))) (placed out n (unescape (payloadAt s code)))) (sym e) p;
+            subst (λ (m : ℕ). Part out₀ (flatten (obusIn s)) (n + m) (flatten (map unescape (payloads (drop (nextCode s code) s))))
+            (placed out n (unescape (payloadAt s code)))) (sym e) p;
         lengths =
-            subst (λ (m : ℕ). Part lens₀ (map length (obusIn s)) (k + 1) (map length (map unescape (payloads (drop (nextCode s code) s)))) (set lens k m)) (sym e) q;
+            subst (λ (m : ℕ). Part lens₀ (map length (obusIn s)) (k + 1) (map length (map unescape (payloads (drop (nextCode s code) s))))
+            (set lens k m)) (sym e) q;
       }
 
-pub copying-done : {s : Bytes} {ends out₀ lens₀ out lens : List ℕ} {code n k : ℕ} → Copying s ends out₀ lens₀ out lens code n k → length (payloads s) ≤ k
+pub copying-done : {s : Bytes} {ends out₀ lens₀ out lens : List ℕ} {code n k : ℕ} → Copying s ends out₀ lens₀ out lens code n k
+    → length (payloads s) ≤ k
     → (out ≡ over (flatten (obusIn s)) out₀) × (lens ≡ over (map length (obusIn s)) lens₀)
 unfolding flatten
 copying-done {s} {ends} {out₀} {lens₀} {out} {lens} {code} {n} {k} j h =

@@ -37,7 +37,8 @@ module _ (lens : List ℕ) (bytes : Bytes) where
   pub too-long : 1 ≤ length lens → length lens ≤ mostObus → mostObuBytes < length bytes → refused 2 0 ≡ writeRefusal lens bytes
   unfolding writeRefusal
   too-long h k m =
-      pass-on 1 (count-right h k) (refuse 2 _ (ap (λ (t : Bool). t || not (eqb (sum lens) (length bytes))) (lt-ltb mostObuBytes (length bytes) m)))
+      pass-on 1 (count-right h k)
+      (refuse 2 _ (ap (λ (t : Bool). t || not (eqb (sum lens) (length bytes))) (lt-ltb mostObuBytes (length bytes) m)))
 
   pub wrong-sum : 1 ≤ length lens → length lens ≤ mostObus → eqb (sum lens) (length bytes) ≡ false → refused 2 0 ≡ writeRefusal lens bytes
   unfolding writeRefusal
@@ -49,7 +50,8 @@ module _ (lens : List ℕ) (bytes : Bytes) where
   abbrev pub Sized : Type 0
   Sized = (1 ≤ length lens) × (length lens ≤ mostObus) × (length bytes ≤ mostObuBytes) × (sum lens ≡ length bytes)
 
-  sized-tries : {v : Verdict NoValue} → Sized → v ≡ (inTurn obuRefusal 0 (obusOf lens bytes) >> orderRefusal (map kindOf (obusOf lens bytes)))
+  sized-tries : {v : Verdict NoValue} → Sized
+      → v ≡ (inTurn obuRefusal 0 (obusOf lens bytes) >> orderRefusal (map kindOf (obusOf lens bytes)))
       → v ≡ writeRefusal lens bytes
   unfolding writeRefusal
   sized-tries s e =
@@ -92,14 +94,16 @@ module _ (lens : List ℕ) (bytes : Bytes) where
         let before : List Kind = map kindOfNumber (take i numbers) in
         let n = left-next lens bytes i at k in
         let kind : kindOf obu ≡ kindOfNumber t =
-        ap kindOf (sym (lent-obu lens bytes i at)) ∙ ap kindOfNumber (judged-number (lentObu lens bytes i at) (getD lens i 0) h e ∙ sym f) in
+        ap kindOf (sym (lent-obu lens bytes i at))
+        ∙ ap kindOfNumber (judged-number (lentObu lens bytes i at) (getD lens i 0) h e ∙ sym f) in
         let taken : take (i + 1) (set numbers i t) ≡ take i numbers ++ (t ∷ []) =
         ap (λ (x : ℕ). take x (set numbers i t)) (add-one i) ∙ take-suc-set numbers i t (omega (arith, j .long)) in
         record {
           place = at-next lens bytes i at (j .place) k;
           long = length-set numbers i t ∙ j .long;
           turns =
-              ap (λ (x : ℕ). inTurn obuRefusal x rest) (add-one i) ∙ sym (turn-passed obuRefusal i obu rest (obu-passed lens bytes i at (j .place) k h e))
+              ap (λ (x : ℕ). inTurn obuRefusal x rest) (add-one i)
+              ∙ sym (turn-passed obuRefusal i obu rest (obu-passed lens bytes i at (j .place) k h e))
               ∙ ap (inTurn obuRefusal i) (sym n) ∙ j .turns;
           kinds =
               ap (λ (l : List ℕ). map kindOfNumber l ++ map kindOf rest) taken
@@ -109,21 +113,25 @@ module _ (lens : List ℕ) (bytes : Bytes) where
         }
 
     -- the next OBU refused
-    pub judging-refused : Sized lens bytes → i < length lens → (number place : ℕ) → judged (lentObu lens bytes i at) (getD lens i 0) ≡ refused number place
+    pub judging-refused : Sized lens bytes → i < length lens → (number place : ℕ)
+        → judged (lentObu lens bytes i at) (getD lens i 0) ≡ refused number place
         → refused number i ≡ writeRefusal lens bytes
     judging-refused s k number place e =
         let refusal = obu-refused lens bytes i at (j .place) k number place e in
         sized-tries lens bytes s
         (stops _
-        (sym (j .turns) ∙ ap (inTurn obuRefusal i) (left-next lens bytes i at k) ∙ turn-refused obuRefusal i (nextObu lens bytes i at) _ number place refusal))
+        (sym (j .turns) ∙ ap (inTurn obuRefusal i) (left-next lens bytes i at k)
+        ∙ turn-refused obuRefusal i (nextObu lens bytes i at) _ number place refusal))
 
     -- all passed
-    pub judging-end : {v : Verdict NoValue} → Sized lens bytes → length lens ≤ i → v ≡ orderRefusal (map kindOfNumber (take i numbers)) → v ≡ writeRefusal lens bytes
+    pub judging-end : {v : Verdict NoValue} → Sized lens bytes → length lens ≤ i → v ≡ orderRefusal (map kindOfNumber (take i numbers))
+        → v ≡ writeRefusal lens bytes
     unfolding inTurn
     judging-end s k e =
         let n = left-end lens bytes i at k in
         let before : List Kind = map kindOfNumber (take i numbers) in
-        let kinds : before ≡ map kindOf (obusOf lens bytes) = sym (append-nil before) ∙ ap (λ (l : List Bytes). before ++ map kindOf l) (sym n) ∙ j .kinds in
+        let kinds : before ≡ map kindOf (obusOf lens bytes) = sym (append-nil before)
+        ∙ ap (λ (l : List Bytes). before ++ map kindOf l) (sym n) ∙ j .kinds in
         sized-tries lens bytes s (follows (sym (j .turns) ∙ ap (inTurn obuRefusal i) n) (e ∙ ap orderRefusal kinds))
 
 -- ---- 8, and the whole answer
@@ -131,27 +139,33 @@ module _ (lens : List ℕ) (bytes out : Bytes) where
   -- what `write` promises of its answer and of the output after it
   abbrev Answers : Verdict ℕ → Bytes → Type 0
   Answers answer after =
-      (answer ≡ writeUnit lens bytes (length out)) × ((after ≡ leaves answer (carried (obusOf lens bytes)) out) × Demand3Lent lens bytes out answer after)
+      (answer ≡ writeUnit lens bytes (length out))
+      × ((after ≡ leaves answer (carried (obusOf lens bytes)) out) × Demand3Lent lens bytes out answer after)
 
   -- demand 3 follows from the definitions of the answer and of the output
-  answers : (answer : Verdict ℕ) (after : Bytes) → answer ≡ writeUnit lens bytes (length out) → after ≡ leaves answer (carried (obusOf lens bytes)) out
+  answers : (answer : Verdict ℕ) (after : Bytes) → answer ≡ writeUnit lens bytes (length out)
+      → after ≡ leaves answer (carried (obusOf lens bytes)) out
       → Answers answer after
   answers answer after e f =
       let g : after ≡ written lens bytes out = f ∙ ap (λ (v : Verdict ℕ). leaves v (carried (obusOf lens bytes)) out) e in
       (e, (f, subst₂ (Demand3Lent lens bytes out) (sym e) (sym g) (demand3-lent lens bytes out)))
 
-  pub refused-answer : {answer : Verdict ℕ} (number place : ℕ) → answer ≡ refused number place → refused number place ≡ writeRefusal lens bytes
+  pub refused-answer : {answer : Verdict ℕ} (number place : ℕ) → answer ≡ refused number place
+      → refused number place ≡ writeRefusal lens bytes
       → Answers answer out
   unfolding writeUnit leaves
   refused-answer {answer} number place e f = rw e (answers (refused number place) out (stops _ (sym f)) refl)
 
-  pub no-room : {answer : Verdict ℕ} → answer ≡ refused 8 0 → passed tt ≡ writeRefusal lens bytes → length out < length (carried (obusOf lens bytes))
+  pub no-room : {answer : Verdict ℕ} → answer ≡ refused 8 0 → passed tt ≡ writeRefusal lens bytes
+      → length out < length (carried (obusOf lens bytes))
       → Answers answer out
   unfolding writeUnit leaves
   no-room {answer} e f h = rw e (answers (refused 8 0) out (follows (sym f) (refuse 8 _ (lt-ltb _ _ h))) refl)
 
-  pub all-written : (n : ℕ) (after : Bytes) → n ≡ length (carried (obusOf lens bytes)) → passed tt ≡ writeRefusal lens bytes → n ≤ length out
+  pub all-written : (n : ℕ) (after : Bytes) → n ≡ length (carried (obusOf lens bytes)) → passed tt ≡ writeRefusal lens bytes
+      → n ≤ length out
       → after ≡ over (carried (obusOf lens bytes)) out → Answers (passed n) after
   unfolding writeUnit leaves
   all-written n after e f h k =
-      answers (passed n) after (follows (sym f) (pass-on 8 (le-ltb (length out) (length (carried (obusOf lens bytes))) (omega arith)) (ap passed e))) k
+      answers (passed n) after
+      (follows (sym f) (pass-on 8 (le-ltb (length out) (length (carried (obusOf lens bytes))) (omega arith)) (ap passed e))) k

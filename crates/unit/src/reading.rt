@@ -9,7 +9,8 @@ ghost use Rattle.refusal.specs.Verdict.{leaves};
 ghost use Rattle.emulation.specs.Payload.{dropped as Payload·dropped};
 ghost use Rattle.unit.specs.Unit.{atStartCode, payloads, obusIn};
 ghost use Rattle.unit.specs.Answer.{checking, reading, readSays};
-ghost use Rattle.unit.specs.Parts.{tsobuSays, tsobuFigures, legalFigures, EndsOf, Judges, wholeCounts, JudgedUnit, endsFrom};
+ghost use Rattle.unit.specs.Parts.{tsobuSays, tsobuFigures, legalFigures, EndsOf, Judges, wholeCounts};
+ghost use Rattle.unit.specs.Parts.{JudgedUnit, endsFrom};
 use crate::codes::code_at;
 use crate::codes::find;
 use emulation::unescape_prefix;
@@ -191,7 +192,8 @@ fn judge_whole(counts: Counts, kinds: [u8; 64]) -> UnitRead
     }
 }
 
-// The verdict on a unit, and where its payloads end: 2 for the carried length; 9; 1; each payload; 2 for the OBUs' sum; 7.
+// The verdict on a unit, and where its payloads end: 2 for the carried length; 9; 1; each payload; 2 for the OBUs' sum;
+// 7.
 fn judge_unit(unit: &[u8]) -> Judged
     ensures { λ r. ⌜ JudgedUnit (now (unit .entry)) r ⌝ }
 {
@@ -231,9 +233,11 @@ pub fn check(unit: &[u8]) -> UnitRead
     judged.answer
 }
 
-// The OBUs of a unit whose payloads end there, back to back over the front of out, and their lengths over the front of lens.
+// The OBUs of a unit whose payloads end there, back to back over the front of out, and their lengths over the front of
+// lens.
 fn copy_obus(unit: &[u8], count: usize, ends: [usize; 64], out: &mut [u8], lens: &mut [usize])
-    requires { ⌜ (atStartCode (now unit) ≡ true) × (count ≡ length (payloads (now unit))) × (count ≤ 64) × (take count ends ≡ endsFrom 0 (payloads (now unit))) ⌝ }
+    requires { ⌜ (atStartCode (now unit) ≡ true) × (count ≡ length (payloads (now unit))) × (count ≤ 64)
+        × (take count ends ≡ endsFrom 0 (payloads (now unit))) ⌝ }
     requires { ⌜ (length (flatten (obusIn (now unit))) ≤ length (now out)) × (count ≤ length (now lens)) ⌝ }
     ensures { λ _. ⌜ now (out .exit) ≡ over (flatten (obusIn (now (unit .entry)))) (now (out .entry)) ⌝ }
     ensures { λ _. ⌜ now (lens .exit) ≡ over (map length (obusIn (now (unit .entry)))) (now (lens .entry)) ⌝ }
@@ -254,9 +258,11 @@ fn copy_obus(unit: &[u8], count: usize, ends: [usize; 64], out: &mut [u8], lens:
 
 // The OBUs of a unit over the front of out, and their lengths over the front of lens; 8 comes last.
 pub fn read(unit: &[u8], out: &mut [u8], lens: &mut [usize]) -> UnitRead
-    ensures { λ r. ⌜ readSays r ≡ reading (now (unit .entry)) (length (now (out .entry))) (length (now (lens .entry))) ⌝ }
+    ensures { λ r. ⌜ readSays r
+        ≡ reading (now (unit .entry)) (length (now (out .entry))) (length (now (lens .entry))) ⌝ }
     ensures { λ r. ⌜ now (out .exit) ≡ leaves (readSays r) (flatten (obusIn (now (unit .entry)))) (now (out .entry)) ⌝ }
-    ensures { λ r. ⌜ now (lens .exit) ≡ leaves (readSays r) (map length (obusIn (now (unit .entry)))) (now (lens .entry)) ⌝ }
+    ensures { λ r. ⌜ now (lens .exit)
+        ≡ leaves (readSays r) (map length (obusIn (now (unit .entry)))) (now (lens .entry)) ⌝ }
 {
     let judged = judge_unit(unit);
     let answer = judged.answer;

@@ -61,7 +61,8 @@ fn adds_up(lens: &[usize], n: usize) -> bool
 
 // Where 1 and 2 are not given: each OBU in turn, then their order; 3, 4, 5, 6, then 7.
 fn judge_obus(obus: &[u8], lens: &[usize]) -> Ordered
-    requires { ⌜ (1 ≤ length (now lens)) × (length (now lens) ≤ mostObus) × (length (now obus) ≤ mostObuBytes) × (sum (now lens) ≡ length (now obus)) ⌝ }
+    requires { ⌜ (1 ≤ length (now lens)) × (length (now lens) ≤ mostObus) × (length (now obus) ≤ mostObuBytes)
+        × (sum (now lens) ≡ length (now obus)) ⌝ }
     ensures { λ r. ⌜ orderedSays r ≡ writeRefusal (now (lens .entry)) (now (obus .entry)) ⌝ }
 {
     let mut kinds = [0u8; 64];
@@ -100,7 +101,8 @@ fn escaped_bytes(obu: &[u8]) -> usize
 
 // How many bytes the carried unit has.
 fn carried_length(obus: &[u8], lens: &[usize]) -> usize
-    requires { ⌜ (length (now lens) ≤ mostObus) × (length (now obus) ≤ mostObuBytes) × (sum (now lens) ≡ length (now obus)) ⌝ }
+    requires { ⌜ (length (now lens) ≤ mostObus) × (length (now obus) ≤ mostObuBytes)
+        × (sum (now lens) ≡ length (now obus)) ⌝ }
     ensures { λ r. ⌜ r ≡ length (carried (obusOf (now (lens .entry)) (now (obus .entry)))) ⌝ }
 {
     let mut n: usize = 0;
@@ -129,8 +131,10 @@ fn write_obu(obu: &[u8], out: &mut [u8]) -> usize
 
 // The carried unit over the front of out.
 fn write_obus(obus: &[u8], lens: &[usize], out: &mut [u8])
-    requires { ⌜ (sum (now lens) ≡ length (now obus)) × (length (carried (obusOf (now lens) (now obus))) ≤ length (now out)) ⌝ }
-    ensures { λ r. ⌜ now (out .exit) ≡ over (carried (obusOf (now (lens .entry)) (now (obus .entry)))) (now (out .entry)) ⌝ }
+    requires { ⌜ (sum (now lens) ≡ length (now obus))
+        × (length (carried (obusOf (now lens) (now obus))) ≤ length (now out)) ⌝ }
+    ensures { λ r. ⌜ now (out .exit)
+        ≡ over (carried (obusOf (now (lens .entry)) (now (obus .entry)))) (now (out .entry)) ⌝ }
 {
     let mut n: usize = 0;
     let mut at: usize = 0;
@@ -143,11 +147,14 @@ fn write_obus(obus: &[u8], lens: &[usize], out: &mut [u8])
     }
 }
 
-// The carried unit of the OBUs that stand back to back in obus, over the front of out; 1, 2, for each OBU 3, 4, 5, 6, then 7, then 8.
+// The carried unit of the OBUs that stand back to back in obus, over the front of out; 1, 2, for each OBU 3, 4, 5, 6,
+// then 7, then 8.
 pub fn write(obus: &[u8], lens: &[usize], out: &mut [u8]) -> Written
     ensures { λ r. ⌜ writtenSays r ≡ writeUnit (now (lens .entry)) (now (obus .entry)) (length (now (out .entry))) ⌝ }
-    ensures { λ r. ⌜ now (out .exit) ≡ leaves (writtenSays r) (carried (obusOf (now (lens .entry)) (now (obus .entry)))) (now (out .entry)) ⌝ }
-    ensures { λ r. ⌜ Demand3Lent (now (lens .entry)) (now (obus .entry)) (now (out .entry)) (writtenSays r) (now (out .exit)) ⌝ }
+    ensures { λ r. ⌜ now (out .exit)
+        ≡ leaves (writtenSays r) (carried (obusOf (now (lens .entry)) (now (obus .entry)))) (now (out .entry)) ⌝ }
+    ensures { λ r. ⌜ Demand3Lent (now (lens .entry)) (now (obus .entry)) (now (out .entry)) (writtenSays r)
+        (now (out .exit)) ⌝ }
 {
     if lens.len() == 0 {
         return refuse(Refusal::OBU_COUNT);

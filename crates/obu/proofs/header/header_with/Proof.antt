@@ -24,7 +24,8 @@ extension-bit-requires c κs = search needs
 returns : tie.Need-returns
 unfolding headerWith
 returns c =
-    rw (c .before .before .before .fixed-bytes .ensures, c .before .before .size-bytes .ensures, c .before .type-bits .ensures, c .extension-bit .ensures)
+    rw (c .before .before .before .fixed-bytes .ensures, c .before .before .size-bytes .ensures)
+    (rw (c .before .type-bits .ensures, c .extension-bit .ensures))
 
 pub header-with-spec : {M : Type 1} → statement M
 header-with-spec =

@@ -10,12 +10,14 @@ use Rattle.obu.proofs.header.judge.Statement.{statement}
 use Rattle.obu.proofs.header.judge.Tie as tie
 
 -- the header that was read is the definition's
-header-was : (c : tie.After-known-told) → headerOf (c .before .before .before .before .before .args .prefix .now) ≡ passed (c .before .read .given .0 .0)
+header-was : (c : tie.After-known-told)
+    → headerOf (c .before .before .before .before .before .args .prefix .now) ≡ passed (c .before .read .given .0 .0)
 header-was c = sym (c .before .before .before .read-header .ensures) ∙ ap judgedSays (c .before .read .given .1)
 
 -- its size is right
 size-right : (c : tie.Else1)
-    → sizeWrong (c .before .before .before .read .given .0 .0) (c .before .before .before .before .before .before .before .args .bytes) ≡ false
+    → sizeWrong (c .before .before .before .read .given .0 .0) (c .before .before .before .before .before .before .before .args .bytes)
+    ≡ false
 size-right c = sym (c .before .size-wrong .ensures) ∙ c .if1 .left
 
 -- it is of no delimiter with content

@@ -87,7 +87,8 @@ returns-4 c =
     (pass-on 4 (not-forbidden (c .before .before .before .before .before))
     (pass-on 4 (not-missing (c .before .before .before))
     (c .sized-header .ensures
-    ∙ behind-fixed _ _ (c .before .before .before .before .before .before .before .before .before .before .args .obu .now) (c .before .before .fixed-bytes .ensures))))
+    ∙ behind-fixed _ _ (c .before .before .before .before .before .before .before .before .before .before .args .obu .now)
+    (c .before .before .fixed-bytes .ensures))))
 
 pub read-header-spec : {M : Type 1} → statement M
 read-header-spec =

@@ -44,7 +44,8 @@ unfolding sizedHeader sizeOf
 returns-2 c =
     c .refuse .ensures
     ∙ stop 5 0 _
-    (sym (by-true _ (sym (c .before .before .before .before .before .has-size-bit .ensures) ∙ not-false _ (c .before .before .before .before .if1 .left))
+    (sym (by-true _ (sym (c .before .before .before .before .before .has-size-bit .ensures)
+    ∙ not-false _ (c .before .before .before .before .if1 .left))
     (ap sizeSaid (sym (c .before .enum-told .given .1) ∙ c .before .before .before .read-leb128 .ensures))))
 
 returns-3 : tie.Need-returns-3

@@ -1,10 +1,11 @@
--- The loop keeps the value of the bytes read so far, the scale of the next seven bits and how many bytes were read; with what the bytes to come say
--- they are the number that the definition has for the whole. The measure is the number of bytes that may still come.
+-- The loop keeps the value of the bytes read so far, the scale of the next seven bits and how many bytes were read; with what the bytes to
+-- come say they are the number that the definition has for the whole. The measure is the number of bytes that may still come.
 use Prim.Native.Nat.{_-_}
 use mathlib.Core.Path.{_∙_}
 use native.Mathlib.Omega.{arith}
 use borrow.Author.Needs.{needs}
-use Rattle.obu.proofs.Lebs.{SoFar, so-far-start, scale-fits, product-fits, value-fits, so-far-more, so-far-last, so-far-cut, so-far-long}
+use Rattle.obu.proofs.Lebs.{SoFar, so-far-start, scale-fits, product-fits, value-fits, so-far-more, so-far-last, so-far-cut}
+use Rattle.obu.proofs.Lebs.{so-far-long}
 use Rattle.obu.proofs.leb128.read_leb128.Statement.{statement}
 use Rattle.obu.proofs.leb128.read_leb128.Tie as tie
 
@@ -52,7 +53,8 @@ loop-less c = omega arith
 
 loop-again : tie.Need-loop-again Inv-loop μ-loop
 loop-again c =
-    so-far-more (c .before .before .before .before .loop .inv) (c .before .before .before .loop-test .taken) (c .before .before .if1 .left) (c .if2 .left)
+    so-far-more (c .before .before .before .before .loop .inv) (c .before .before .before .loop-test .taken) (c .before .before .if1 .left)
+    (c .if2 .left)
     (c .before .shared-slice-known2 .given _ .fits)
 
 returns-3 : tie.Need-returns-3 Inv-loop μ-loop

@@ -1,4 +1,5 @@
--- One OBU a turn: what stands in the outputs, then the OBUs of the payloads from the next start code on, and their lengths, are all of them.
+-- One OBU a turn: what stands in the outputs, then the OBUs of the payloads from the next start code on, and their lengths, are all of
+-- them.
 use borrow.Author.Needs.{needs}
 use native.Mathlib.Omega.{arith}
 use Prim.Native.Nat.{ℕ, _+_, _-_, _≤_, _<_}
@@ -10,7 +11,8 @@ use Rattle.lists.proofs.Parts.{tail-fits, tail-prefix}
 use Rattle.emulation.specs.Payload.{unescape}
 use Rattle.unit.specs.Unit.{payloads}
 use Rattle.unit.proofs.Places.{nextCode, payloadAt, next-fits}
-use Rattle.unit.proofs.Readings.{passing-code, passing-end, Copying, copying-start, copying-room, copying-place, copying-step, copying-done}
+use Rattle.unit.proofs.Readings.{passing-code, passing-end, Copying, copying-start, copying-room, copying-place, copying-step}
+use Rattle.unit.proofs.Readings.{copying-done}
 use Rattle.unit.proofs.reading.copy_obus.Statement.{statement}
 use Rattle.unit.proofs.reading.copy_obus.Tie as tie
 
@@ -21,25 +23,30 @@ abbrev μ-loop : tie.MeasureT-loop
 μ-loop unit count out₀ lens₀ ends code₀ n₀ k₀ out lens code n k = count - k
 
 -- ---- in a turn
-left : (c : tie.In-loop Inv-loop μ-loop) → c .before .loop .k < length (payloads (c .before .before .before .before .before .args .unit .now))
+left : (c : tie.In-loop Inv-loop μ-loop)
+    → c .before .loop .k < length (payloads (c .before .before .before .before .before .args .unit .now))
 left c = let start = c .before .before .before .before .before in omega (arith, c .loop-test .taken, start .pre .0 .1)
 
 few : (c : tie.In-loop Inv-loop μ-loop) → c .before .loop .k < 64
 few c = let start = c .before .before .before .before .before in omega (arith, c .loop-test .taken, start .pre .0 .2)
 
 end-is : (c : tie.In-loop Inv-loop μ-loop)
-    → getD (c .before .before .before .before .before .args .t3) (c .before .loop .k) 0 ≡ nextCode (c .before .before .before .before .before .args .unit .now) (c .before .loop .code)
+    → getD (c .before .before .before .before .before .args .t3) (c .before .loop .k) 0
+    ≡ nextCode (c .before .before .before .before .before .args .unit .now) (c .before .loop .code)
 end-is c = passing-end (c .before .loop .inv .passing) (left c)
 
 fits : (c : tie.In-loop Inv-loop μ-loop)
-    → nextCode (c .before .before .before .before .before .args .unit .now) (c .before .loop .code) ≤ length (c .before .before .before .before .before .args .unit .now)
-fits c = next-fits (c .before .before .before .before .before .args .unit .now) (c .before .loop .code) (passing-code (c .before .loop .inv .passing) (left c))
+    → nextCode (c .before .before .before .before .before .args .unit .now) (c .before .loop .code) ≤ length
+    (c .before .before .before .before .before .args .unit .now)
+fits c = next-fits (c .before .before .before .before .before .args .unit .now) (c .before .loop .code)
+    (passing-code (c .before .loop .inv .passing) (left c))
 
 -- the lent part is the payload
 lent : (c : tie.In-loop Inv-loop μ-loop)
     → let s = c .before .before .before .before .before .args .unit .now in
     let code = c .before .loop .code in
-    take (getD (c .before .before .before .before .before .args .t3) (c .before .loop .k) 0 - (code + 3)) (drop (code + 3) s) ≡ payloadAt s code
+    take (getD (c .before .before .before .before .before .args .t3) (c .before .loop .k) 0 - (code + 3)) (drop (code + 3) s)
+    ≡ payloadAt s code
 lent c =
     let s = c .before .before .before .before .before .args .unit .now in
     let code = c .before .loop .code in
@@ -48,7 +55,8 @@ lent c =
 loop-holds : tie.Need-loop-holds Inv-loop μ-loop
 loop-holds c =
     let start = c .before .before .before in
-    copying-start (start .args .unit .now) (start .args .t3) _ _ (start .pre .0 .0) (ap (λ (n : ℕ). take n (start .args .t3)) (sym (start .pre .0 .1)) ∙ start .pre .0 .3)
+    copying-start (start .args .unit .now) (start .args .t3) _ _ (start .pre .0 .0)
+    (ap (λ (n : ℕ). take n (start .args .t3)) (sym (start .pre .0 .1)) ∙ start .pre .0 .3)
 
 add-start : tie.Need-add-start Inv-loop μ-loop
 add-start c = omega (arith, fits c)
@@ -83,14 +91,17 @@ unescape-prefix-requires c κs = search needs
 -- ---- what the call gave
 -- the whole OBU has room
 fitting : (c : tie.In-loop Inv-loop μ-loop)
-    → c .before .loop .n + length (unescape (payloadAt (c .before .before .before .before .before .args .unit .now) (c .before .loop .code))) ≤ length (c .before .loop .out)
+    → c .before .loop .n + length
+    (unescape (payloadAt (c .before .before .before .before .before .args .unit .now) (c .before .loop .code))) ≤ length
+    (c .before .loop .out)
 fitting c =
     let start = c .before .before .before .before .before in
     copying-room (c .before .loop .inv) (left c) (start .pre .1 .0) (omega (arith, start .pre .0 .1, start .pre .1 .1))
 
 called : (c : tie.After-unescape-prefix Inv-loop μ-loop)
     → let i = c .before .before .before in
-    c .unescape-prefix .result ≡ length (unescape (payloadAt (i .before .before .before .before .before .args .unit .now) (i .before .loop .code)))
+    c .unescape-prefix .result
+    ≡ length (unescape (payloadAt (i .before .before .before .before .before .args .unit .now) (i .before .loop .code)))
 called c =
     let i = c .before .before .before in
     let s = i .before .before .before .before .before .args .unit .now in
@@ -114,7 +125,8 @@ written c =
     let out = i .before .loop .out in
     let n = i .before .loop .n in
     tail-prefix n out w _ (fitting i)
-    (c .unescape-prefix .ensures .1 ∙ ap (λ (p : Bytes). over (take (length (midOf n (length out - n) out)) (unescape p)) (midOf n (length out - n) out)) (lent i))
+    (c .unescape-prefix .ensures .1
+    ∙ ap (λ (p : Bytes). over (take (length (midOf n (length out - n) out)) (unescape p)) (midOf n (length out - n) out)) (lent i))
 
 mul-lens : tie.Need-mul-lens Inv-loop μ-loop
 mul-lens c = omega (arith, few (c .before .before .before .before .before))
@@ -142,7 +154,8 @@ loop-again c =
     let start = i .before .before .before .before .before in
     let at = i .before .loop in
     let r = c .before .before .unescape-prefix .result in
-    subst₂ (λ (o : Bytes) (e : ℕ). Copying (start .args .unit .now) (start .args .t3) (start .args .out .now) (start .args .lens .now) o (set (at .lens) (at .k) r) e (at .n + r) (at .k + 1))
+    subst₂ (λ (o : Bytes) (e : ℕ). Copying (start .args .unit .now) (start .args .t3) (start .args .out .now) (start .args .lens .now) o
+    (set (at .lens) (at .k) r) e (at .n + r) (at .k + 1))
     (sym (written (c .before .before))) (sym (end-is i))
     (copying-step (at .inv) (left i) (start .pre .1 .0) (omega (arith, start .pre .0 .1, start .pre .1 .1)) r (called (c .before .before)))
 
@@ -153,7 +166,8 @@ same-length-2 : tie.Need-same-length-2 Inv-loop μ-loop
 same-length-2 c = c .before .loop .inv .lengths .long
 
 returns : tie.Need-returns Inv-loop μ-loop
-returns c = copying-done (c .before .loop .inv) (let start = c .before .before .before .before .before in omega (arith, start .pre .0 .1, c .loop-test .left))
+returns c = copying-done (c .before .loop .inv)
+    (let start = c .before .before .before .before .before in omega (arith, start .pre .0 .1, c .loop-test .left))
 
 pub copy-obus-spec : {M : Type 1} → statement M
 copy-obus-spec =

@@ -50,7 +50,8 @@ returns c =
     let p = start .args .payload .now in
     let e = c .before .before .before .before .before .before .unescape-prefix .ensures in
     let j = c .before .before .before .judge .ensures
-    ∙ judged-short (unescape p) _ _ 10 (omega arith) (first-bytes (unescape p) zeros _ _ (e .0) (e .1) .1) (omega (arith, start .pre, given-or-dropped p)) in
+    ∙ judged-short (unescape p) _ _ 10 (omega arith) (first-bytes (unescape p) zeros _ _ (e .0) (e .1) .1)
+    (omega (arith, start .pre, given-or-dropped p)) in
     figures-refused p _ _ j (c .before .judged .given .1)
 
 kind-number-requires : tie.Need-kind-number-requires
@@ -62,7 +63,8 @@ returns-2 c =
     let p = start .args .payload .now in
     let e = c .before .before .before .before .before .before .before .unescape-prefix .ensures in
     let j = c .before .before .before .before .judge .ensures
-    ∙ judged-short (unescape p) _ _ 10 (omega arith) (first-bytes (unescape p) zeros _ _ (e .0) (e .1) .1) (omega (arith, start .pre, given-or-dropped p)) in
+    ∙ judged-short (unescape p) _ _ 10 (omega arith) (first-bytes (unescape p) zeros _ _ (e .0) (e .1) .1)
+    (omega (arith, start .pre, given-or-dropped p)) in
     figures-passed p _ _ _ j (c .before .before .judged2 .given .1) (start .pre) _ (c .kind-number .ensures)
 
 pub judge-obu-spec : {M : Type 1} → statement M

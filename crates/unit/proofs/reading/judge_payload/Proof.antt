@@ -22,7 +22,8 @@ judge-obu-requires : tie.Need-judge-obu-requires
 judge-obu-requires c κs = judged-legal _ _ _ (c .before .before .before .judge .ensures) (c .before .judged .given .1) .1
 
 returns-2 : tie.Need-returns-2
-returns-2 c = tsobu-illegal _ (c .before .before .before .if1 .left) (judged-illegal _ _ _ (c .before .before .judge .ensures) (c .enum-told .given .1))
+returns-2 c = tsobu-illegal _ (c .before .before .before .if1 .left)
+    (judged-illegal _ _ _ (c .before .before .judge .ensures) (c .enum-told .given .1))
 
 returns-3 : tie.Need-returns-3
 returns-3 c =

@@ -1,4 +1,5 @@
--- One payload a turn. Those that passed, then the verdict on those from the next start code on, are the verdict on all; the figures add up the same way.
+-- One payload a turn. Those that passed, then the verdict on those from the next start code on, are the verdict on all; the figures add up
+-- the same way.
 use borrow.Author.Needs.{needs}
 use native.Mathlib.Omega.{arith}
 use Prim.Native.Nat.{ℕ, _+_, _-_, _≤_, _<_}
@@ -12,7 +13,8 @@ use Rattle.unit.specs.Parts.{figures, tsobuFigures, tsobuSays}
 use Rattle.unit.specs.declared.reading.Figures.{Figures}
 use Rattle.unit.specs.declared.reading.TsObu.the-variants as TsObu
 use Rattle.unit.proofs.Places.{nextCode, payloadAt, payload-length, next-fits}
-use Rattle.unit.proofs.Readings.{Judging, passing-code, passing-end, judging-start, judging-step, judging-refused, judging-done, refused-judges, tsobu-refused, tsobu-passed}
+use Rattle.unit.proofs.Readings.{Judging, passing-code, passing-end, judging-start, judging-step, judging-refused, judging-done}
+use Rattle.unit.proofs.Readings.{refused-judges, tsobu-refused, tsobu-passed}
 use Rattle.unit.proofs.reading.judge_payloads.Statement.{statement}
 use Rattle.unit.proofs.reading.judge_payloads.Tie as tie
 
@@ -33,16 +35,21 @@ few c =
     omega (arith, left c, ltb-false mostObus n (sym (start .pre .1 .more) ∙ start .pre .2))
 
 end-is : (c : tie.In-loop Inv-loop μ-loop)
-    → getD (c .before .before .before .before .args .ends .at) (c .before .loop .k) 0 ≡ nextCode (c .before .before .before .before .args .unit .now) (c .before .loop .code)
+    → getD (c .before .before .before .before .args .ends .at) (c .before .loop .k) 0
+    ≡ nextCode (c .before .before .before .before .args .unit .now) (c .before .loop .code)
 end-is c = passing-end (c .before .loop .inv .passing) (left c)
 
-fits : (c : tie.In-loop Inv-loop μ-loop) → nextCode (c .before .before .before .before .args .unit .now) (c .before .loop .code) ≤ length (c .before .before .before .before .args .unit .now)
-fits c = next-fits (c .before .before .before .before .args .unit .now) (c .before .loop .code) (passing-code (c .before .loop .inv .passing) (left c))
+fits : (c : tie.In-loop Inv-loop μ-loop)
+    → nextCode (c .before .before .before .before .args .unit .now) (c .before .loop .code) ≤ length
+    (c .before .before .before .before .args .unit .now)
+fits c = next-fits (c .before .before .before .before .args .unit .now) (c .before .loop .code)
+    (passing-code (c .before .loop .inv .passing) (left c))
 
 -- what the judge of the payload said, of the payload itself
 said : (c : tie.After-judge-payload Inv-loop μ-loop)
     → let i = c .before .before in
-    tsobuSays (c .judge-payload .result) ≡ tsobuFigures (payloadAt (i .before .before .before .before .args .unit .now) (i .before .loop .code))
+    tsobuSays (c .judge-payload .result)
+    ≡ tsobuFigures (payloadAt (i .before .before .before .before .args .unit .now) (i .before .loop .code))
 said c =
     let i = c .before .before in
     let s = i .before .before .before .before .args .unit .now in
@@ -68,7 +75,8 @@ fewer c f e =
     omega (arith, ap (λ (x : Figures). x .dropped) (fine c f e .1), given-or-dropped (payloadAt s code), payload-length s code)
 
 loop-holds : tie.Need-loop-holds Inv-loop μ-loop
-loop-holds c = let start = c .before .before in judging-start (start .args .unit .now) (start .args .ends) _ refl (start .pre .0) (start .pre .1) (start .pre .2)
+loop-holds c = let start = c .before .before in
+    judging-start (start .args .unit .now) (start .args .ends) _ refl (start .pre .0) (start .pre .1) (start .pre .2)
 
 add-start : tie.Need-add-start Inv-loop μ-loop
 add-start c = omega (arith, fits c)
@@ -111,7 +119,12 @@ sub-bytes c = omega (arith, end-is (c .before .before .before .before .before))
 
 sub-bytes-2 : tie.Need-sub-bytes-2 Inv-loop μ-loop
 sub-bytes-2 c =
-    omega (arith, end-is (c .before .before .before .before .before .before), fewer (c .before .before .before .before) _ (c .before .before .judged2 .given .1))
+    omega (
+      arith,
+      end-is (c .before .before .before .before .before .before),
+      fewer (c .before .before .before .before) _
+          (c .before .before .judged2 .given .1),
+    )
 
 add-bytes : tie.Need-add-bytes Inv-loop μ-loop
 add-bytes c =
@@ -121,7 +134,13 @@ add-bytes c =
 add-dropped : tie.Need-add-dropped Inv-loop μ-loop
 add-dropped c =
     let i = c .before .before .before .before .before .before .before in
-    omega (arith, fits i, i .before .loop .inv .small, fewer (c .before .before .before .before .before) _ (c .before .before .before .judged2 .given .1))
+    omega (
+      arith,
+      fits i,
+      i .before .loop .inv .small,
+      fewer (c .before .before .before .before .before) _
+          (c .before .before .before .judged2 .given .1),
+    )
 
 add-k : tie.Need-add-k Inv-loop μ-loop
 add-k c = omega (arith, few (c .before .before .before .before .before .before .before))
@@ -136,7 +155,9 @@ loop-again c =
     let f = c .before .before .before .judged2 .given .0 .0 in
     let ok = fine (c .before .before .before .before .before) f (c .before .before .before .judged2 .given .1) in
     subst
-    (λ (e : ℕ). Judging s (i .before .before .before .before .args .ends .at) (set (i .before .loop .kinds) (i .before .loop .k) (f .kind)) (i .before .loop .bytes + (e - (i .before .loop .code + 3) - f .dropped)) (i .before .loop .dropped + f .dropped) e (i .before .loop .k + 1))
+    (λ (e : ℕ). Judging s (i .before .before .before .before .args .ends .at) (set (i .before .loop .kinds) (i .before .loop .k) (f .kind))
+    (i .before .loop .bytes + (e - (i .before .loop .code + 3) - f .dropped)) (i .before .loop .dropped + f .dropped) e
+    (i .before .loop .k + 1))
     (sym (end-is i))
     (judging-step (i .before .loop .inv) (left i) f (ok .0) (ok .1) (few i))
 

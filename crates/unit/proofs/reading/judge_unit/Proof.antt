@@ -7,7 +7,8 @@ use borrow.Author.Tests.{ltb-false, not-true, not-false}
 use lib.ListN.{length, take}
 use Rattle.unit.specs.Unit.{mostObus, payloads}
 use Rattle.unit.specs.Answer.{readSays}
-use Rattle.unit.proofs.Checking.{counts-obus, check-long, check-headless, check-many, check-refused, counts-are, check-whole, answer-refused, answer-whole}
+use Rattle.unit.proofs.Checking.{counts-obus, check-long, check-headless, check-many, check-refused, counts-are, check-whole}
+use Rattle.unit.proofs.Checking.{answer-refused, answer-whole}
 use Rattle.unit.proofs.reading.judge_unit.Statement.{statement}
 use Rattle.unit.proofs.reading.judge_unit.Tie as tie
 
@@ -26,7 +27,8 @@ refusal-requires-2 c κs = search needs
 returns-2 : tie.Need-returns-2
 returns-2 c =
     answer-refused _ _ _ 9 0 (ap readSays (c .refusal2 .ensures))
-    (check-headless _ (c .before .before .before .if1 .left) (sym (c .before .before .code-at .ensures) ∙ not-true _ (c .before .if2 .taken)))
+    (check-headless _ (c .before .before .before .if1 .left)
+    (sym (c .before .before .code-at .ensures) ∙ not-true _ (c .before .if2 .taken)))
 
 payload-ends-requires : tie.Need-payload-ends-requires
 payload-ends-requires c κs = sym (c .before .code-at .ensures) ∙ not-false _ (c .if2 .left)
@@ -42,8 +44,12 @@ returns-3 c =
     (sym (c .before .if3 .taken) ∙ c .before .before .before .payload-ends .ensures .more))
 
 judge-payloads-requires : tie.Need-judge-payloads-requires
-judge-payloads-requires c κs =
-    (sym (c .before .before .before .before .code-at .ensures) ∙ not-false _ (c .before .before .before .if2 .left), c .before .before .payload-ends .ensures, c .if3 .left)
+judge-payloads-requires c κs = (
+  sym (c .before .before .before .before .code-at .ensures)
+      ∙ not-false _ (c .before .before .before .if2 .left),
+  c .before .before .payload-ends .ensures,
+  c .if3 .left,
+)
 
 enum-known-found : tie.Need-enum-known-found
 enum-known-found c = search needs
@@ -57,7 +63,8 @@ returns-4 c =
     let ends = c .before .before .before .before .before .payload-ends .ensures in
     answer-refused _ _ _ _ _ k
     (check-refused _ (c .before .before .before .before .before .before .before .before .if1 .left)
-    (sym (c .before .before .before .before .before .before .before .code-at .ensures) ∙ not-false _ (c .before .before .before .before .before .before .if2 .left))
+    (sym (c .before .before .before .before .before .before .before .code-at .ensures)
+    ∙ not-false _ (c .before .before .before .before .before .before .if2 .left))
     (sym (c .before .before .before .if3 .left) ∙ ends .more) _ _ (sym k ∙ c .before .before .judge-payloads .ensures .found))
 
 judge-whole-requires : tie.Need-judge-whole-requires
@@ -82,7 +89,8 @@ returns-5 c =
     answer-whole _ _ _ _ _ (c .judge-whole .ensures)
     (check-whole _ h e m _ _ found (judged .kinds (counts-are _ h e m _ found .0)))
     (counts-obus _ _ found)
-    (ap (λ (n : ℕ). take n (c .before .before .before .before .before .before .before .before .payload-ends .result .at)) (sym (ends .count some-more)) ∙ ends .at some-more)
+    (ap (λ (n : ℕ). take n (c .before .before .before .before .before .before .before .before .payload-ends .result .at))
+    (sym (ends .count some-more)) ∙ ends .at some-more)
 
 pub judge-unit-spec : {M : Type 1} → statement M
 judge-unit-spec =

@@ -29,7 +29,8 @@ enum-told : tie.Need-enum-told
 enum-told c = search needs
 
 returns-2 : tie.Need-returns-2
-returns-2 c = whole-broken _ _ _ _ (c .before .before .before .before .before .if1 .left) (c .before .before .before .order .ensures) (c .before .ordered .given .1)
+returns-2 c = whole-broken _ _ _ _ (c .before .before .before .before .before .if1 .left) (c .before .before .before .order .ensures)
+    (c .before .ordered .given .1)
 
 returns-3 : tie.Need-returns-3
 returns-3 c = whole-legal _ _ _ (c .before .before .before .before .if1 .left) (c .before .before .order .ensures) (c .enum-told .given .1)

@@ -22,11 +22,16 @@ returns c = ending-past (c .before .before .loop .inv) (c .before .loop-test .ta
 
 add-find : tie.Need-add-find Inv-loop μ-loop
 add-find c =
-    omega (arith, code-fits (c .before .before .before .before .args .unit .now) (c .before .before .loop .code) (ending-code (c .before .before .loop .inv) (c .before .loop-test .taken)))
+    omega (
+      arith,
+      code-fits (c .before .before .before .before .args .unit .now) (c .before .before .loop .code)
+          (ending-code (c .before .before .loop .inv) (c .before .loop-test .taken)),
+    )
 
 find-requires : tie.Need-find-requires Inv-loop μ-loop
 find-requires c κs =
-    code-fits (c .before .before .before .before .args .unit .now) (c .before .before .loop .code) (ending-code (c .before .before .loop .inv) (c .before .loop-test .taken))
+    code-fits (c .before .before .before .before .args .unit .now) (c .before .before .loop .code)
+    (ending-code (c .before .before .loop .inv) (c .before .loop-test .taken))
 
 mul-at : tie.Need-mul-at Inv-loop μ-loop
 mul-at c = omega arith
@@ -45,7 +50,8 @@ loop-less c =
 
 loop-again : tie.Need-loop-again Inv-loop μ-loop
 loop-again c =
-    ending-step (c .before .before .before .loop .inv) (c .before .before .loop-test .taken) (omega (arith, c .before .if1 .left)) (c .find .ensures)
+    ending-step (c .before .before .before .loop .inv) (c .before .before .loop-test .taken) (omega (arith, c .before .if1 .left))
+    (c .find .ensures)
 
 returns-2 : tie.Need-returns-2 Inv-loop μ-loop
 returns-2 c = ending-done (c .before .loop .inv) (omega arith)

@@ -31,7 +31,8 @@ refusal-requires c κs = search needs
 returns-2 : tie.Need-returns-2
 unfolding leaves
 returns-2 c =
-    let k = sym (c .before .before .before .before .before .before .judge-unit .ensures .answer) ∙ ap readSays (c .before .before .before .before .answer .given .1) in
+    let k = sym (c .before .before .before .before .before .before .judge-unit .ensures .answer)
+    ∙ ap readSays (c .before .before .before .before .answer .given .1) in
     let e = ap readSays (c .refusal .ensures) in
     (e ∙ short-of-bytes _ _ _ _ k (c .before .if1 .taken), (refused-leaves _ _ e, refused-leaves _ _ e))
 
@@ -41,13 +42,15 @@ refusal-requires-2 c κs = search needs
 returns-3 : tie.Need-returns-3
 unfolding leaves
 returns-3 c =
-    let k = sym (c .before .before .before .before .before .before .before .before .judge-unit .ensures .answer) ∙ ap readSays (c .before .before .before .before .before .before .answer .given .1) in
+    let k = sym (c .before .before .before .before .before .before .before .before .judge-unit .ensures .answer)
+    ∙ ap readSays (c .before .before .before .before .before .before .answer .given .1) in
     let e = ap readSays (c .refusal2 .ensures) in
     (e ∙ short-of-lengths _ _ _ _ k (c .before .if2 .taken), (refused-leaves _ _ e, refused-leaves _ _ e))
 
 copy-obus-requires : tie.Need-copy-obus-requires
 copy-obus-requires c κs =
-    let k = sym (c .before .before .before .before .before .before .before .before .before .before .judge-unit .ensures .answer) ∙ ap readSays (c .before .before .before .before .before .before .before .before .answer .given .1) in
+    let k = sym (c .before .before .before .before .before .before .before .before .before .before .judge-unit .ensures .answer)
+    ∙ ap readSays (c .before .before .before .before .before .before .before .before .answer .given .1) in
     let a = checked _ _ k in
     ((a .headed, a .obus, a .few, c .before .before .before .before .before .before .before .before .before .before .judge-unit .ensures .ends _ k), (omega (arith, a .bytes), omega arith))
 
@@ -60,8 +63,11 @@ same-length-2 c = search needs
 returns-4 : tie.Need-returns-4
 unfolding leaves
 returns-4 c =
-    let k = sym (c .before .before .before .before .before .before .before .before .before .before .before .before .before .before .before .judge-unit .ensures .answer) ∙ ap readSays (c .before .before .before .before .before .before .before .before .before .before .before .before .before .answer .given .1) in
-    (reading-fits _ _ _ _ k (c .before .before .before .before .before .before .before .before .before .before .if1 .left) (c .before .before .before .before .before .before .before .before .if2 .left), (c .before .before .before .before .copy-obus .ensures .0, c .before .before .before .before .copy-obus .ensures .1))
+    let k = sym (c .before .before .before .before .before .before .before .before .before .before .before .before .before .before .before .judge-unit .ensures .answer) ∙ ap readSays (c .before .before .before .before .before .before .before .before .before .before .before .before .before .answer .given .1) in (
+      reading-fits _ _ _ _ k (c .before .before .before .before .before .before .before .before .before .before .if1 .left)
+          (c .before .before .before .before .before .before .before .before .if2 .left),
+      (c .before .before .before .before .copy-obus .ensures .0, c .before .before .before .before .copy-obus .ensures .1),
+    )
 
 pub read-spec : {M : Type 1} → statement M
 read-spec =

@@ -1,4 +1,5 @@
--- Each OBU passed so far passes the tries of its own, and `kinds` begins with the numbers of their kinds; the tries of those left are then those of all.
+-- Each OBU passed so far passes the tries of its own, and `kinds` begins with the numbers of their kinds; the tries of those left are then
+-- those of all.
 use native.Mathlib.Omega.{arith}
 use borrow.Author.Needs.{needs}
 use Prim.Native.Nat.{_-_}
@@ -76,7 +77,8 @@ loop-again c =
     let start = c .before .before .before .before .before .before .before .before .before .before .before in
     let at = c .before .before .before .before .before .before .before .before .loop in
     judging-next (start .args .lens .now) (start .args .obus .now) (at .i) (at .at) (at .kinds) (at .inv) (omega arith) (start .pre .1) _
-    (sym (c .before .before .before .before .judge .ensures) ∙ ap judgedSays (c .before .before .judged2 .given .1)) _ (c .kind-number .ensures)
+    (sym (c .before .before .before .before .judge .ensures) ∙ ap judgedSays (c .before .before .judged2 .given .1)) _
+    (c .kind-number .ensures)
 
 array-share-prefix-kinds : tie.Need-array-share-prefix-kinds Inv-loop μ-loop
 array-share-prefix-kinds c = omega arith
@@ -91,7 +93,8 @@ returns-2 : tie.Need-returns-2 Inv-loop μ-loop
 returns-2 c =
     let start = c .before .before .before .before .before .before in
     let at = c .before .before .before .loop in
-    judging-end (start .args .lens .now) (start .args .obus .now) (at .i) (at .at) (at .kinds) (at .inv) (start .pre) (omega arith) (c .order .ensures)
+    judging-end (start .args .lens .now) (start .args .obus .now) (at .i) (at .at) (at .kinds) (at .inv) (start .pre) (omega arith)
+    (c .order .ensures)
 
 pub judge-obus-spec : {M : Type 1} → statement M
 judge-obus-spec =
