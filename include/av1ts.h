@@ -32,14 +32,15 @@ av1ts_answer av1ts_unescape(const uint8_t *payload, size_t payload_len, uint8_t 
 
 /* The carried unit of OBUs that are lent back to back with their lengths. count: the bytes written.
  * Refuses: 1 no OBU, or more than 64; 2 more than 1,048,576 bytes, or lengths that don't add up to the bytes; at the OBU's index, 3 an OBU of no bytes, 4
- * forbidden bit or extension byte missing, 5 bad leb128, size wrong or a delimiter with content, 6 tile list; 7 order broken, at the index that breaks it or
- * at the OBU count if the list ends too soon; 8 the output is too short, which is said exactly where it is too short for every string that reads as these
- * OBUs: the one written is the shortest. */
+ * forbidden bit or extension byte missing, 5 bad leb128, size wrong or a delimiter with content, 6 tile list, 42 a sequence header or frame header without
+ * content, or a sequence header with reduced_still_picture_header; 7 order broken, at the index that breaks it or at the OBU count if the list ends too soon
+ * (a frame header with show_existing_frame is the whole frame, and must be the last OBU); 8 the output is too short, which is said exactly where it is too
+ * short for every string that reads as these OBUs: the one written is the shortest. */
 av1ts_answer av1ts_write_unit(const uint8_t *obus, size_t obus_len, const size_t *lengths, size_t lengths_len, uint8_t *out, size_t out_len);
 
 /* The OBUs of a carried unit, back to back, and their lengths. count: the OBUs; bytes: the bytes written; dropped: the bytes dropped in all.
- * Refuses: 2 more than 1,573,056 bytes; 9 no start code at the head; 1 more than 64 OBUs; at the OBU's index 3, 10 an illegal payload, 4, 5, 6; 2 OBUs of more
- * than 1,048,576 bytes together; 7; 8 an output is too short (bytes or lengths). A refusal leaves both outputs. */
+ * Refuses: 2 more than 1,573,056 bytes; 9 no start code at the head; 1 more than 64 OBUs; at the OBU's index 3, 10 an illegal payload, 4, 5, 6, 42; 2 OBUs of
+ * more than 1,048,576 bytes together; 7; 8 an output is too short (bytes or lengths). A refusal leaves both outputs. */
 av1ts_answer av1ts_read_unit(const uint8_t *unit, size_t unit_len, uint8_t *out, size_t out_len, size_t *lengths, size_t lengths_len);
 
 /* The same verdict and figures with no output: all refusals of reading but 8. */

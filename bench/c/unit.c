@@ -2,12 +2,12 @@
 
 #include "plain.h"
 
-/* An OBU's header, extension byte and size take at most 10 bytes; escaped, at most 15. */
-#define MAX_HEADER_BYTES 10
-#define MAX_ESCAPED_HEADER_BYTES 15
+/* An OBU's header, extension byte, size and first content byte take at most 11 bytes; escaped, at most 16. */
+#define MAX_JUDGED_BYTES 11
+#define MAX_ESCAPED_JUDGED_BYTES 16
 
 enum { SEQUENCE_HEADER = 1, DELIMITER, FRAME_HEADER, TILE_GROUP, METADATA, FRAME,
-       REDUNDANT_FRAME_HEADER, TILE_LIST, PADDING = 15 };
+       REDUNDANT_FRAME_HEADER, TILE_LIST, PADDING = 15, SHOWN_AGAIN };
 
 /* Reads a leb128 and gives its width, or 0 where it is bad. */
 static size_t read_leb128(const uint8_t *bytes, size_t len, uint64_t *value)
@@ -26,10 +26,11 @@ static uint8_t obu_type(uint8_t header)
     return header >> 3 & 15;
 }
 
-/* Tries 4, 5, 6 on an OBU of `len` bytes, not 0, of which the first are in `head`. */
-static uint64_t try_obu(const uint8_t *head, size_t len)
+/* Tries 4, 5, 6, 42 on an OBU of `len` bytes, not 0, of which the first are in `head`; also gives its kind: its type, or that it
+   shows a frame again. */
+static uint64_t try_obu(const uint8_t *head, size_t len, uint8_t *kind)
 {
-    size_t held = len < MAX_HEADER_BYTES ? len : MAX_HEADER_BYTES;
+    size_t held = len < MAX_JUDGED_BYTES ? len : MAX_JUDGED_BYTES;
     size_t at = head[0] & 4 ? 2 : 1;
     if (head[0] & 0x80 || at > len)
         return 4;
@@ -40,27 +41,37 @@ static uint64_t try_obu(const uint8_t *head, size_t len)
             return 5;
         at += width;
     }
-    if (obu_type(head[0]) == DELIMITER && at != len)
+    *kind = obu_type(head[0]);
+    if (*kind == DELIMITER && at != len)
         return 5;
-    return obu_type(head[0]) == TILE_LIST ? 6 : 0;
+    if (*kind == TILE_LIST)
+        return 6;
+    if ((*kind == SEQUENCE_HEADER || *kind == FRAME_HEADER) && at == len)
+        return 42;
+    if (*kind == SEQUENCE_HEADER && head[at] & 8)
+        return 42;
+    if (*kind == FRAME_HEADER && head[at] & 0x80)
+        *kind = SHOWN_AGAIN;
+    return 0;
 }
 
-/* The place where the order of types breaks, or `n + 1`. */
-static size_t order_breaks(const uint8_t *types, size_t n)
+/* The place where the order of kinds breaks, or `n + 1`. */
+static size_t order_breaks(const uint8_t *kinds, size_t n)
 {
     size_t i = 0;
-    if (i < n && types[i] == DELIMITER)
+    if (i < n && kinds[i] == DELIMITER)
         i++;
-    while (i < n && (types[i] <= SEQUENCE_HEADER || types[i] == METADATA || types[i] > TILE_LIST))
+    while (i < n && (kinds[i] <= SEQUENCE_HEADER || kinds[i] == METADATA ||
+                     (kinds[i] > TILE_LIST && kinds[i] <= PADDING)))
         i++;
-    if (i < n && types[i] == FRAME)
+    if (i < n && (kinds[i] == FRAME || kinds[i] == SHOWN_AGAIN))
         return i + 1 == n ? n + 1 : i + 1;
-    if (i == n || types[i] != FRAME_HEADER)
+    if (i == n || kinds[i] != FRAME_HEADER)
         return i;
     for (i++; i < n; i++)
-        if (types[i] != TILE_GROUP && types[i] != REDUNDANT_FRAME_HEADER && types[i] != PADDING)
+        if (kinds[i] != TILE_GROUP && kinds[i] != REDUNDANT_FRAME_HEADER && kinds[i] != PADDING)
             return i;
-    return types[n - 1] == TILE_GROUP ? n + 1 : n;
+    return kinds[n - 1] == TILE_GROUP ? n + 1 : n;
 }
 
 static int start_code_at(const uint8_t *bytes)
@@ -78,25 +89,24 @@ static size_t find_start_codes(const uint8_t *unit, size_t len, size_t *places)
     return n;
 }
 
-/* Tries 3, 10, 4, 5, 6 on one payload; also gives the bytes to drop and the OBU's type. */
-static uint64_t try_payload(const uint8_t *payload, size_t len, size_t *dropped, uint8_t *type)
+/* Tries 3, 10, 4, 5, 6, 42 on one payload; also gives the bytes to drop and the OBU's kind. */
+static uint64_t try_payload(const uint8_t *payload, size_t len, size_t *dropped, uint8_t *kind)
 {
-    uint8_t head[MAX_ESCAPED_HEADER_BYTES];
-    size_t head_len = len < MAX_ESCAPED_HEADER_BYTES ? len : MAX_ESCAPED_HEADER_BYTES;
+    uint8_t head[MAX_ESCAPED_JUDGED_BYTES];
+    size_t head_len = len < MAX_ESCAPED_JUDGED_BYTES ? len : MAX_ESCAPED_JUDGED_BYTES;
     if (len == 0)
         return 3;
     if (plain_judge(payload, len, dropped) != len)
         return 10;
     plain_write_unescaped(payload, head_len, head);
-    *type = obu_type(head[0]);
-    return try_obu(head, len - *dropped);
+    return try_obu(head, len - *dropped, kind);
 }
 
 /* Tries all refusals of reading but 8; also gives the start codes' places, and then the length. */
 static plain_answer judge_unit(const uint8_t *unit, size_t len, size_t *places)
 {
     plain_answer a = {0, 0, 0, 0, 0};
-    uint8_t types[MAX_OBUS];
+    uint8_t kinds[MAX_OBUS];
     size_t n, breaks;
     if (len > MAX_UNIT_BYTES)
         return plain_refused(2, 0);
@@ -108,7 +118,7 @@ static plain_answer judge_unit(const uint8_t *unit, size_t len, size_t *places)
     places[n] = len;
     for (size_t k = 0; k < n; k++) {
         size_t payload_len = places[k + 1] - places[k] - 3, dropped;
-        uint64_t number = try_payload(unit + places[k] + 3, payload_len, &dropped, &types[k]);
+        uint64_t number = try_payload(unit + places[k] + 3, payload_len, &dropped, &kinds[k]);
         if (number != 0)
             return plain_refused(number, k);
         a.bytes += payload_len - dropped;
@@ -116,7 +126,7 @@ static plain_answer judge_unit(const uint8_t *unit, size_t len, size_t *places)
     }
     if (a.bytes > MAX_OBU_BYTES)
         return plain_refused(2, 0);
-    breaks = order_breaks(types, n);
+    breaks = order_breaks(kinds, n);
     if (breaks <= n)
         return plain_refused(7, breaks);
     a.count = n;
@@ -162,7 +172,7 @@ plain_answer plain_write_unit(const uint8_t *obus, size_t len, const size_t *len
                               uint8_t *out, size_t room)
 {
     plain_answer a = {0, 0, 0, 0, 0};
-    uint8_t types[MAX_OBUS];
+    uint8_t kinds[MAX_OBUS];
     const uint8_t *obu = obus;
     size_t need = 0, breaks;
     if (n == 0 || n > MAX_OBUS)
@@ -170,12 +180,11 @@ plain_answer plain_write_unit(const uint8_t *obus, size_t len, const size_t *len
     if (len > MAX_OBU_BYTES || !add_up(lengths, n, len))
         return plain_refused(2, 0);
     for (size_t k = 0; k < n; obu += lengths[k++]) {
-        uint64_t number = lengths[k] == 0 ? 3 : try_obu(obu, lengths[k]);
+        uint64_t number = lengths[k] == 0 ? 3 : try_obu(obu, lengths[k], &kinds[k]);
         if (number != 0)
             return plain_refused(number, k);
-        types[k] = obu_type(obu[0]);
     }
-    breaks = order_breaks(types, n);
+    breaks = order_breaks(kinds, n);
     if (breaks <= n)
         return plain_refused(7, breaks);
     obu = obus;

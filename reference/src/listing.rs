@@ -27,7 +27,7 @@ pub fn list(input: &[u8]) -> String {
         writeln!(
             text,
             "{index} type {} size {size} removed {removed}",
-            obu.obu_type
+            obu.kind.obu_type()
         )
         .expect("a string takes any text");
     }

@@ -1,10 +1,58 @@
-//! One OBU: header, size field, and the refusals 3, 4, 5 and 6 (AV1 5.3).
+//! One OBU: header, size field, and the refusals 3, 4, 5, 6 and 42 (AV1 5.3).
 
 use crate::refusal::Refusal;
 
 /// The types that the rules speak of by name.
+pub const SEQUENCE_HEADER: u8 = 1;
 pub const TEMPORAL_DELIMITER: u8 = 2;
+pub const FRAME_HEADER: u8 = 3;
 pub const TILE_LIST: u8 = 8;
+
+/// What the order rule knows OBUs by: their type, where frame headers are of two kinds.
+#[derive(Clone, Copy, Debug, PartialEq, Eq)]
+pub enum Kind {
+    /// An OBU of that type, but not the other kind.
+    Type(u8),
+    /// A frame header that shows a frame again: it is the whole frame.
+    ShownAgain,
+}
+
+impl Kind {
+    /// "The first content bit of a type 3 OBU is that flag".
+    pub fn new(obu_type: u8, content: &[u8]) -> Kind {
+        match (obu_type, content.first()) {
+            (FRAME_HEADER, Some(&first)) if first >= 0x80 => Kind::ShownAgain,
+            _ => Kind::Type(obu_type),
+        }
+    }
+
+    pub fn obu_type(self) -> u8 {
+        match self {
+            Kind::Type(obu_type) => obu_type,
+            Kind::ShownAgain => FRAME_HEADER,
+        }
+    }
+}
+
+/// "Refusals: 42 at the OBU's index, for that bit or a type 1 or 3 without content". That bit is
+/// reduced_still_picture_header, the "fifth content bit" of a sequence header.
+pub fn wrong_content(obu_type: u8, content: &[u8]) -> Option<&'static str> {
+    match (obu_type, content.first()) {
+        (SEQUENCE_HEADER, None) => Some("42: sequence header without content"),
+        (FRAME_HEADER, None) => Some("42: frame header without content"),
+        (SEQUENCE_HEADER, Some(&first)) if first >> 3 & 1 == 1 => {
+            Some("42: reduced_still_picture_header")
+        }
+        _ => None,
+    }
+}
+
+/// The conditions of 42.
+pub const CONDITIONS_42: &[&str] = &[
+    "42: sequence header without content",
+    "42: frame header without content",
+    "42: reduced_still_picture_header",
+];
 
 /// A leb128 as read: its value and the number of bytes it takes.
 #[derive(Clone, Copy, Debug, PartialEq, Eq)]
@@ -54,8 +102,8 @@ pub fn header(byte: u8) -> Header {
     }
 }
 
-/// Tries 3, 4, 5 and 6 on one OBU, which has the given index; answers its type.
-pub fn check(obu: &[u8], index: usize) -> Result<u8, Refusal> {
+/// Tries 3, 4, 5, 6 and 42 on one OBU, which has the given index; answers its kind.
+pub fn check(obu: &[u8], index: usize) -> Result<Kind, Refusal> {
     // "an OBU of no bytes"
     let Some(&first) = obu.first() else {
         return Err(Refusal::new(3, index, "3: no bytes"));
@@ -96,5 +144,9 @@ pub fn check(obu: &[u8], index: usize) -> Result<u8, Refusal> {
     if header.obu_type == TILE_LIST {
         return Err(Refusal::new(6, index, "6: tile list"));
     }
-    Ok(header.obu_type)
+    // "after 6 for that OBU"
+    if let Some(condition) = wrong_content(header.obu_type, rest) {
+        return Err(Refusal::new(42, index, condition));
+    }
+    Ok(Kind::new(header.obu_type, rest))
 }

@@ -1,26 +1,30 @@
-//! The order of an access unit's OBUs, by their types.
+//! The order of an access unit's OBUs, by their kinds.
 //!
 //! "type 2 only as the first; then any of 0, 1, 5, 9 to 15; then either one 6 which is the last, or
-//! one 3, then any of 4, 7, 15, ending in a 4."
+//! one 3, then any of 4, 7, 15, ending in a 4." And of a type 3 OBU's flag: "where it is 1, that OBU
+//! must be the last".
 
+use crate::obu::Kind::{self, ShownAgain, Type};
 use crate::refusal::Refusal;
 
 /// The whole sentence as a condition on a list: there is a place where the head ends and the frame
 /// begins.
-pub fn legal(types: &[u8]) -> bool {
-    for place in 0..types.len() {
-        let mut head = &types[..place];
-        if let [2, others @ ..] = head {
+pub fn legal(kinds: &[Kind]) -> bool {
+    for place in 0..kinds.len() {
+        let mut head = &kinds[..place];
+        if let [Type(2), others @ ..] = head {
             head = others;
         }
-        let frame_is_legal = match &types[place..] {
-            [6] => true,
-            [3, between @ .., 4] => between.iter().all(|t| [4, 7, 15].contains(t)),
+        let frame_is_legal = match &kinds[place..] {
+            [Type(6)] | [ShownAgain] => true,
+            [Type(3), between @ .., Type(4)] => {
+                between.iter().all(|kind| matches!(kind, Type(4 | 7 | 15)))
+            }
             _ => false,
         };
         let head_is_legal = head
             .iter()
-            .all(|t| [0, 1, 5, 9, 10, 11, 12, 13, 14, 15].contains(t));
+            .all(|kind| matches!(kind, Type(0 | 1 | 5 | 9..=15)));
         if head_is_legal && frame_is_legal {
             return true;
         }
@@ -34,39 +38,43 @@ enum Stand {
     First,
     BeforeFrame,
     AfterFrame,
+    AfterShownAgain,
     AfterFrameHeader,
     AfterTileGroup,
 }
 
 /// Tries 7. Its place: "index that breaks it; the OBU count if the list ends too soon".
-pub fn check(types: &[u8]) -> Result<(), Refusal> {
+pub fn check(kinds: &[Kind]) -> Result<(), Refusal> {
     let mut stand = Stand::First;
-    for (index, &obu_type) in types.iter().enumerate() {
+    for (index, &kind) in kinds.iter().enumerate() {
+        let broken = |condition| Err(Refusal::new(7, index, condition));
         stand = match stand {
-            Stand::First | Stand::BeforeFrame => match obu_type {
-                2 if stand == Stand::First => Stand::BeforeFrame,
-                2 => return Err(Refusal::new(7, index, "7: delimiter not the first")),
-                6 => Stand::AfterFrame,
-                3 => Stand::AfterFrameHeader,
-                0 | 1 | 5 | 9..=15 => Stand::BeforeFrame,
-                _ => return Err(Refusal::new(7, index, "7: 4 or 7 before a frame header")),
+            Stand::First | Stand::BeforeFrame => match kind {
+                Type(2) if stand == Stand::First => Stand::BeforeFrame,
+                Type(2) => return broken("7: delimiter not the first"),
+                Type(6) => Stand::AfterFrame,
+                ShownAgain => Stand::AfterShownAgain,
+                Type(3) => Stand::AfterFrameHeader,
+                Type(0 | 1 | 5 | 9..=15) => Stand::BeforeFrame,
+                Type(_) => return broken("7: 4 or 7 before a frame header"),
             },
-            Stand::AfterFrame => return Err(Refusal::new(7, index, "7: after a frame")),
-            Stand::AfterFrameHeader | Stand::AfterTileGroup => match obu_type {
-                4 => Stand::AfterTileGroup,
-                7 | 15 => Stand::AfterFrameHeader,
-                _ => return Err(Refusal::new(7, index, "7: wrong type after a frame header")),
+            Stand::AfterFrame => return broken("7: after a frame"),
+            Stand::AfterShownAgain => return broken("7: after a shown-again frame"),
+            Stand::AfterFrameHeader | Stand::AfterTileGroup => match kind {
+                Type(4) => Stand::AfterTileGroup,
+                Type(7 | 15) => Stand::AfterFrameHeader,
+                _ => return broken("7: wrong type after a frame header"),
             },
         };
     }
     match stand {
-        Stand::AfterFrame | Stand::AfterTileGroup => Ok(()),
+        Stand::AfterFrame | Stand::AfterShownAgain | Stand::AfterTileGroup => Ok(()),
         Stand::First | Stand::BeforeFrame => {
-            Err(Refusal::new(7, types.len(), "7: ends before the frame"))
+            Err(Refusal::new(7, kinds.len(), "7: ends before the frame"))
         }
         Stand::AfterFrameHeader => Err(Refusal::new(
             7,
-            types.len(),
+            kinds.len(),
             "7: ends without a last tile group",
         )),
     }
@@ -77,6 +85,7 @@ pub const CONDITIONS: &[&str] = &[
     "7: delimiter not the first",
     "7: 4 or 7 before a frame header",
     "7: after a frame",
+    "7: after a shown-again frame",
     "7: wrong type after a frame header",
     "7: ends before the frame",
     "7: ends without a last tile group",

@@ -321,7 +321,7 @@ impl Check {
     }
 
     /// "then 32 is tried, then the reading of its unit (1 to 7, 9, 10), with the index of the packet
-    /// that began it."
+    /// that began it." And 42: "a segment's reading gives it too".
     fn close(&mut self) -> Result<(), Refusal> {
         let Some(open) = self.open.take() else {
             return Ok(());

@@ -1,5 +1,6 @@
 //! One access unit: reading, writing and checking it.
 
+use crate::obu::Kind;
 use crate::refusal::{OUTPUT_TOO_SHORT, Refusal};
 use crate::{obu, order, payload};
 use std::ops::Range;
@@ -41,12 +42,13 @@ pub fn payloads(unit: &[u8]) -> Vec<Range<usize>> {
 #[derive(Clone, Debug, PartialEq, Eq)]
 pub struct ReadObu {
     pub bytes: Vec<u8>,
-    pub obu_type: u8,
+    pub kind: Kind,
     pub dropped: usize,
 }
 
 /// "Reading tries: 2 for the carried length; 9; 1; then for each tsOBU in turn 3, 10, 4, 5, 6; 2 for
-/// the OBUs' sum; 7; 8." All of it but 8; this is also the check of a unit.
+/// the OBUs' sum; 7; 8." And 42 "after 6 for that OBU". All of it but 8; this is also the check of a
+/// unit.
 pub fn accept(unit: &[u8]) -> Result<Vec<ReadObu>, Refusal> {
     if unit.len() > MOST_CARRIED {
         return Err(Refusal::new(2, 0, "2: over 1,573,056 bytes as carried"));
@@ -68,18 +70,18 @@ pub fn accept(unit: &[u8]) -> Result<Vec<ReadObu>, Refusal> {
             return Err(Refusal::new(10, index, condition));
         }
         let unescaped = payload::unescaped(payload);
-        let obu_type = obu::check(&unescaped.obu, index)?;
+        let kind = obu::check(&unescaped.obu, index)?;
         obus.push(ReadObu {
             bytes: unescaped.obu,
-            obu_type,
+            kind,
             dropped: unescaped.dropped,
         });
     }
     if total_bytes(&obus) > MOST_BYTES {
         return Err(Refusal::new(2, 0, "2: over 1,048,576 bytes of OBUs"));
     }
-    let types: Vec<u8> = obus.iter().map(|obu| obu.obu_type).collect();
-    order::check(&types)?;
+    let kinds: Vec<Kind> = obus.iter().map(|obu| obu.kind).collect();
+    order::check(&kinds)?;
     Ok(obus)
 }
 
@@ -101,8 +103,8 @@ pub fn read(unit: &[u8], bytes_room: usize, lengths_room: usize) -> Result<Vec<R
 }
 
 /// "Writing takes OBUs back to back and their lengths, and tries 1, 2, then for each OBU 3, 4, 5, 6;
-/// then 7; then 8." All of it but 8; the answer is the string that writing gives: "00 00 01 and the
-/// escaped OBU, for each in turn".
+/// then 7; then 8." And 42 after 6. All of it but 8; the answer is the string that writing gives:
+/// "00 00 01 and the escaped OBU, for each in turn".
 pub fn written(obus: &[u8], lengths: &[usize]) -> Result<Vec<u8>, Refusal> {
     if lengths.is_empty() {
         return Err(Refusal::new(1, 0, "1: no OBU"));
@@ -118,17 +120,17 @@ pub fn written(obus: &[u8], lengths: &[usize]) -> Result<Vec<u8>, Refusal> {
     if obus.len() > MOST_BYTES {
         return Err(Refusal::new(2, 0, "2: over 1,048,576 bytes of OBUs"));
     }
-    let mut types = Vec::new();
+    let mut kinds = Vec::new();
     let mut carried = Vec::new();
     let mut rest = obus;
     for (index, &length) in lengths.iter().enumerate() {
         let (obu, after) = rest.split_at(length);
         rest = after;
-        types.push(obu::check(obu, index)?);
+        kinds.push(obu::check(obu, index)?);
         carried.extend_from_slice(&START_CODE);
         carried.extend(payload::escaped(obu));
     }
-    order::check(&types)?;
+    order::check(&kinds)?;
     Ok(carried)
 }
 

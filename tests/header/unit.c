@@ -25,6 +25,7 @@ int main(void) {
     const uint8_t unit[12] = {0, 0, 1, 0x12, 0, 0, 0, 1, 0x30, 0xAA, 0, 0};
     const uint8_t obus[6] = {0x12, 0, 0x30, 0xAA, 0, 0};
     const size_t lengths[2] = {2, 4};
+    const uint8_t shown_again[10] = {0, 0, 1, 0x18, 0x80, 0, 0, 1, 0x20, 0xAA};
     uint8_t out[16];
     size_t read[3] = {7, 7, 7};
 
@@ -38,6 +39,9 @@ int main(void) {
     expect("its OBUs and lengths", memcmp(out, obus, 6) == 0 && out[6] == 0xEE && read[0] == 2 && read[1] == 4 && read[2] == 7);
     expect("the unit is checked", is(av1ts_check_unit(unit, 12), 0, 0, 2, 6, 0));
     expect("a delimiter alone ends too soon", is(av1ts_check_unit(unit, 5), 7, 1, 0, 0, 0));
+    expect("a frame shown again is a whole unit", is(av1ts_check_unit(shown_again, 5), 0, 0, 1, 2, 0));
+    expect("nothing may follow it", is(av1ts_check_unit(shown_again, 10), 7, 1, 0, 0, 0));
+    expect("a frame header without content", is(av1ts_check_unit(shown_again, 4), 42, 0, 0, 0, 0));
 
     expect("the walk starts", at(av1ts_walk_start(unit, 12), 0, 0, 0, 0, 0, 0));
     expect("the first payload", at(av1ts_walk_step(unit, 12, 0), 0, 0, 0, 3, 2, 5));

@@ -1,4 +1,4 @@
--- The header of an OBU lies within it, its first ten bytes decide it (`judged-first`), and it gives the number of the OBU's kind
+-- The header of an OBU lies within it, its first eleven bytes decide it (`judged-first`), and it gives the number of the OBU's kind
 -- (`judged-number`). Assumes nothing.
 use Prim.Native.Nat.{ℕ, _+_, _-_, _≤_, _<_, zero-le}
 use mathlib.Core.Bool.{Bool, true, false, _&&_}
@@ -12,7 +12,7 @@ use Rattle.lists.specs.Lists.{Bytes, pick}
 use Rattle.lists.specs.Bytes.{byte}
 use Rattle.lists.proofs.Tests.{case}
 use Rattle.lists.proofs.Parts.{to-end, drop-take}
-use Rattle.refusal.specs.Verdict.{passed, given}
+use Rattle.refusal.specs.Verdict.{Verdict, passed, refused, _>>=_, given}
 use Rattle.refusal.proofs.Verdicts.{passed-then, passed-after, passed-same, given-passed, never}
 use Rattle.obu.specs.declared.leb128.Leb.{Leb}
 use Rattle.obu.specs.declared.leb128.Leb.the-variants.{Number, Bad}
@@ -21,7 +21,7 @@ use Rattle.obu.specs.declared.header.Size.the-variants.{Absent, Present}
 use Rattle.obu.specs.declared.header.Header.{Header}
 use Rattle.obu.specs.Leb128.{leb128}
 use Rattle.obu.specs.Header.{forbiddenBit, extensionBit, hasSizeBit, fixedBytes, extensionMissing, sizeSaid, sizeOf, sizeBytes}
-use Rattle.obu.specs.Header.{headerWith, sizedHeader, headerOf, judged, mostHeader}
+use Rattle.obu.specs.Header.{headerWith, sizedHeader, headerOf, judged, mostJudged}
 use Rattle.obu.specs.Order.{kindNumber, numberSaid}
 use Rattle.obu.proofs.Lebs.{leb-taken, first-eight}
 
@@ -59,8 +59,9 @@ size-within false rest size e = subst (λ (z : Size). sizeBytes z ≤ length res
 sized-within : (first : ℕ) (rest : Bytes) (h : Header) → sizedHeader first rest ≡ passed h → h .content ≤ fixedBytes first + length rest
 unfolding sizedHeader headerWith sizeOf
 sized-within first rest h e =
-    let p = passed-then (sizeOf first rest) (λ size. passed (headerWith first size)) h e in
-    subst (λ (x : Header). x .content ≤ fixedBytes first + length rest) (passed-same (headerWith first (p .0)) h (p .2))
+    let p = passed-then (sizeOf first rest) (λ size. passed (headerWith first size (byte rest (sizeBytes size)))) h e in
+    subst (λ (x : Header). x .content ≤ fixedBytes first + length rest)
+    (passed-same (headerWith first (p .0) (byte rest (sizeBytes (p .0)))) h (p .2))
     (omega (arith, size-within (hasSizeBit first) rest (p .0) (p .1)))
 
 pub content-within : (s : Bytes) (h : Header) → headerOf s ≡ passed h → h .content ≤ length s
@@ -74,12 +75,33 @@ content-within s h e =
     let fixed = fixed-within first (length s) (fixedBytes first) (given-passed 4 _ (r .0)) some refl in
     omega (arith, sized-within first (drop (fixedBytes first) s) h (r .1), length-drop (fixedBytes first) s, fixed)
 
--- ---- of an OBU's first bytes, those after the tenth change nothing
-sized-first : (first k : ℕ) (rest : Bytes) → 8 ≤ k → sizedHeader first (take k rest) ≡ sizedHeader first rest
-unfolding sizedHeader sizeOf
-sized-first first k rest h = rw (first-eight k rest h)
+-- ---- of an OBU's first bytes, those after the eleventh change nothing
+said-most : (leb : Leb) (rest : Bytes) (size : Size) → leb128 rest ≡ leb → sizeSaid leb ≡ passed size → sizeBytes size ≤ 8
+said-most (Number value width) rest size e p =
+    subst (λ (z : Size). sizeBytes z ≤ 8) (passed-same (Present value width) size p) (leb-taken rest value width e .0)
+said-most Bad rest size e p = never p
 
-header-long : (k : ℕ) (s : Bytes) → mostHeader ≤ k → k < length s → headerOf (take k s) ≡ headerOf s
+size-most : (t : Bool) (rest : Bytes) (size : Size) → pick t (sizeSaid (leb128 rest)) (passed Absent) ≡ passed size → sizeBytes size ≤ 8
+unfolding pick
+size-most true rest size e = said-most (leb128 rest) rest size refl e
+size-most false rest size e = subst (λ (z : Size). sizeBytes z ≤ 8) (passed-same Absent size e) zero-le
+
+content-first : (first k : ℕ) (rest : Bytes) → 9 ≤ k → (v : Verdict Size) → sizeOf first rest ≡ v
+    → (v >>= (λ size. passed (headerWith first size (byte (take k rest) (sizeBytes size)))))
+    ≡ (v >>= (λ size. passed (headerWith first size (byte rest (sizeBytes size)))))
+unfolding sizeOf _>>=_
+content-first first k rest h (passed size) e =
+    ap (λ (b : ℕ). passed (headerWith first size b))
+    (getD-take k rest (sizeBytes size) 0 (omega (arith, size-most (hasSizeBit first) rest size e)))
+content-first first k rest h (refused number place) e = refl
+
+sized-first : (first k : ℕ) (rest : Bytes) → 9 ≤ k → sizedHeader first (take k rest) ≡ sizedHeader first rest
+unfolding sizedHeader
+sized-first first k rest h =
+    let same : sizeOf first (take k rest) ≡ sizeOf first rest = unfold sizeOf in rw (first-eight k rest (omega arith)) in
+    rw same (content-first first k rest h (sizeOf first rest) refl)
+
+header-long : (k : ℕ) (s : Bytes) → mostJudged ≤ k → k < length s → headerOf (take k s) ≡ headerOf s
 unfolding headerOf
 header-long k s h j =
     let n : length (take k s) ≡ k = length-take-le k s (omega arith) in
@@ -92,13 +114,13 @@ header-long k s h j =
     rw (n, b, d, not-k 0 (omega arith), not-k 1 (omega arith), not-s 0 (omega arith), not-s 1 (omega arith))
     (rw (sized-first (byte s 0) (k - f) (drop f s) (omega arith)))
 
-pub header-first : (k : ℕ) (s : Bytes) → mostHeader ≤ k → headerOf (take k s) ≡ headerOf s
+pub header-first : (k : ℕ) (s : Bytes) → mostJudged ≤ k → headerOf (take k s) ≡ headerOf s
 header-first k s h =
     case (leb (length s) k)
     (λ e. ap headerOf (take-all k s (leb-true (length s) k e)))
     (λ e. header-long k s h (leb-false (length s) k e))
 
-pub judged-first : (k : ℕ) (s : Bytes) (n : ℕ) → mostHeader ≤ k → judged (take k s) n ≡ judged s n
+pub judged-first : (k : ℕ) (s : Bytes) (n : ℕ) → mostJudged ≤ k → judged (take k s) n ≡ judged s n
 unfolding judged
 judged-first k s n h = rw (header-first k s h)
 
@@ -107,7 +129,8 @@ pub judged-header : (s : Bytes) (n : ℕ) (h : Header) → judged s n ≡ passed
 unfolding judged
 judged-header s n h e =
     let p = passed-then (headerOf s) _ h e in
-    p .1 ∙ passed-after _ _ h (passed-after _ _ h (passed-after _ _ h (p .2) .1) .1) .1
+    let tile = passed-after _ _ h (passed-after _ _ h (passed-after _ _ h (p .2) .1) .1) .1 in
+    p .1 ∙ passed-after _ _ h (passed-after _ _ h tile .1) .1
 
 -- which gives the number of its kind
 pub judged-number : (s : Bytes) (n : ℕ) (h : Header) → judged s n ≡ passed h → numberSaid (headerOf s) ≡ kindNumber h

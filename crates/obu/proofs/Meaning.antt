@@ -11,10 +11,11 @@ use lib.ListN.{length, take}
 use Rattle.lists.specs.Lists.{all, any}
 use Rattle.lists.proofs.Tests.{case, all-both}
 use Rattle.refusal.specs.Verdict.{Verdict, passed, refused, NoValue}
-use Rattle.obu.specs.Order.{Kind, temporalDelimiter, frameHeader, tileGroup, frame, is, headKind, tileKind, WholeFrame, oneFrame}
-use Rattle.obu.specs.Order.{headerAndTiles, OrderLegal, afterFrame, inTiles, atFrame, beforeFrame, orderRefusal, BrokenAt, OrderMeans}
+use Rattle.obu.specs.Order.{Kind, temporalDelimiter, frameHeader, shownAgain, tileGroup, frame, is, headKind, tileKind, lastKind}
+use Rattle.obu.specs.Order.{WholeFrame, oneFrame, oneShownAgain, headerAndTiles, OrderLegal}
+use Rattle.obu.specs.Order.{afterFrame, inTiles, atFrame, beforeFrame, orderRefusal, BrokenAt, OrderMeans}
 use Rattle.refusal.proofs.Verdicts.{never}
-use Rattle.obu.proofs.Types.{same-kind}
+use Rattle.obu.proofs.Types.{same-kind, one-of-two}
 use Rattle.obu.proofs.Steps.{tiles-on, tiles-stop, one-frame, one-header, no-frame, head-on, head-stop, delimited, not-delimited}
 
 -- ---- of any rule that gives a verdict from an index on: what its verdict says of the lists that it passes
@@ -128,7 +129,7 @@ says-tiles i ended (k ∷ s) =
 says-frame : (i : ℕ) (l : List Kind) → Says atFrame i l (atFrame i l)
 says-frame i [] = says-end atFrame i (unfold atFrame in refl)
 says-frame i (k ∷ s) =
-    case (is k frame)
+    case (lastKind k)
     (λ e. says-later atFrame afterFrame i k s (λ t. one-frame i k t e) open-after (says-after (suc i) s))
     (λ e. case (is k frameHeader)
     (λ h. says-later atFrame (λ j. inTiles j false) i k s (λ t. one-header i k t e h) (open-tiles false) (says-tiles (suc i) false s))
@@ -183,11 +184,15 @@ with-tiles : (k : Kind) (s : List Kind) → is k frameHeader ≡ true → Tiles 
 with-tiles k s e (inl h) = absurd (true≢false (sym (h .0)))
 with-tiles k s e (inr h) = headerAndTiles (h .0) (h .1) (cons (same-kind k frameHeader e) (h .2))
 
+the-last : (k : Kind) (s : List Kind) → s ≡ [] → (k ≡ frame) ⊎ (k ≡ shownAgain) → WholeFrame (k ∷ s)
+the-last k s e (inl h) = oneFrame (cons h e)
+the-last k s e (inr h) = oneShownAgain (cons h e)
+
 frame-legal : (i : ℕ) (l : List Kind) → atFrame i l ≡ passed tt → WholeFrame l
 frame-legal i [] e = unfold atFrame in never e
 frame-legal i (k ∷ s) e =
-    case (is k frame)
-    (λ h. oneFrame (cons (same-kind k frame h) (after-legal (suc i) s (sym (one-frame i k s h) ∙ e))))
+    case (lastKind k)
+    (λ h. the-last k s (after-legal (suc i) s (sym (one-frame i k s h) ∙ e)) (one-of-two k frame shownAgain h))
     (λ h. case (is k frameHeader)
     (λ j. with-tiles k s j (tiles-legal (suc i) false s (sym (one-header i k s h j) ∙ e)))
     (λ j. never (sym (no-frame i k s h j) ∙ e)))
@@ -242,6 +247,7 @@ tiles-fine i ended (k ∷ s) e =
 frame-fine : (i : ℕ) (l : List Kind) → WholeFrame l → beforeFrame i l ≡ passed tt
 unfolding beforeFrame atFrame afterFrame any
 frame-fine i l (oneFrame e) = rw e
+frame-fine i l (oneShownAgain e) = rw e
 frame-fine i l (headerAndTiles tiles h e) = rw e (tiles-fine (suc i) false tiles h)
 
 head-fine : (i : ℕ) (head last : List Kind) → all headKind head ≡ true → WholeFrame last → beforeFrame i (head ++ last) ≡ passed tt

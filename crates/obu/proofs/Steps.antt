@@ -4,8 +4,8 @@ use mathlib.Core.Bool.{Bool, true, false}
 use mathlib.Core.Path.{_≡_}
 use mathlib.Core.List.{List, _∷_}
 use Rattle.refusal.specs.Verdict.{refused}
-use Rattle.obu.specs.Order.{Kind, temporalDelimiter, frameHeader, tileGroup, frame, is, headKind, tileKind, afterFrame, inTiles}
-use Rattle.obu.specs.Order.{atFrame, beforeFrame, orderRefusal}
+use Rattle.obu.specs.Order.{Kind, temporalDelimiter, frameHeader, tileGroup, is, headKind, tileKind, lastKind}
+use Rattle.obu.specs.Order.{afterFrame, inTiles, atFrame, beforeFrame, orderRefusal}
 
 module _ (i : ℕ) (k : Kind) (s : List Kind) where
   pub tiles-on : (ended : Bool) → tileKind k ≡ true → inTiles i ended (k ∷ s) ≡ inTiles (suc i) (is k tileGroup) s
@@ -16,15 +16,15 @@ module _ (i : ℕ) (k : Kind) (s : List Kind) where
   unfolding inTiles
   tiles-stop ended e = rw (e, inTiles)
 
-  pub one-frame : is k frame ≡ true → atFrame i (k ∷ s) ≡ afterFrame (suc i) s
+  pub one-frame : lastKind k ≡ true → atFrame i (k ∷ s) ≡ afterFrame (suc i) s
   unfolding atFrame
   one-frame e = rw (e, atFrame)
 
-  pub one-header : is k frame ≡ false → is k frameHeader ≡ true → atFrame i (k ∷ s) ≡ inTiles (suc i) false s
+  pub one-header : lastKind k ≡ false → is k frameHeader ≡ true → atFrame i (k ∷ s) ≡ inTiles (suc i) false s
   unfolding atFrame
   one-header e f = rw (e, atFrame) (rw f)
 
-  pub no-frame : is k frame ≡ false → is k frameHeader ≡ false → atFrame i (k ∷ s) ≡ refused 7 i
+  pub no-frame : lastKind k ≡ false → is k frameHeader ≡ false → atFrame i (k ∷ s) ≡ refused 7 i
   unfolding atFrame
   no-frame e f = rw (e, atFrame) (rw f)
 

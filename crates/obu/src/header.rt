@@ -5,15 +5,17 @@ ghost use Rattle.refusal.specs.Verdict.{refused};
 ghost use Rattle.refusal.specs.Number.{numberOf};
 ghost use Rattle.obu.specs.Header.{forbiddenBit, typeBits, extensionBit, hasSizeBit, fixedBytes};
 ghost use Rattle.obu.specs.Header.{extensionMissing, sizeBytes, headerWith, sizedHeader, headerOf};
-ghost use Rattle.obu.specs.Header.{bytesRemaining, sizeWrong, delimiterWithContent, judged, judgedSays};
+ghost use Rattle.obu.specs.Header.{bytesRemaining, sizeWrong, delimiterWithContent, contentMissing};
+ghost use Rattle.obu.specs.Header.{reducedStill, showsAgain, judged, judgedSays};
 ghost use Rattle.obu.specs.Order.{kindNumber};
 use crate::leb128::Leb;
 use crate::leb128::read_leb128;
+use lists::byte_at;
 use refusal::Refusal;
 use refusal::Refused;
 
-// The most bytes that a header has: the first, an extension byte, and a leb128 of 8.
-pub const HEADER_BYTES: usize = 10;
+// As many bytes as an OBU is judged from: the first, an extension byte, a leb128 of 8, and the first of the content.
+pub const JUDGED_BYTES: usize = 11;
 
 // The size that a header tells, and how many bytes its leb128 takes.
 pub enum Size {
@@ -21,12 +23,13 @@ pub enum Size {
     Present { value: u64, width: usize },
 }
 
-// A header. `content` is where the content begins.
+// A header. `content` is where the content begins, `first_content` its first byte, 0 where there is no content.
 pub struct Header {
     pub obu_type: u8,
     pub extension: bool,
     pub size: Size,
     pub content: usize,
+    pub first_content: u8,
 }
 
 // The header of an OBU, or the refusal.
@@ -94,9 +97,9 @@ fn size_bytes(size: Size) -> usize
     }
 }
 
-fn header_with(first: u8, size: Size) -> Header
+fn header_with(first: u8, size: Size, first_content: u8) -> Header
     requires { ⌜ sizeBytes size ≤ 8 ⌝ }
-    ensures { λ r. ⌜ r ≡ headerWith first size ⌝ }
+    ensures { λ r. ⌜ r ≡ headerWith first size «first_content» ⌝ }
 {
     let content = fixed_bytes(first) + size_bytes(size);
     Header {
@@ -104,6 +107,7 @@ fn header_with(first: u8, size: Size) -> Header
         extension: extension_bit(first),
         size,
         content,
+        first_content,
     }
 }
 
@@ -112,13 +116,13 @@ fn sized_header(first: u8, rest: &[u8]) -> Judged
     ensures { λ r. ⌜ judgedSays r ≡ sizedHeader first (now (rest .entry)) ⌝ }
 {
     if !has_size_bit(first) {
-        return Judged::Passed(header_with(first, Size::Absent));
+        return Judged::Passed(header_with(first, Size::Absent, byte_at(rest, 0)));
     }
     let leb = read_leb128(rest);
     match leb {
         Leb::Bad => refuse(Refusal::OBU_SIZE),
         Leb::Number { value, width } => {
-            Judged::Passed(header_with(first, Size::Present { value, width }))
+            Judged::Passed(header_with(first, Size::Present { value, width }, byte_at(rest, width)))
         }
     }
 }
@@ -172,15 +176,53 @@ fn delimiter_with_content(header: Header, bytes: usize) -> bool
     0 < remaining(header, bytes)
 }
 
-// The number of the kind of an OBU with this header, which the order rule goes by.
+// A sequence header or a frame header without content.
+fn content_missing(header: Header, bytes: usize) -> bool
+    ensures { λ r. ⌜ r ≡ contentMissing header bytes ⌝ }
+{
+    let none = remaining(header, bytes) == 0;
+    if header.obu_type == 1 {
+        return none;
+    }
+    if header.obu_type == 3 {
+        return none;
+    }
+    false
+}
+
+// A sequence header with reduced_still_picture_header, the fifth bit of its content.
+fn reduced_still(header: Header) -> bool
+    ensures { λ r. ⌜ r ≡ reducedStill header ⌝ }
+{
+    if header.obu_type != 1 {
+        return false;
+    }
+    header.first_content / 8 % 2 == 1
+}
+
+// A frame header with show_existing_frame, the first bit of its content.
+fn shows_again(header: Header) -> bool
+    ensures { λ r. ⌜ r ≡ showsAgain header ⌝ }
+{
+    if header.obu_type != 3 {
+        return false;
+    }
+    header.first_content / 128 % 2 == 1
+}
+
+// The number of the kind of an OBU with this header, which the order rule goes by: its type, and 16 for a frame header
+// that shows a frame again.
 pub fn kind_number(header: Header) -> u8
     ensures { λ r. ⌜ r ≡ kindNumber header ⌝ }
 {
+    if shows_again(header) {
+        return 16;
+    }
     header.obu_type
 }
 
-// The header of an OBU of so many bytes that begins with prefix; 3, 4, 5, 6. HEADER_BYTES bytes of it, or all if there
-// are fewer, are enough.
+// The header of an OBU of so many bytes that begins with prefix; 3, 4, 5, 6, 42. JUDGED_BYTES bytes of it, or all if
+// there are fewer, are enough.
 pub fn judge(prefix: &[u8], bytes: usize) -> Judged
     ensures { λ r. ⌜ judgedSays r ≡ judged (now (prefix .entry)) bytes ⌝ }
 {
@@ -196,6 +238,12 @@ pub fn judge(prefix: &[u8], bytes: usize) -> Judged
     }
     if header.obu_type == 8 {
         return refuse(Refusal::TILE_LIST);
+    }
+    if content_missing(header, bytes) {
+        return refuse(Refusal::OBU_CONTENT);
+    }
+    if reduced_still(header) {
+        return refuse(Refusal::OBU_CONTENT);
     }
     Judged::Passed(header)
 }

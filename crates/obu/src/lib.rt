@@ -3,8 +3,8 @@ mod header;
 mod leb128;
 mod ordering;
 
-pub use header::HEADER_BYTES;
 pub use header::Header;
+pub use header::JUDGED_BYTES;
 pub use header::Judged;
 pub use header::Size;
 pub use header::judge;

@@ -35,6 +35,9 @@ fn head_type(t: u8) -> bool
     if t == 5 {
         return true;
     }
+    if t == 16 {
+        return false;
+    }
     9 <= t
 }
 
@@ -51,7 +54,7 @@ fn tile_type(t: u8) -> bool
     t == 15
 }
 
-// After a 6, which is the last.
+// After a 6 or a frame header that shows a frame again, which is the last.
 fn after_frame(kinds: &[u8], at: usize) -> Ordered
     ensures { λ r. ⌜ orderedSays r ≡ afterFrame at (map kindOfNumber (drop at (now (kinds .entry)))) ⌝ }
 {
@@ -81,13 +84,16 @@ fn in_tiles(kinds: &[u8], from: usize) -> Ordered
     broken(i)
 }
 
-// Either one 6 or one 3.
+// Either one 6, one frame header that shows a frame again, or one 3.
 fn at_frame(kinds: &[u8], at: usize) -> Ordered
     requires { ⌜ at < length (now kinds) ⌝ }
     ensures { λ r. ⌜ orderedSays r ≡ atFrame at (map kindOfNumber (drop at (now (kinds .entry)))) ⌝ }
 {
     let t = kinds[at];
     if t == 6 {
+        return after_frame(kinds, at + 1);
+    }
+    if t == 16 {
         return after_frame(kinds, at + 1);
     }
     if t == 3 {

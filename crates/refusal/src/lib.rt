@@ -1,4 +1,4 @@
-// The refusals of document 01, each with its number.
+// The refusals of documents 01 and 02, each with its number.
 ghost use mathlib.Core.Path.{_≡_};
 ghost use Rattle.refusal.specs.Number.{numberOf};
 
@@ -34,6 +34,8 @@ impl Refusal {
     pub const NO_START_CODE: Refusal = Refusal { number: 9 };
 
     pub const ILLEGAL_PAYLOAD: Refusal = Refusal { number: 10 };
+
+    pub const OBU_CONTENT: Refusal = Refusal { number: 42 };
 
     pub const DESCRIPTOR: Refusal = Refusal { number: 40 };
 

@@ -92,7 +92,9 @@ module _ (number : ℕ) (w : WalkNumber number) where
       (without-bind number _ _ (header-said obu h) (λ header.
       without-then number _ _ (tries 5 _ refl refl)
       (without-then number _ _ (tries 5 _ refl refl)
-      (without-then number _ _ (tries 6 _ refl refl) (without-passed number _)))))
+      (without-then number _ _ (tries 6 _ refl refl)
+      (without-then number _ _ (tries 42 _ refl refl)
+      (without-then number _ _ (tries 42 _ refl refl) (without-passed number _)))))))
       (without-passed number tt)
 
   -- nor does the order

@@ -24,7 +24,7 @@ use Rattle.emulation.proofs.Steps.{given-or-dropped}
 use Rattle.obu.specs.declared.header.Header.{Header}
 use Rattle.obu.specs.declared.header.Judged.{Judged as Obu}
 use Rattle.obu.specs.declared.header.Judged.the-variants as obu
-use Rattle.obu.specs.Header.{judged, judgedSays as obuSays}
+use Rattle.obu.specs.Header.{judged, judgedSays as obuSays, mostJudged}
 use Rattle.obu.specs.declared.ordering.Ordered.{Ordered}
 use Rattle.obu.specs.declared.ordering.Ordered.the-variants as ordered
 use Rattle.obu.specs.Order.{kindOfNumber, kindNumber, orderRefusal, orderedSays}
@@ -123,7 +123,7 @@ first-bytes u z first n e f =
     (omega (arith, ap length f, length-append w (drop (length w) z)), ap (take n) f ∙ take-at w (drop (length w) z) n (sym e))
 
 -- the first bytes and the length decide as the whole OBU does
-pub judged-short : (u first : Bytes) (n k : ℕ) → 10 ≤ k → first ≡ take k u → n ≡ length u → judged first n ≡ judged u (length u)
+pub judged-short : (u first : Bytes) (n k : ℕ) → mostJudged ≤ k → first ≡ take k u → n ≡ length u → judged first n ≡ judged u (length u)
 judged-short u first n k h e f = ap₂ judged e f ∙ judged-first k u (length u) h
 
 refusal-stays : {A : Type 0} {v : Verdict Header} {number place : ℕ} (w : Verdict A) → refused number place ≡ v

@@ -14,6 +14,7 @@ ghost use Rattle.unit.specs.Parts.{JudgedUnit, endsFrom};
 use crate::codes::code_at;
 use crate::codes::find;
 use emulation::unescape_prefix;
+use obu::JUDGED_BYTES;
 use refusal::Refusal;
 use refusal::Refused;
 
@@ -93,13 +94,13 @@ fn payload_ends(unit: &[u8]) -> Ends
     }
 }
 
-// A legal payload that is not empty, of which so many bytes are dropped: 4, 5, 6.
+// A legal payload that is not empty, of which so many bytes are dropped: 4, 5, 6, 42.
 fn judge_obu(payload: &[u8], dropped: usize) -> TsObu
     requires { ⌜ dropped ≡ Payload·dropped (now payload) ⌝ }
     ensures { λ r. ⌜ tsobuSays r ≡ legalFigures (now (payload .entry)) ⌝ }
 {
     let length = payload.len() - dropped;
-    let mut first = [0u8; 10];
+    let mut first = [0u8; JUDGED_BYTES];
     let n = unescape_prefix(payload, &mut first);
     let judged = obu::judge(&first[..n], length);
     match judged {
@@ -111,7 +112,7 @@ fn judge_obu(payload: &[u8], dropped: usize) -> TsObu
     }
 }
 
-// One payload: 3, 10, 4, 5, 6.
+// One payload: 3, 10, 4, 5, 6, 42.
 fn judge_payload(payload: &[u8]) -> TsObu
     ensures { λ r. ⌜ tsobuSays r ≡ tsobuFigures (now (payload .entry)) ⌝ }
 {
@@ -131,7 +132,7 @@ fn judge_payload(payload: &[u8]) -> TsObu
     }
 }
 
-// Each payload in turn: 3, 10, 4, 5, 6.
+// Each payload in turn: 3, 10, 4, 5, 6, 42.
 fn judge_payloads(unit: &[u8], ends: Ends) -> Payloads
     requires { ⌜ (atStartCode (now unit) ≡ true) × EndsOf (now unit) ends × (ends .more ≡ false) ⌝ }
     ensures { λ r. ⌜ Judges (now (unit .entry)) r ⌝ }

@@ -59,7 +59,7 @@ fn adds_up(lens: &[usize], n: usize) -> bool
     left == 0
 }
 
-// Where 1 and 2 are not given: each OBU in turn, then their order; 3, 4, 5, 6, then 7.
+// Where 1 and 2 are not given: each OBU in turn, then their order; 3, 4, 5, 6, 42, then 7.
 fn judge_obus(obus: &[u8], lens: &[usize]) -> Ordered
     requires { ⌜ (1 ≤ length (now lens)) × (length (now lens) ≤ mostObus) × (length (now obus) ≤ mostObuBytes)
         × (sum (now lens) ≡ length (now obus)) ⌝ }
@@ -148,7 +148,7 @@ fn write_obus(obus: &[u8], lens: &[usize], out: &mut [u8])
 }
 
 // The carried unit of the OBUs that stand back to back in obus, over the front of out; 1, 2, for each OBU 3, 4, 5, 6,
-// then 7, then 8.
+// 42, then 7, then 8.
 pub fn write(obus: &[u8], lens: &[usize], out: &mut [u8]) -> Written
     ensures { λ r. ⌜ writtenSays r ≡ writeUnit (now (lens .entry)) (now (obus .entry)) (length (now (out .entry))) ⌝ }
     ensures { λ r. ⌜ now (out .exit)

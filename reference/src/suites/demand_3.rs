@@ -21,6 +21,9 @@ pub const SUITE: Definition = Definition {
             "no start code at the head",
             "list accepted by writing",
             "list refused by writing",
+            "sequence header",
+            "frame shown again",
+            "frame in parts",
         ])
     },
     run,
@@ -90,6 +93,14 @@ fn compare(suite: &mut Suite, alphabet: &[u8], longest: usize, list_bytes: usize
             1 => "one string for the list",
             _ => "several strings for the list",
         });
+        for obu in list {
+            match obu[0] / 8 {
+                1 => labels.push("sequence header"),
+                3 if obu[1] >= 0x80 => labels.push("frame shown again"),
+                3 => labels.push("frame in parts"),
+                _ => {}
+            }
+        }
         let written = write(list);
         let passed = match &written {
             None => false,
@@ -148,5 +159,7 @@ fn run(suite: &mut Suite) {
     compare(suite, &[0x00, 0x01, 0x03, 0x30], 10, 6);
     compare(suite, &[0x00, 0x01, 0x03, 0x10, 0x30], 9, 5);
     compare(suite, &[0x00, 0x01, 0x03, 0x18, 0x20], 9, 5);
+    compare(suite, &[0x00, 0x01, 0x03, 0x18, 0x80], 9, 5);
+    compare(suite, &[0x00, 0x01, 0x03, 0x08, 0x30], 9, 5);
     compare(suite, &[0x00, 0x01, 0x02, 0x03, 0x04, 0x30, 0x32], 7, 4);
 }

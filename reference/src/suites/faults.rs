@@ -15,7 +15,7 @@ fn whole(rule: &'static str) -> Fault {
     Fault { rule, index: None }
 }
 
-/// The rules 4, 5 and 6 that one OBU breaks, each looked at by itself.
+/// The rules 4, 5, 6 and 42 that one OBU breaks, each looked at by itself.
 fn obu_faults(bytes: &[u8], index: usize) -> Vec<Fault> {
     let mut faults = Vec::new();
     let mut add = |rule| {
@@ -28,39 +28,52 @@ fn obu_faults(bytes: &[u8], index: usize) -> Vec<Fault> {
         return faults;
     };
     let header = obu::header(first);
-    let mut rest = &bytes[1..];
-    if header.forbidden || (header.extension && rest.is_empty()) {
+    if header.forbidden || (header.extension && bytes.len() < 2) {
         add("4");
     }
-    if header.extension && !rest.is_empty() {
-        rest = &rest[1..];
-    }
-    let mut size_is_wrong = false;
-    if header.has_size {
-        match obu::leb128(rest) {
-            Err(_) => size_is_wrong = true,
-            Ok(size) => {
-                rest = &rest[size.width..];
-                size_is_wrong = size.value != rest.len() as u64;
-            }
-        }
-    }
-    if size_is_wrong || (header.obu_type == obu::TEMPORAL_DELIMITER && !rest.is_empty()) {
+    let (content, size_is_wrong) = content(bytes);
+    if size_is_wrong || (header.obu_type == obu::TEMPORAL_DELIMITER && !content.is_empty()) {
         add("5");
     }
     if header.obu_type == obu::TILE_LIST {
         add("6");
     }
+    if obu::wrong_content(header.obu_type, content).is_some() {
+        add("42");
+    }
     faults
 }
 
+/// What stands behind an OBU's header, extension byte and size, as far as they are there; and
+/// whether its size is wrong.
+fn content(bytes: &[u8]) -> (&[u8], bool) {
+    let Some((&first, mut rest)) = bytes.split_first() else {
+        return (&[], false);
+    };
+    let header = obu::header(first);
+    if header.extension && !rest.is_empty() {
+        rest = &rest[1..];
+    }
+    if !header.has_size {
+        return (rest, false);
+    }
+    match obu::leb128(rest) {
+        Err(_) => (rest, true),
+        Ok(size) => {
+            rest = &rest[size.width..];
+            (rest, size.value != rest.len() as u64)
+        }
+    }
+}
+
 fn order_is_broken(obus: &[Vec<u8>]) -> bool {
-    let types: Vec<u8> = obus
-        .iter()
-        .filter_map(|obu| obu.first())
-        .map(|&byte| obu::header(byte).obu_type)
-        .collect();
-    order::check(&types).is_err()
+    let mut kinds = Vec::new();
+    for obu in obus {
+        if let Some(&first) = obu.first() {
+            kinds.push(obu::Kind::new(obu::header(first).obu_type, content(obu).0));
+        }
+    }
+    order::check(&kinds).is_err()
 }
 
 /// The rules of reading that a unit breaks, in the order of tries. "2 carried" and "2 sum" are the
@@ -165,14 +178,15 @@ pub fn pairs(what: &str, faults: &[Fault]) -> Vec<String> {
 }
 
 /// The pairs that can stand together, of reading or of writing. `before` and `after` are the rules
-/// of the whole tried before and after the OBUs, `each` those of one OBU; in one OBU 3 stands alone.
+/// of the whole tried before and after the OBUs, `each` those of one OBU; in one OBU 3 stands alone,
+/// and 6 and 42 are of different types.
 pub fn all_pairs(what: &str, before: &[&str], each: &[&str], after: &[&str]) -> Vec<String> {
     let mut labels = Vec::new();
     let order = [before, each, after].concat();
     for (i, first) in order.iter().enumerate() {
         for second in &order[i + 1..] {
             if each.contains(first) && each.contains(second) {
-                if *first != "3" {
+                if *first != "3" && (*first, *second) != ("6", "42") {
                     labels.push(format!("{what}: {first} before {second} in one OBU"));
                 }
             } else {

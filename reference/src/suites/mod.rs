@@ -63,6 +63,7 @@ const UNITS: &[&Definition] = &[
     &write_lengths::SUITE,
     &unit_order::SUITE,
     &unit_headers::SUITE,
+    &unit::content::SUITE,
     &unit_exhaustive::SUITE,
     &walk::SUITE,
     &listing::SUITE,

@@ -2,20 +2,25 @@
 
 use super::leb128::{form, shortest};
 use crate::kit::{Definition, Suite, hex, labels};
-use reference::obu;
-use std::collections::HashSet;
+use reference::obu::{self, Kind};
+use std::collections::HashMap;
 
 pub const SUITE: Definition = Definition {
     name: "obu",
     labels: || {
         let mut list = labels(CONDITIONS);
-        list.extend(labels(&["accepted", "put together", "worked"]));
+        list.extend(labels(&[
+            "accepted",
+            "accepted: shown again",
+            "put together",
+            "worked",
+        ]));
         list
     },
     run,
 };
 
-/// The conditions of 3 to 6, as the check names them.
+/// The conditions of 3 to 6 and 42, as the check names them.
 pub const CONDITIONS: &[&str] = &[
     "3: no bytes",
     "4: forbidden bit",
@@ -27,6 +32,9 @@ pub const CONDITIONS: &[&str] = &[
     "5: size below what remains",
     "5: delimiter with content",
     "6: tile list",
+    "42: sequence header without content",
+    "42: frame header without content",
+    "42: reduced_still_picture_header",
 ];
 
 /// An OBU put together from its parts; `width` is that of the size field, 0 for none.
@@ -66,9 +74,9 @@ pub fn strings(alphabet: &[u8], len: usize) -> Vec<Vec<u8>> {
 }
 
 /// Every OBU of `len` bytes that can be put together with header, extension and content bytes of
-/// the alphabet.
-fn constructed(alphabet: &[u8], len: usize) -> HashSet<Vec<u8>> {
-    let mut all = HashSet::new();
+/// the alphabet, and its kind.
+fn constructed(alphabet: &[u8], len: usize) -> HashMap<Vec<u8>, Kind> {
+    let mut all = HashMap::new();
     for content_len in 0..len {
         let contents = strings(alphabet, content_len);
         for obu_type in 0..16 {
@@ -76,6 +84,10 @@ fn constructed(alphabet: &[u8], len: usize) -> HashSet<Vec<u8>> {
                 continue;
             }
             if obu_type == obu::TEMPORAL_DELIMITER && content_len > 0 {
+                continue;
+            }
+            let with_content = obu_type == obu::SEQUENCE_HEADER || obu_type == obu::FRAME_HEADER;
+            if with_content && content_len == 0 {
                 continue;
             }
             let mut extensions = vec![None];
@@ -93,7 +105,13 @@ fn constructed(alphabet: &[u8], len: usize) -> HashSet<Vec<u8>> {
                         continue;
                     }
                     for content in &contents {
-                        all.insert(build(obu_type, low, extension, width, content));
+                        let kind = match obu_type {
+                            // reduced_still_picture_header
+                            obu::SEQUENCE_HEADER if content[0] / 8 % 2 == 1 => continue,
+                            obu::FRAME_HEADER if content[0] / 128 == 1 => Kind::ShownAgain,
+                            _ => Kind::Type(obu_type),
+                        };
+                        all.insert(build(obu_type, low, extension, width, content), kind);
                     }
                 }
             }
@@ -108,16 +126,17 @@ fn compare(suite: &mut Suite, alphabet: &[u8], len: usize) {
         let got = obu::check(&string, 5);
         let label = match &got {
             Err(refusal) => refusal.condition,
+            Ok(Kind::ShownAgain) => "accepted: shown again",
             Ok(_) => "accepted",
         };
         let passed = match &got {
-            Err(refusal) => !accepted.contains(&string) && refusal.place == 5,
-            Ok(obu_type) => accepted.contains(&string) && *obu_type == (string[0] >> 3) & 15,
+            Err(refusal) => !accepted.contains_key(&string) && refusal.place == 5,
+            Ok(kind) => accepted.get(&string) == Some(kind),
         };
         suite.case(&[label], passed, || format!("{got:?} {}", hex(&string)));
     }
-    for string in accepted {
-        let passed = obu::check(&string, 0).is_ok();
+    for (string, kind) in accepted {
+        let passed = obu::check(&string, 0) == Ok(kind);
         suite.case(&["put together"], passed, || hex(&string));
     }
 }
@@ -128,7 +147,8 @@ fn run(suite: &mut Suite) {
         compare(suite, &every, len);
     }
     let headers = [
-        0x00, 0x01, 0x02, 0x03, 0x10, 0x12, 0x16, 0x32, 0x34, 0x42, 0x80, 0x81, 0x82, 0xB2,
+        0x00, 0x01, 0x02, 0x03, 0x0A, 0x10, 0x12, 0x16, 0x1E, 0x32, 0x34, 0x42, 0x80, 0x81, 0x82,
+        0xB2,
     ];
     for len in 3..=5 {
         compare(suite, &headers, len);
@@ -160,6 +180,19 @@ fn run(suite: &mut Suite) {
         (&[0x44], 4),
         (&[0x42, 0x01], 5),
         (&[], 3),
+        (&[0x08], 42),
+        (&[0x0A, 0x00], 42),
+        (&[0x0C, 0xFF], 42),
+        (&[0x08, 0x08], 42),
+        (&[0x0A, 0x02, 0xF7, 0xFF], 0),
+        (&[0x18], 42),
+        (&[0x1E, 0xFF, 0x80, 0x00], 42),
+        (&[0x18, 0x80], 0),
+        (&[0x88], 4),
+        (&[0x0A, 0x01], 5),
+        // Types 6 and 7 are not looked into.
+        (&[0x30], 0),
+        (&[0x38], 0),
     ] {
         let got = obu::check(bytes, 0);
         let passed = got.as_ref().map_or_else(|refusal| refusal.number, |_| 0) == number;

@@ -45,7 +45,7 @@ impl Caller {
         let closing;
         let label = match &verdict {
             Ok(_) => "accepted",
-            Err(refusal) if refusal.number <= 10 && refusal.number != 8 => {
+            Err(refusal) if [1, 2, 3, 4, 5, 6, 7, 9, 10, 42].contains(&refusal.number) => {
                 closing = format!("closing: {}", refusal.condition);
                 &closing
             }

@@ -1,9 +1,10 @@
 //! Units that are refused when their PES closes: every condition of reading, with its place, closed
 //! by the next start or by the segment's end, and what comes between.
 
+use super::order::KINDS;
 use super::segment::{Caller, closing_labels, wide};
 use super::segment_faults::{AV1, MAP, OTHER, UNLISTED, entries, pat_body, pmt_body, unit};
-use super::unit::{READING, carry};
+use super::unit::{READING, carry, carry_list, shortest_obu};
 use super::unit_refusals::{bad_obus, illegal_payloads};
 use crate::kit::{Definition, Random, Suite, labels};
 use reference::compose::{Load, Packet, Pes, segment};
@@ -32,7 +33,7 @@ pub const SUITE: Definition = Definition {
             "PES of 65,536 bytes and more, length 0",
             "PES length wraps",
         ]));
-        for number in [1, 2, 3, 4, 5, 6, 7, 9, 10] {
+        for number in [1, 2, 3, 4, 5, 6, 7, 9, 10, 42] {
             list.push(format!("32 before {number}"));
         }
         list
@@ -147,9 +148,9 @@ fn run(suite: &mut Suite) {
             one(suite, &mut caller, &mut random, &carry(&list), &[]);
         }
     }
-    // Orders, numbers of OBUs, and no start code.
-    for types in [
-        &[1u8, 2, 6][..],
+    // Orders, numbers of OBUs, and no start code; 16 is a frame shown again.
+    for kinds in [
+        &[1, 2, 6][..],
         &[4],
         &[7, 6],
         &[6, 6],
@@ -162,9 +163,16 @@ fn run(suite: &mut Suite) {
         &[3, 4],
         &[6],
         &[2, 15, 6],
+        &[16],
+        &[2, 1, 16],
+        &[16, 4],
+        &[2, 16, 16],
     ] {
-        let list: Vec<Vec<u8>> = types.iter().map(|obu_type| vec![obu_type * 8]).collect();
-        one(suite, &mut caller, &mut random, &carry(&list), &[]);
+        let list: Vec<Vec<u8>> = kinds
+            .iter()
+            .map(|&kind| shortest_obu(KINDS[kind]))
+            .collect();
+        one(suite, &mut caller, &mut random, &carry_list(&list), &[]);
     }
     for count in [63, 64, 65, 66, 200] {
         let mut list = vec![vec![0x78]; count - 1];

@@ -625,7 +625,9 @@ impl Faults {
             ("5: delimiter with content", &[(3, 0x10)]),
             ("6: tile list", &[(3, 0x42)]),
             ("7: after a frame", &[(3, 0x32)]),
-            ("7: ends before the frame", &[(8, 0x08)]),
+            // AA is content whose fifth bit is 1.
+            ("42: reduced_still_picture_header", &[(8, 0x08)]),
+            ("7: ends before the frame", &[(8, 0x28)]),
         ] {
             if changes.is_empty() && began != START_0 {
                 // The others are too short for so many.

@@ -43,6 +43,7 @@ pub const SUITE: Definition = Definition {
             "5: size above what remains",
             "5: delimiter with content",
             "6: tile list",
+            "42: reduced_still_picture_header",
             "7: after a frame",
             "7: ends before the frame",
         ]));
@@ -55,7 +56,7 @@ pub const SUITE: Definition = Definition {
 /// The pairs that can stand together at one packet: in each list a number comes before those behind
 /// it. 2, of a closing, takes a unit of its length, and 34 its 1,024 units: other suites have them.
 fn pair_labels() -> Vec<String> {
-    let closing: &[u64] = &[1, 3, 4, 5, 6, 7, 9, 10];
+    let closing: &[u64] = &[1, 3, 4, 5, 6, 42, 7, 9, 10];
     let mut orders: Vec<Vec<u64>> = vec![
         vec![21, 22],
         vec![21, 22, 23, 24, 25],

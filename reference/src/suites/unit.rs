@@ -1,11 +1,14 @@
 //! Calls on access units, each compared with the reference, and units to call them with.
 
+pub mod content;
+
 use super::leb128::shortest;
 use super::obu::build;
 use super::payload::{refused, room_label};
 use crate::kit::{Given, Lent, Random, Suite, hex};
 use av1ts::Answer;
 use av1ts::walk::Step;
+use reference::obu::Kind::{self, ShownAgain, Type};
 use reference::unit::{START_CODE, total_bytes, total_dropped};
 use reference::walk::Step::Refused;
 use reference::{payload, unit, walk};
@@ -28,10 +31,14 @@ pub const READING: &[&str] = &[
     "5: size below what remains",
     "5: delimiter with content",
     "6: tile list",
+    "42: sequence header without content",
+    "42: frame header without content",
+    "42: reduced_still_picture_header",
     "2: over 1,048,576 bytes of OBUs",
     "7: delimiter not the first",
     "7: 4 or 7 before a frame header",
     "7: after a frame",
+    "7: after a shown-again frame",
     "7: wrong type after a frame header",
     "7: ends before the frame",
     "7: ends without a last tile group",
@@ -391,9 +398,9 @@ pub fn carry_closed(random: &mut Random, list: &List) -> Vec<u8> {
     carry(&payloads)
 }
 
-/// Types in a legal order, at most `most` of them, which is at least 2.
-pub fn types(random: &mut Random, most: usize) -> Vec<u8> {
-    let mut types = Vec::new();
+/// Kinds in a legal order, at most `most` of them, which is at least 2.
+pub fn kinds(random: &mut Random, most: usize) -> Vec<Kind> {
+    let mut kinds = Vec::new();
     let count = 1 + random.below(most);
     let with_header = count >= 2 && random.one_in(2);
     let frame = if with_header {
@@ -402,21 +409,21 @@ pub fn types(random: &mut Random, most: usize) -> Vec<u8> {
         1
     };
     if count > frame && random.one_in(2) {
-        types.push(2);
+        kinds.push(Type(2));
     }
-    while types.len() + frame < count {
-        types.push(random.pick(&[0, 1, 5, 9, 10, 11, 12, 13, 14, 15]));
+    while kinds.len() + frame < count {
+        kinds.push(Type(random.pick(&[0, 1, 5, 9, 10, 11, 12, 13, 14, 15])));
     }
     if with_header {
-        types.push(3);
-        while types.len() + 1 < count {
-            types.push(random.pick(&[4, 7, 15]));
+        kinds.push(Type(3));
+        while kinds.len() + 1 < count {
+            kinds.push(Type(random.pick(&[4, 7, 15])));
         }
-        types.push(4);
+        kinds.push(Type(4));
     } else {
-        types.push(6);
+        kinds.push(random.pick(&[Type(6), Type(6), ShownAgain]));
     }
-    types
+    kinds
 }
 
 /// Content bytes, rich in bytes 0 to 3.
@@ -429,10 +436,31 @@ pub fn content(random: &mut Random, len: usize) -> Vec<u8> {
     }
 }
 
-/// A legal OBU of a type with some content: with and without size, extension and longer forms. A
-/// delimiter gets none.
-pub fn any_obu(random: &mut Random, obu_type: u8, content: &[u8]) -> Vec<u8> {
-    let content = if obu_type == 2 { &[] } else { content };
+/// The content, made right for a kind: a delimiter has none, sequence and frame headers have some
+/// and the bit that decides.
+pub fn right_content(kind: Kind, mut content: Vec<u8>) -> Vec<u8> {
+    if matches!(kind, Type(1 | 3) | ShownAgain) && content.is_empty() {
+        content.push(0);
+    }
+    match kind {
+        Type(1) => content[0] &= !0x08,
+        Type(2) => content.clear(),
+        Type(3) => content[0] &= 0x7F,
+        ShownAgain => content[0] |= 0x80,
+        Type(_) => {}
+    }
+    content
+}
+
+/// The shortest OBU of a kind: a header, and a byte of content where there must be one.
+pub fn shortest_obu(kind: Kind) -> Vec<u8> {
+    build(kind.obu_type(), 0, None, 0, &right_content(kind, vec![]))
+}
+
+/// A legal OBU of a kind with some content, made right for it: with and without size, extension and
+/// longer forms.
+pub fn any_obu(random: &mut Random, kind: Kind, content: Vec<u8>) -> Vec<u8> {
+    let content = right_content(kind, content);
     let low = random.below(2) as u8;
     let extension = if random.one_in(3) {
         Some(random.next() as u8)
@@ -445,16 +473,16 @@ pub fn any_obu(random: &mut Random, obu_type: u8, content: &[u8]) -> Vec<u8> {
         1 => least + random.below(9 - least),
         _ => least,
     };
-    build(obu_type, low, extension, width, content)
+    build(kind.obu_type(), low, extension, width, &content)
 }
 
 /// A legal list of up to `most` OBUs, each with up to `longest` content bytes.
 pub fn any_list(random: &mut Random, most: usize, longest: usize) -> List {
     let mut list = Vec::new();
-    for obu_type in types(random, most) {
+    for kind in kinds(random, most) {
         let len = random.below(longest + 1);
         let content = content(random, len);
-        list.push(any_obu(random, obu_type, &content));
+        list.push(any_obu(random, kind, content));
     }
     list
 }

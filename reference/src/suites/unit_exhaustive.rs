@@ -22,6 +22,12 @@ pub const SUITE: Definition = Definition {
             "5: size below what remains",
             "5: delimiter with content",
             "6: tile list",
+            "42: sequence header without content",
+            "42: frame header without content",
+            "42: reduced_still_picture_header",
+            "7: after a shown-again frame",
+            "7: wrong type after a frame header",
+            "7: ends without a last tile group",
             "7: after a frame",
             "7: ends before the frame",
             "9: no start code at the head",
@@ -62,4 +68,6 @@ fn run(suite: &mut Suite) {
     );
     every(suite, &START_CODE, &[0, 1, 3, 0x12, 0x32], 7);
     every(suite, &START_CODE, &[0, 1, 3, 0x30], 8);
+    every(suite, &START_CODE, &[0, 1, 0x18, 0x20, 0x80], 7);
+    every(suite, &START_CODE, &[0, 1, 8, 0x0A, 0x18, 0x30], 6);
 }

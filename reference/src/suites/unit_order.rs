@@ -1,7 +1,9 @@
-//! All lists of types up to length 4, and of one type of each sort up to length 5, as tiny OBUs.
+//! All lists of kinds up to length 5, as the shortest OBUs of their kinds.
 
-use super::unit::{Caller, List, carry, lengths};
+use super::order::KINDS;
+use super::unit::{Caller, List, carry_list, kinds, lengths, shortest_obu};
 use crate::kit::{Definition, Random, Suite, labels};
+use reference::obu::Kind::{self, ShownAgain, Type};
 use reference::order;
 
 pub const SUITE: Definition = Definition {
@@ -19,49 +21,49 @@ pub const SUITE: Definition = Definition {
     run,
 };
 
-fn one(suite: &mut Suite, caller: &mut Caller, types: &[u8], more: &[&str]) {
-    let list: List = types.iter().map(|obu_type| vec![obu_type * 8]).collect();
-    caller.check(suite, &carry(&list), more);
-    caller.write(suite, &list.concat(), &lengths(&list), 4 * list.len(), more);
-}
-
-/// Every list of a length over some types.
-fn every(suite: &mut Suite, caller: &mut Caller, of: &[u8], len: u32) {
-    for index in 0..of.len().pow(len) {
-        let mut rest = index;
-        let mut types = Vec::new();
-        for _ in 0..len {
-            types.push(of[rest % of.len()]);
-            rest /= of.len();
-        }
-        one(suite, caller, &types, &[]);
-    }
+fn one(suite: &mut Suite, caller: &mut Caller, kinds: &[Kind], more: &[&str]) {
+    let list: List = kinds.iter().map(|&kind| shortest_obu(kind)).collect();
+    let carried = carry_list(&list);
+    caller.check(suite, &carried, more);
+    let room = carried.len();
+    caller.write(suite, &list.concat(), &lengths(&list), room, more);
 }
 
 fn run(suite: &mut Suite) {
     let mut caller = Caller::default();
-    let all: Vec<u8> = (0..16).collect();
-    for len in 1..=4 {
-        every(suite, &mut caller, &all, len);
+    for len in 1..=5 {
+        for index in 0..KINDS.len().pow(len) {
+            let mut rest = index;
+            let mut list = Vec::new();
+            for _ in 0..len {
+                list.push(KINDS[rest % KINDS.len()]);
+                rest /= KINDS.len();
+            }
+            one(suite, &mut caller, &list, &[]);
+        }
     }
-    every(suite, &mut caller, &[0, 1, 2, 3, 4, 6, 7, 8, 9, 15], 5);
 
-    // Long lists: legal ones with up to two types changed, left out or put in.
+    // Long lists: legal ones with up to two kinds changed, left out or put in.
     let mut random = Random::new(8);
+    let others = [0, 1, 2, 3, 4, 5, 6, 7, 9, 14, 15].map(Type);
     for _ in 0..20_000 {
-        let mut types = super::unit::types(&mut random, 64);
+        let mut list = kinds(&mut random, 64);
         for _ in 0..random.below(3) {
-            let place = random.below(types.len());
-            let other = random.pick(&[0, 1, 2, 3, 4, 5, 6, 7, 9, 14, 15]);
+            let place = random.below(list.len());
+            let other = if random.one_in(8) {
+                ShownAgain
+            } else {
+                random.pick(&others)
+            };
             match random.below(3) {
-                0 => types[place] = other,
-                1 if types.len() < 64 => types.insert(place, other),
-                _ if types.len() > 1 => {
-                    types.remove(place);
+                0 => list[place] = other,
+                1 if list.len() < 64 => list.insert(place, other),
+                _ if list.len() > 1 => {
+                    list.remove(place);
                 }
                 _ => {}
             }
         }
-        one(suite, &mut caller, &types, &["long list"]);
+        one(suite, &mut caller, &list, &["long list"]);
     }
 }

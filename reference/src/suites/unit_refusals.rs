@@ -2,7 +2,8 @@
 //! two rules gives the one tried earlier.
 
 use super::faults::{self, all_pairs, pairs};
-use super::unit::{Caller, List, READING, carry, lengths};
+use super::order::KINDS;
+use super::unit::{Caller, List, READING, carry, carry_list, lengths, shortest_obu};
 use crate::kit::{Definition, Suite, labels};
 use reference::unit::{MOST_BYTES, MOST_CARRIED};
 
@@ -17,7 +18,7 @@ pub const SUITE: Definition = Definition {
             "check: accepted",
             "read: accepted",
         ]));
-        let each = ["3", "10", "4", "5", "6"];
+        let each = ["3", "10", "4", "5", "6", "42"];
         list.extend(all_pairs(
             "reading",
             &["2 carried", "9", "1"],
@@ -27,7 +28,7 @@ pub const SUITE: Definition = Definition {
         list.extend(all_pairs(
             "writing",
             &["1", "2"],
-            &["3", "4", "5", "6"],
+            &["3", "4", "5", "6", "42"],
             &["7", "8"],
         ));
         list
@@ -74,6 +75,28 @@ pub fn bad_obus() -> List {
         vec![0x41, 0xAA],
         vec![0x42, 0x01, 0xAA],
         vec![0x44, 0x55],
+        // 42
+        vec![0x08],
+        vec![0x0A, 0x00],
+        vec![0x0E, 0x55, 0x00],
+        vec![0x18],
+        vec![0x1A, 0x80, 0x00],
+        vec![0x1C, 0x55],
+        vec![0x08, 0x08],
+        vec![0x0A, 0x02, 0x18, 0xAA],
+        vec![0x0C, 0x55, 0x2F],
+        // 4 and 42
+        vec![0x88],
+        vec![0x98],
+        vec![0x0C],
+        vec![0x88, 0xFF],
+        // 5 and 42
+        vec![0x0A],
+        vec![0x0A, 0x01],
+        vec![0x1A, 0x01],
+        vec![0x0A, 0x01, 0x08, 0x08],
+        // 4, 5 and 42
+        vec![0x8A, 0x05],
         // 4 and 5
         vec![0xB2, 0x09],
         vec![0x36],
@@ -102,6 +125,7 @@ pub fn illegal_payloads() -> List {
         &[0x32, 0x09],
         &[0x40],
         &[0xC2, 0x09],
+        &[0x08, 0x08],
         &[],
     ] {
         for end in [
@@ -263,6 +287,9 @@ fn run(suite: &mut Suite) {
         &[0x32, 0x02, 0xAA],
         &[0x10, 0xAA],
         &[0x40],
+        &[0x08],
+        &[0x18],
+        &[0x08, 0x08],
     ];
     for payload in &one_of_each {
         let before = vec![payload.to_vec(), large.clone(), frame()];
@@ -280,7 +307,9 @@ fn run(suite: &mut Suite) {
         vec![large.clone(), frame(), frame()],
         vec![frame(), large.clone()],
         vec![large.clone(), vec![0x10], frame()],
-        vec![large.clone(), vec![0x18]],
+        vec![large.clone(), vec![0x18, 0x00]],
+        vec![large.clone(), vec![0x18, 0x80]],
+        vec![vec![0x18, 0x80], large.clone()],
         vec![large.clone(), vec![0x20]],
         vec![large],
     ] {
@@ -306,9 +335,9 @@ fn run(suite: &mut Suite) {
         reading(suite, &mut caller, &vec![0x77; total]);
     }
 
-    // Order, by each condition, with OBUs that are right in themselves.
-    for types in [
-        &[1u8, 2, 6][..],
+    // Order, by each condition, with OBUs that are right in themselves; 16 is a frame shown again.
+    for kinds in [
+        &[1, 2, 6][..],
         &[2, 2, 6],
         &[4],
         &[7, 6],
@@ -330,9 +359,20 @@ fn run(suite: &mut Suite) {
         &[3, 4],
         &[6],
         &[2, 15, 6],
+        &[16],
+        &[2, 1, 16],
+        &[16, 4],
+        &[16, 16],
+        &[16, 15],
+        &[2, 16, 2],
+        &[3, 16],
+        &[6, 16],
     ] {
-        let list: List = types.iter().map(|obu_type| vec![obu_type * 8]).collect();
-        reading(suite, &mut caller, &carry(&list));
+        let list: List = kinds
+            .iter()
+            .map(|&kind| shortest_obu(KINDS[kind]))
+            .collect();
+        reading(suite, &mut caller, &carry_list(&list));
         writing(suite, &mut caller, &list.concat(), &lengths(&list));
     }
 

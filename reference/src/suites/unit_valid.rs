@@ -2,9 +2,11 @@
 
 use super::payload::rooms;
 use super::unit::{
-    Caller, List, any_list, any_obu, carry_closed, carry_list, content, lengths, types,
+    Caller, List, any_list, any_obu, carry_closed, carry_list, content, kinds, lengths,
+    right_content,
 };
 use crate::kit::{Definition, Random, Suite, labels};
+use reference::obu::{self, Kind::ShownAgain};
 use reference::unit;
 
 pub const SUITE: Definition = Definition {
@@ -31,6 +33,7 @@ pub const SUITE: Definition = Definition {
             "extension byte",
             "no size",
             "1,048,576 bytes in all",
+            "shown-again frame",
         ])
     },
     run,
@@ -46,6 +49,9 @@ fn features(list: &List) -> Vec<&'static str> {
     }
     if list.concat().len() == unit::MOST_BYTES {
         labels.push("1,048,576 bytes in all");
+    }
+    if obu::check(&list[list.len() - 1], 0) == Ok(ShownAgain) {
+        labels.push("shown-again frame");
     }
     for obu in list {
         let size_at = if obu[0] & 4 != 0 { 2 } else { 1 };
@@ -90,25 +96,25 @@ fn one(suite: &mut Suite, caller: &mut Caller, random: &mut Random, list: &List)
 
 /// A list of exactly the given number of bytes in all.
 fn list_of(random: &mut Random, most: usize, total: usize) -> List {
-    let types = types(random, most);
+    let kinds = kinds(random, most);
     let mut left = total;
     let mut list = Vec::new();
-    for (index, &obu_type) in types.iter().enumerate() {
-        let last = index + 1 == types.len();
+    for (index, &kind) in kinds.iter().enumerate() {
+        let last = index + 1 == kinds.len();
         let len = if last {
             left - 1
         } else {
             // Header, extension and size take at most 10 bytes; 100 are kept for the others.
-            random.length((left - 100 * (types.len() - index)).max(1))
+            random.length((left - 100 * (kinds.len() - index)).max(1))
         };
         let content = content(random, len);
         // The last has neither extension nor size, and so the length that is left.
         let obu = if last {
-            let mut obu = vec![obu_type * 8];
-            obu.extend(content);
+            let mut obu = vec![kind.obu_type() * 8];
+            obu.extend(right_content(kind, content));
             obu
         } else {
-            any_obu(random, obu_type, &content)
+            any_obu(random, kind, content)
         };
         left -= obu.len();
         list.push(obu);

@@ -5,7 +5,7 @@ use borrow.Author.Needs.{needs}
 use borrow.Author.Tests.{eq-eqb, ne-eqb}
 use Rattle.refusal.specs.Verdict.{passed}
 use Rattle.refusal.proofs.Verdicts.{refuse, pass-on, go-on, stop}
-use Rattle.obu.specs.Header.{headerOf, sizeWrong, delimiterWithContent, judged, judgedSays}
+use Rattle.obu.specs.Header.{headerOf, sizeWrong, delimiterWithContent, contentMissing, judged, judgedSays}
 use Rattle.obu.proofs.header.judge.Statement.{statement}
 use Rattle.obu.proofs.header.judge.Tie as tie
 
@@ -25,6 +25,12 @@ no-content : (c : tie.Else2)
     → delimiterWithContent (c .before .before .before .before .before .read .given .0 .0)
     (c .before .before .before .before .before .before .before .before .before .args .bytes) ≡ false
 no-content c = sym (c .before .delimiter-with-content .ensures) ∙ c .if2 .left
+
+-- it is of no sequence header or frame header without content
+some-content : (c : tie.Else4)
+    → contentMissing (c .before .before .before .before .before .before .before .before .before .read .given .0 .0)
+    (c .before .before .before .before .before .before .before .before .before .before .before .before .before .args .bytes) ≡ false
+some-content c = sym (c .before .content-missing .ensures) ∙ c .if4 .left
 
 read-header-requires : tie.Need-read-header-requires
 read-header-requires c κs = search needs
@@ -80,13 +86,48 @@ returns-4 c =
     (pass-on 5 (no-content (c .before .before .before))
     (refuse 6 _ (eq-eqb _ _ (c .before .if3 .taken)))))
 
+content-missing-requires : tie.Need-content-missing-requires
+content-missing-requires c κs = search needs
+
+refuse-requires-4 : tie.Need-refuse-requires-4
+refuse-requires-4 c κs = search needs
+
 returns-5 : tie.Need-returns-5
 unfolding judged
 returns-5 c =
-    go-on _ _ (header-was (c .before .before .before .before .before .before))
-    (pass-on 5 (size-right (c .before .before .before .before))
-    (pass-on 5 (no-content (c .before .before))
-    (pass-on 6 (ne-eqb _ _ (c .if3 .left)) refl)))
+    c .refuse4 .ensures
+    ∙ go-on _ _ (header-was (c .before .before .before .before .before .before .before .before .before))
+    (pass-on 5 (size-right (c .before .before .before .before .before .before .before))
+    (pass-on 5 (no-content (c .before .before .before .before .before))
+    (pass-on 6 (ne-eqb _ _ (c .before .before .before .if3 .left))
+    (refuse 42 _ (sym (c .before .before .content-missing .ensures) ∙ c .before .if4 .taken)))))
+
+reduced-still-requires : tie.Need-reduced-still-requires
+reduced-still-requires c κs = search needs
+
+refuse-requires-5 : tie.Need-refuse-requires-5
+refuse-requires-5 c κs = search needs
+
+returns-6 : tie.Need-returns-6
+unfolding judged
+returns-6 c =
+    c .refuse5 .ensures
+    ∙ go-on _ _ (header-was (c .before .before .before .before .before .before .before .before .before .before .before))
+    (pass-on 5 (size-right (c .before .before .before .before .before .before .before .before .before))
+    (pass-on 5 (no-content (c .before .before .before .before .before .before .before))
+    (pass-on 6 (ne-eqb _ _ (c .before .before .before .before .before .if3 .left))
+    (pass-on 42 (some-content (c .before .before .before))
+    (refuse 42 _ (sym (c .before .before .reduced-still .ensures) ∙ c .before .if5 .taken))))))
+
+returns-7 : tie.Need-returns-7
+unfolding judged
+returns-7 c =
+    go-on _ _ (header-was (c .before .before .before .before .before .before .before .before .before .before))
+    (pass-on 5 (size-right (c .before .before .before .before .before .before .before .before))
+    (pass-on 5 (no-content (c .before .before .before .before .before .before))
+    (pass-on 6 (ne-eqb _ _ (c .before .before .before .before .if3 .left))
+    (pass-on 42 (some-content (c .before .before))
+    (pass-on 42 (sym (c .before .reduced-still .ensures) ∙ c .if5 .left) refl)))))
 
 pub judge-spec : {M : Type 1} → statement M
 judge-spec =
@@ -104,4 +145,10 @@ judge-spec =
     returns-3
     refuse-requires-3
     returns-4
-    returns-5)
+    content-missing-requires
+    refuse-requires-4
+    returns-5
+    reduced-still-requires
+    refuse-requires-5
+    returns-6
+    returns-7)

@@ -13,5 +13,8 @@ returns-2 c = rw head-types (search ways)
 returns-3 : tie.Need-returns-3
 returns-3 c = rw head-types (search ways)
 
+returns-4 : tie.Need-returns-4
+returns-4 c = rw head-types (search ways)
+
 pub head-type-spec : {M : Type 1} → statement M
-head-type-spec = tie.close (tie.spec returns returns-2 returns-3)
+head-type-spec = tie.close (tie.spec returns returns-2 returns-3 returns-4)

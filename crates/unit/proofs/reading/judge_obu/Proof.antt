@@ -1,4 +1,4 @@
--- The header lies in the first ten bytes of the OBU; these, unescaped, and the OBU's length decide as the whole OBU does.
+-- What an OBU is judged from lies in its first eleven bytes; these, unescaped, and the OBU's length decide as the whole OBU does.
 use borrow.Author.Needs.{needs}
 use native.Mathlib.Omega.{arith}
 use mathlib.Core.Path.{sym, ap, _∙_}
@@ -12,7 +12,7 @@ use Rattle.unit.proofs.reading.judge_obu.Tie as tie
 
 -- the array, as it is made
 abbrev zeros : Bytes
-zeros = replicate 10 0
+zeros = replicate 11 0
 
 sub-length : tie.Need-sub-length
 sub-length c = omega (arith, given-or-dropped (c .before .args .payload .now))
@@ -50,7 +50,7 @@ returns c =
     let p = start .args .payload .now in
     let e = c .before .before .before .before .before .before .unescape-prefix .ensures in
     let j = c .before .before .before .judge .ensures
-    ∙ judged-short (unescape p) _ _ 10 (omega arith) (first-bytes (unescape p) zeros _ _ (e .0) (e .1) .1)
+    ∙ judged-short (unescape p) _ _ 11 (omega arith) (first-bytes (unescape p) zeros _ _ (e .0) (e .1) .1)
     (omega (arith, start .pre, given-or-dropped p)) in
     figures-refused p _ _ j (c .before .judged .given .1)
 
@@ -63,7 +63,7 @@ returns-2 c =
     let p = start .args .payload .now in
     let e = c .before .before .before .before .before .before .before .unescape-prefix .ensures in
     let j = c .before .before .before .before .judge .ensures
-    ∙ judged-short (unescape p) _ _ 10 (omega arith) (first-bytes (unescape p) zeros _ _ (e .0) (e .1) .1)
+    ∙ judged-short (unescape p) _ _ 11 (omega arith) (first-bytes (unescape p) zeros _ _ (e .0) (e .1) .1)
     (omega (arith, start .pre, given-or-dropped p)) in
     figures-passed p _ _ _ j (c .before .before .judged2 .given .1) (start .pre) _ (c .kind-number .ensures)
 
