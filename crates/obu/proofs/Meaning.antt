@@ -229,7 +229,7 @@ with-first first l f h =
       whole = ap (λ (s : List Kind). first ++ s) (h .4) ∙ sym (append-assoc first (h .0) (h .1));
     }
 
-order-legal : (l : List Kind) → orderRefusal l ≡ passed tt → OrderLegal l
+pub order-legal : (l : List Kind) → orderRefusal l ≡ passed tt → OrderLegal l
 order-legal [] e = with-first [] [] (inl refl) (before-legal 0 [] (unfold orderRefusal in e))
 order-legal (k ∷ s) e =
     case (is k temporalDelimiter)
@@ -273,7 +273,7 @@ first-fine : (first l : List Kind) → (first ≡ []) ⊎ (first ≡ temporalDel
 first-fine first l (inl e) h = rw e (passes-too l (h 0))
 first-fine first l (inr e) h = rw e (delimited temporalDelimiter l refl ∙ h 1)
 
-legal-order : (l : List Kind) → OrderLegal l → orderRefusal l ≡ passed tt
+pub legal-order : (l : List Kind) → OrderLegal l → orderRefusal l ≡ passed tt
 legal-order l h =
     ap orderRefusal (h .whole ∙ append-assoc (h .first) (h .head) (h .last))
     ∙ first-fine (h .first) (h .head ++ h .last) (h .first-part) (λ i. head-fine i (h .head) (h .last) (h .head-part) (h .last-part))
