@@ -14,3 +14,4 @@ pub mod Checking
 pub mod Rests
 pub mod Tries
 pub mod Writings
+pub mod LateTuning

@@ -137,12 +137,12 @@ pub codes-no : (place a : ℕ) (s : Bytes) → atStartCode (a ∷ s) ≡ false �
 unfolding startCodesFrom
 codes-no place a s e = rw (e, startCodesFrom)
 
-second-no : (s : Bytes) → atStartCode (0 ∷ 1 ∷ s) ≡ false
+pub second-no : (s : Bytes) → atStartCode (0 ∷ 1 ∷ s) ≡ false
 unfolding atStartCode
 second-no [] = refl
 second-no (b ∷ s) = refl
 
-third-no : (s : Bytes) → atStartCode (1 ∷ s) ≡ false
+pub third-no : (s : Bytes) → atStartCode (1 ∷ s) ≡ false
 unfolding atStartCode
 third-no [] = refl
 third-no (a ∷ []) = refl

@@ -68,7 +68,7 @@ unfolding judged headerOf given pick _>>_ _>>=_
 empty-refused e = let z : _≡_ {A = ℕ} 0 1 = cc in omega arith
 
 -- an OBU that passes has a byte
-obu-some : (b : Bytes) → obuRefusal b ≡ passed tt → 1 ≤ length b
+pub obu-some : (b : Bytes) → obuRefusal b ≡ passed tt → 1 ≤ length b
 obu-some [] e = absurd (empty-refused e)
 obu-some (x ∷ b) e = omega arith
 

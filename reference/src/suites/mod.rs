@@ -66,6 +66,7 @@ const UNITS: &[&Definition] = &[
     &unit::content::SUITE,
     &unit_exhaustive::SUITE,
     &walk::SUITE,
+    &walk::late::SUITE,
     &listing::SUITE,
 ];
 

@@ -1,6 +1,8 @@
 //! Walks: over units that are refused elsewhere, from every place, and from places that no walk
 //! reaches.
 
+pub mod late;
+
 use super::unit::{Caller, any_list, carry, carry_closed};
 use crate::kit::{Definition, Random, Suite, labels};
 use reference::unit::{MOST_CARRIED, start_codes};
