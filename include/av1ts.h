@@ -13,6 +13,10 @@
 #include <stddef.h>
 #include <stdint.h>
 
+/* The version of this interface. It goes up by one where a function changes what it takes or a struct grows at its end: a program that was built with
+ * another version of this header is to be built anew. CHANGELOG.md says what changed. */
+#define AV1TS_VERSION 2
+
 #ifdef __cplusplus
 extern "C" {
 #endif
@@ -72,9 +76,18 @@ typedef struct {
  * Refuses: 40 not six bytes, tag or length wrong, marker or version not 1, the reserved bit set, or the low four bits not zero where no delay is present. */
 av1ts_descriptor av1ts_read_descriptor(const uint8_t *bytes, size_t bytes_len);
 
-/* The six bytes of a video descriptor. field: ten bytes, in descriptor order. With delay_present 0 the delay is written as four zeros, and its value is not looked at.
- * count: the bytes written. Refuses: 41 a field past its width, also delay_present above 1; 8 the output is too short. */
-av1ts_answer av1ts_write_descriptor(const uint8_t field[10], uint8_t delay_present, uint8_t delay, uint8_t *out, size_t out_len);
+/* The six bytes of a video descriptor. field: ten bytes, in descriptor order. The delay is written as absent, with four zeros. count: the bytes written.
+ * Refuses: 41 a field past its width; 8 the output is too short. */
+av1ts_answer av1ts_write_descriptor(const uint8_t field[10], uint8_t *out, size_t out_len);
+
+/* count: the bytes written. dropped_delay 1: the descriptor had a delay, which is not written; 0: it had none, and the bytes written are those lent. */
+typedef struct {
+    uint64_t number, place, count, dropped_delay;
+} av1ts_rewritten;
+
+/* A video descriptor read, as by av1ts_read_descriptor, and its fields written, as by av1ts_write_descriptor.
+ * Refuses: 40 as reading does; 8 the output is too short. */
+av1ts_rewritten av1ts_rewrite_descriptor(const uint8_t *bytes, size_t bytes_len, uint8_t *out, size_t out_len);
 
 /* What an accepted segment has: its program number, the PID of its AV1 stream, its access units, and its packets in five classes. */
 typedef struct {

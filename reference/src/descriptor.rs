@@ -51,10 +51,6 @@ pub const CONDITIONS_40: &[&str] = &[
     "40: low four bits with no delay",
 ];
 
-/// The conditions of 41 that are not by a field of `FIELDS`.
-pub const PRESENT_PAST: &str = "41: delay_present past its width";
-pub const DELAY_PAST: &str = "41: delay past its width";
-
 /// A video descriptor's values.
 #[derive(Clone, Copy, Debug, PartialEq, Eq)]
 pub struct Video {
@@ -114,14 +110,9 @@ pub fn read(bytes: &[u8]) -> Result<Video, Refusal> {
     Ok(Video { fields, delay })
 }
 
-/// "Writing puts marker and version itself; a delay given as absent is written as four zeros and its
-/// value not looked at; 41 comes before 8." A delay_present above 1 is 41.
-pub fn write(
-    fields: &[u8; 10],
-    delay_present: u8,
-    delay: u8,
-    room: usize,
-) -> Result<[u8; 6], Refusal> {
+/// "Writing puts marker and version itself"; of the delay it "writes absent with four zeros"; "41
+/// comes before 8".
+pub fn write(fields: &[u8; 10], room: usize) -> Result<[u8; 6], Refusal> {
     let mut bits: u32 = 0;
     let mut put = |value: u8, width: u32| bits = bits << width | u32::from(value);
     put(1, 1);
@@ -132,18 +123,30 @@ pub fn write(
         }
         put(value, field.width);
     }
+    // The reserved bit, initial_presentation_delay_present, and four zeros.
     put(0, 1);
-    if delay_present > 1 {
-        return Err(Refusal::new(41, 0, PRESENT_PAST));
-    }
-    put(delay_present, 1);
-    if delay_present == 1 && delay > 15 {
-        return Err(Refusal::new(41, 0, DELAY_PAST));
-    }
-    put(if delay_present == 1 { delay } else { 0 }, 4);
+    put(0, 1);
+    put(0, 4);
     if room < 6 {
         return Err(Refusal::new(8, 0, OUTPUT_TOO_SHORT));
     }
     let [a, b, c, d] = bits.to_be_bytes();
     Ok([VIDEO_TAG, VIDEO_LENGTH, a, b, c, d])
+}
+
+/// What a rewrite gives.
+#[derive(Clone, Copy, Debug, PartialEq, Eq)]
+pub struct Rewritten {
+    pub bytes: [u8; 6],
+    /// "a rewrite says that it dropped one exactly where one was present"
+    pub dropped_delay: bool,
+}
+
+/// Reading, then writing: it tries 40, then 8.
+pub fn rewrite(bytes: &[u8], room: usize) -> Result<Rewritten, Refusal> {
+    let video = read(bytes)?;
+    Ok(Rewritten {
+        bytes: write(&video.fields, room)?,
+        dropped_delay: video.delay.is_some(),
+    })
 }

@@ -1,11 +1,10 @@
--- The C structs, for each verdict. Number 0 says that nothing was refused; in a refusal every field but number and place is 0, but that of a walk's step says
--- that it stays. Assumes nothing.
+-- The C structs, for each verdict. Number 0 says that nothing was refused; in a refusal every field but number and
+-- place is 0, but that of a walk's step says that it stays. Assumes nothing.
 use Prim.Native.Nat.{ℕ}
 use mathlib.Core.List.{List, [], _∷_}
-use lib.Dec.{eqb, ltb}
-use Rattle.lists.specs.Lists.{Bytes, pick}
+use Rattle.lists.specs.Lists.{Bytes}
 use Rattle.lists.specs.Bytes.{byte}
-use Rattle.refusal.specs.Verdict.{Verdict, passed, refused, _>>_, given}
+use Rattle.refusal.specs.Verdict.{Verdict, passed, refused}
 use Rattle.emulation.specs.declared.unescaping.Counts.{Counts as UnescapedCounts}
 use Rattle.unit.specs.declared.reading.Counts.{Counts as UnitCounts}
 use Rattle.unit.specs.Walk.{Found, payload, end}
@@ -13,7 +12,6 @@ use Rattle.descriptor.specs.declared.fields.Fields.{Fields}
 use Rattle.descriptor.specs.declared.fields.Delay.{Delay}
 use Rattle.descriptor.specs.declared.fields.Delay.the-variants.{Absent, Present}
 use Rattle.descriptor.specs.declared.fields.Video.{Video}
-use Rattle.descriptor.specs.Descriptor.{writing}
 use Rattle.segment.specs.declared.whole.Summary.{Summary}
 use Rattle.av1ts.specs.declared.answer.Answer.{Answer}
 use Rattle.av1ts.specs.declared.segments.SegmentAnswer.{SegmentAnswer}
@@ -73,9 +71,15 @@ videoAnswer f (Present n) = record { number = 0; place = 0; field = fieldList f;
 abbrev pub descriptorAnswer : Verdict Video → VideoDescriptor
 descriptorAnswer (passed v) = videoAnswer (v .fields) (v .delay)
 descriptorAnswer (refused number place) =
-    record { number = number; place = place; field = 0 ∷ 0 ∷ 0 ∷ 0 ∷ 0 ∷ 0 ∷ 0 ∷ 0 ∷ 0 ∷ 0 ∷ []; «delay_present» = 0; delay = 0 }
+    record {
+      number = number;
+      place = place;
+      field = 0 ∷ 0 ∷ 0 ∷ 0 ∷ 0 ∷ 0 ∷ 0 ∷ 0 ∷ 0 ∷ 0 ∷ [];
+      «delay_present» = 0;
+      delay = 0;
+    }
 
--- what is handed in for writing: the fields in descriptor order, and a delay that is looked at only where «delay_present» is 1
+-- what is handed in for writing: the fields in descriptor order
 abbrev pub fieldsFrom : Bytes → Fields
 fieldsFrom field =
     record {
@@ -90,15 +94,6 @@ fieldsFrom field =
       «chroma_sample_position» = byte field 8;
       «hdr_wcg_idc» = byte field 9;
     }
-
-unfoldable pub delayFrom : ℕ → ℕ → Delay
-delayFrom present delay = pick (eqb present 1) (Present delay) Absent
-
--- 41: «delay_present» has one bit, so it is "past its width" above 1; then as writing has it
-unfoldable pub writingFrom : Bytes → ℕ → ℕ → ℕ → Verdict ℕ
-writingFrom field present delay room = do
-  given 41 (ltb 1 present)
-  writing (fieldsFrom field) (delayFrom present delay) room
 
 -- ---- a segment
 -- what acceptance gives

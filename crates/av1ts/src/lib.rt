@@ -1,7 +1,9 @@
-// The C interface. include/av1ts.h says of each function what it refuses and what it leaves; a slice is passed as a pointer and a length.
+// The C interface. include/av1ts.h says of each function what it refuses and what it leaves; a slice is passed as a
+// pointer and a length.
 mod access_unit;
 mod answer;
 mod payload;
+mod rewriting;
 mod segments;
 mod video_descriptor;
 mod walk;
@@ -12,6 +14,8 @@ pub use access_unit::av1ts_write_unit;
 pub use answer::Answer;
 pub use payload::av1ts_escape;
 pub use payload::av1ts_unescape;
+pub use rewriting::RewriteAnswer;
+pub use rewriting::av1ts_rewrite_descriptor;
 pub use segments::SegmentAnswer;
 pub use segments::av1ts_check_segment;
 pub use video_descriptor::VideoDescriptor;

@@ -2,16 +2,14 @@
 ghost use mathlib.Core.Path.{_≡_};
 ghost use lib.ListN.{length};
 ghost use Rattle.refusal.specs.Verdict.{leaves};
-ghost use Rattle.descriptor.specs.Descriptor.{descriptorOf, reading};
-ghost use Rattle.av1ts.specs.Answers.{countAnswer, fieldList, videoAnswer, descriptorAnswer, fieldsFrom, delayFrom, writingFrom};
+ghost use Rattle.descriptor.specs.Descriptor.{descriptorOf, reading, writing};
+ghost use Rattle.av1ts.specs.Answers.{countAnswer, fieldList, videoAnswer, descriptorAnswer, fieldsFrom};
 use crate::answer::Answer;
 use crate::answer::refusal;
 use descriptor::Delay;
 use descriptor::Fields;
 use descriptor::VideoRead;
 use descriptor::Written;
-use refusal::Refusal;
-use refusal::Refused;
 
 // The ten fields, in descriptor order; delay_present 1: the delay is present.
 #[repr(C)]
@@ -106,33 +104,14 @@ fn fields_from(field: &[u8; 10]) -> Fields
     }
 }
 
-// The delay, which is looked at only where it is present.
-fn delay_from(delay_present: u8, delay: u8) -> Delay
-    ensures { λ r. ⌜ r ≡ delayFrom «delay_present» delay ⌝ }
-{
-    if delay_present == 1 {
-        return Delay::Present(delay);
-    }
-    Delay::Absent
-}
-
 #[no_mangle]
-pub extern "C" fn av1ts_write_descriptor(
-    field: &[u8; 10],
-    delay_present: u8,
-    delay: u8,
-    out: &mut [u8],
-) -> Answer
-    ensures { λ r. ⌜ r ≡ countAnswer (writingFrom (now (field .entry)) «delay_present» delay (length (now (out .entry)))) ⌝ }
-    ensures { λ r. ⌜ now (out .exit) ≡ leaves (writingFrom (now (field .entry)) «delay_present» delay (length (now (out .entry)))) (descriptorOf (fieldsFrom (now (field .entry))) (delayFrom «delay_present» delay)) (now (out .entry)) ⌝ }
+pub extern "C" fn av1ts_write_descriptor(field: &[u8; 10], out: &mut [u8]) -> Answer
+    ensures { λ r. ⌜ r ≡ countAnswer (writing (fieldsFrom (now (field .entry))) (length (now (out .entry)))) ⌝ }
+    ensures { λ _. ⌜ now (out .exit)
+        ≡ leaves (writing (fieldsFrom (now (field .entry))) (length (now (out .entry))))
+        (descriptorOf (fieldsFrom (now (field .entry)))) (now (out .entry)) ⌝ }
 {
-    if 1 < delay_present {
-        return refusal(Refused {
-            why: Refusal::DESCRIPTOR_FIELD,
-            place: 0,
-        });
-    }
-    let answer = descriptor::write(fields_from(field), delay_from(delay_present, delay), out);
+    let answer = descriptor::write(fields_from(field), out);
     match answer {
         Written::Bytes(n) => Answer {
             number: 0,

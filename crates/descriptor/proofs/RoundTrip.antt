@@ -1,37 +1,40 @@
--- Writing and reading undo each other: what is written reads as its fields and delay, and what is read writes as its bytes. Assumes nothing.
+-- Writing and reading: what is written reads as its fields, and what is read writes as its bytes exactly where no delay was
+-- present; and what a rewrite tries and says. Assumes nothing.
 use Prim.Native.Nat.{ℕ, _+_, _*_, _/_, _%_, _^_, _<_, _≤_}
 use mathlib.Core.Bool.{Bool, true, false, _||_}
 use mathlib.Core.Path.{_≡_, refl, sym, ap, ap₂, _∙_}
 use mathlib.Core.List.{[], _∷_}
 use native.Mathlib.Omega.{arith}
-use borrow.Author.Tests.{leb-false, lt-leb, le-ltb, eqb-true, not-false}
+use borrow.Author.Tests.{lt-leb, le-ltb, eqb-true, not-false}
 use native.Mathlib.Nat.{mod-lt}
 use lib.Pow.{pow-pos}
-use lib.Dec.{eqb}
+use lib.Dec.{eqb, ltb}
 use lib.ListN.{length, drop-of-length-le}
 use Rattle.lists.specs.Lists.{Bytes, pick}
 use Rattle.lists.specs.Bytes.{byte, bits}
 use Rattle.lists.proofs.Tables.{allBelow, below}
 use Rattle.lists.proofs.Parts.{next3}
 use Rattle.lists.proofs.Tests.{case, or-neither}
-use Rattle.refusal.specs.Verdict.{passed}
+use Rattle.refusal.specs.Verdict.{passed, _>>=_, _>>_, given}
 use Rattle.refusal.proofs.Verdicts.{pass-on, passed-after, given-passed, passed-same}
 use Rattle.descriptor.specs.declared.fields.Fields.{Fields}
 use Rattle.descriptor.specs.declared.fields.Delay.{Delay}
-use Rattle.descriptor.specs.declared.fields.Delay.the-variants.{Absent, Present}
+use Rattle.descriptor.specs.declared.fields.Delay.the-variants.{Absent}
 use Rattle.descriptor.specs.declared.fields.Video.{Video}
-use Rattle.descriptor.specs.Descriptor.{videoTag, videoLength, markerVersion, fieldsOf, delayOf, versionWrong, zerosWrong, wrong, reading, writing, past, delayPresent, delayPast, profileLevelPast, tierToChromaPast, hdrDelayPast, pastWidth, profileLevel, tierToChroma, delayBits, hdrDelay, descriptorOf}
-use Rattle.descriptor.proofs.Widths.{profile-level-within, tier-to-chroma-within, hdr-delay-within, delay-bits-within, each-within}
+use Rattle.descriptor.specs.Descriptor.{videoTag, videoLength, markerVersion, fieldsOf, delayOf, delayPresent}
+use Rattle.descriptor.specs.Descriptor.{versionWrong, zerosWrong, wrong, reading, writing, isPresent, rewriting}
+use Rattle.descriptor.specs.Descriptor.{past, profileLevelPast, tierToChromaPast, pastWidth}
+use Rattle.descriptor.specs.Descriptor.{profileLevel, tierToChroma, noDelay, hdrNoDelay, descriptorOf}
+use Rattle.descriptor.proofs.Widths.{profile-level-within, tier-to-chroma-within, hdr-within, each-within}
 
 -- ---- what is written, read
-fields-back : (f : Fields) (delay : Delay) → pastWidth f delay ≡ false → fieldsOf (descriptorOf f delay) ≡ f
+fields-back : (f : Fields) → pastWidth f ≡ false → fieldsOf (descriptorOf f) ≡ f
 unfolding fieldsOf descriptorOf
-fields-back f delay e =
-    let parts = each-within f delay e in
+fields-back f e =
+    let parts = each-within f e in
     let p = profile-level-within f (parts .0) in
     let t = tier-to-chroma-within f (parts .1) in
-    let h = hdr-delay-within f delay (parts .2) in
-    let d = delay-bits-within delay (h .1) in
+    let h = hdr-within f (parts .2) in
     let profile : bits 7 5 (profileLevel f) ≡ f .«seq_profile» = omega arith in
     let level : bits 4 0 (profileLevel f) ≡ f .«seq_level_idx_0» = omega arith in
     let tier : bits 7 7 (tierToChroma f) ≡ f .«seq_tier_0» = omega arith in
@@ -41,51 +44,35 @@ fields-back f delay e =
     let x : bits 3 3 (tierToChroma f) ≡ f .«chroma_subsampling_x» = omega arith in
     let y : bits 2 2 (tierToChroma f) ≡ f .«chroma_subsampling_y» = omega arith in
     let position : bits 1 0 (tierToChroma f) ≡ f .«chroma_sample_position» = omega arith in
-    let hdr : bits 7 6 (hdrDelay f delay) ≡ f .«hdr_wcg_idc» = omega arith in
+    let hdr : bits 7 6 (hdrNoDelay f) ≡ f .«hdr_wcg_idc» = omega arith in
     rw (profile, level, tier, high, twelve, mono, x, y, position, hdr)
 
-delay-back : (f : Fields) (delay : Delay) → hdrDelayPast f delay ≡ false → delayOf (hdrDelay f delay) ≡ delay
-unfolding delayOf pick
-delay-back f Absent e =
-    let h = hdr-delay-within f Absent e in
-    let present : bits 4 4 (hdrDelay f Absent) ≡ 0 = omega arith in
-    rw present
-delay-back f (Present n) e =
-    let h = hdr-delay-within f (Present n) e in
-    let k = leb-false 16 n (h .1) in
-    let present : bits 4 4 (hdrDelay f (Present n)) ≡ 1 = omega arith in
-    let low : bits 3 0 (hdrDelay f (Present n)) ≡ n = omega arith in
-    rw (present, low)
+-- the bits behind hdr_wcg_idc are 0: no delay
+module _ (f : Fields) where
+  delay-absent : delayOf (hdrNoDelay f) ≡ Absent
+  unfolding delayOf pick
+  delay-absent = let present : bits 4 4 (hdrNoDelay f) ≡ 0 = omega arith in rw present
 
-zeros-right : (f : Fields) (delay : Delay) → hdrDelayPast f delay ≡ false → zerosWrong (hdrDelay f delay) ≡ false
-unfolding zerosWrong
-zeros-right f Absent e =
-    let h = hdr-delay-within f Absent e in
-    let reserved : bits 5 5 (hdrDelay f Absent) ≡ 0 = omega arith in
-    let present : bits 4 4 (hdrDelay f Absent) ≡ 0 = omega arith in
-    let low : bits 3 0 (hdrDelay f Absent) ≡ 0 = omega arith in
-    rw (reserved, present, low)
-zeros-right f (Present n) e =
-    let h = hdr-delay-within f (Present n) e in
-    let k = leb-false 16 n (h .1) in
-    let reserved : bits 5 5 (hdrDelay f (Present n)) ≡ 0 = omega arith in
-    let present : bits 4 4 (hdrDelay f (Present n)) ≡ 1 = omega arith in
-    rw (reserved, present)
+  right : wrong (descriptorOf f) ≡ false
+  unfolding wrong descriptorOf versionWrong zerosWrong
+  right =
+      let reserved : bits 5 5 (hdrNoDelay f) ≡ 0 = omega arith in
+      let present : bits 4 4 (hdrNoDelay f) ≡ 0 = omega arith in
+      let low : bits 3 0 (hdrNoDelay f) ≡ 0 = omega arith in
+      rw (reserved, present, low)
 
-right : (f : Fields) (delay : Delay) → hdrDelayPast f delay ≡ false → wrong (descriptorOf f delay) ≡ false
-unfolding wrong descriptorOf versionWrong
-right f delay e = zeros-right f delay e
+  within-read : pastWidth f ≡ false → reading (descriptorOf f) ≡ passed (record { fields = f; delay = Absent })
+  unfolding reading descriptorOf
+  within-read e =
+      sym
+      (pass-on 40 right
+      (sym (ap₂ (λ (x : Fields) (y : Delay). passed (record { fields = x; delay = y })) (fields-back f e) delay-absent)))
 
--- what writing accepts is read as its fields and delay
-pub written-read : (f : Fields) (delay : Delay) (room n : ℕ) → writing f delay room ≡ passed n
-    → reading (descriptorOf f delay) ≡ passed (record { fields = f; delay = delay })
-unfolding writing reading descriptorOf
-written-read f delay room n e =
-    let within = given-passed 41 (pastWidth f delay) (passed-after _ _ n e .0) in
-    let last = each-within f delay within .2 in
-    sym
-    (pass-on 40 (right f delay last)
-    (sym (ap₂ (λ (x : Fields) (y : Delay). passed (record { fields = x; delay = y })) (fields-back f delay within) (delay-back f delay last))))
+  -- "Writing then reading gives all fields back": and no delay
+  pub written-read : (room n : ℕ) → writing f room ≡ passed n
+      → reading (descriptorOf f) ≡ passed (record { fields = f; delay = Absent })
+  unfolding writing
+  written-read room n e = within-read (given-passed 41 (pastWidth f) (passed-after _ _ n e .0))
 
 -- ---- what is read, written
 -- a string of six bytes, byte by byte
@@ -128,9 +115,16 @@ first-back b h e =
 second-back : (b : ℕ) → b < 256 → bits 7 5 b * 2 ^ 5 + bits 4 0 b ≡ b
 second-back b h = omega arith
 
--- the third and the last byte, by a test of every byte
+-- the fifth byte and the last, by a test of every byte
 abbrev third : ℕ → ℕ
-third b = bits 7 7 b * 2 ^ 7 + bits 6 6 b * 2 ^ 6 + bits 5 5 b * 2 ^ 5 + bits 4 4 b * 2 ^ 4 + bits 3 3 b * 2 ^ 3 + bits 2 2 b * 2 ^ 2 + bits 1 0 b
+third b =
+    bits 7 7 b * 2 ^ 7
+    + bits 6 6 b * 2 ^ 6
+    + bits 5 5 b * 2 ^ 5
+    + bits 4 4 b * 2 ^ 4
+    + bits 3 3 b * 2 ^ 3
+    + bits 2 2 b * 2 ^ 2
+    + bits 1 0 b
 
 third-tested : allBelow (λ b. eqb (third b) b) 256 ≡ true
 unfolding allBelow
@@ -139,47 +133,79 @@ third-tested = refl
 third-back : (b : ℕ) → b < 256 → third b ≡ b
 third-back b h = eqb-true (third b) b (below (λ x. eqb (third x) x) 256 third-tested b h)
 
-abbrev last : ℕ → ℕ
-last b = bits 7 6 b * 2 ^ 6 + delayBits (delayOf b)
-
-last-tested : allBelow (λ b. zerosWrong b || eqb (last b) b) 256 ≡ true
-unfolding allBelow zerosWrong delayOf pick
+-- the last byte with no delay
+last-tested : allBelow (λ b. zerosWrong b || (delayPresent b || eqb (bits 7 6 b * 2 ^ 6 + noDelay) b)) 256 ≡ true
+unfolding allBelow zerosWrong
 last-tested = refl
 
 or-second : (x y : Bool) → x ≡ false → (x || y) ≡ true → y ≡ true
 or-second x y e h = rw e at h
 
-last-back : (b : ℕ) → b < 256 → zerosWrong b ≡ false → last b ≡ b
-last-back b h e =
-    eqb-true (last b) b (or-second (zerosWrong b) (eqb (last b) b) e (below (λ x. zerosWrong x || eqb (last x) x) 256 last-tested b h))
+last-back : (b : ℕ) → b < 256 → zerosWrong b ≡ false → delayPresent b ≡ false → bits 7 6 b * 2 ^ 6 + noDelay ≡ b
+last-back b h e k =
+    let all = below (λ x. zerosWrong x || (delayPresent x || eqb (bits 7 6 x * 2 ^ 6 + noDelay) x)) 256 last-tested b h in
+    eqb-true _ b (or-second (delayPresent b) _ k (or-second (zerosWrong b) _ e all))
 
 -- a number of so many bits is not past its width
 narrow : (width x : ℕ) → past width (x % 2 ^ width) ≡ false
 narrow width x = lt-leb (2 ^ width) (x % 2 ^ width) (mod-lt x (pow-pos width))
 
-delay-within : (b : ℕ) → delayPast (delayOf b) ≡ false
-unfolding delayOf pick
-delay-within b = case (delayPresent b) (λ t. rw t (narrow 4 (b / 1))) (λ t. rw t)
-
-read-within : (d : Bytes) → pastWidth (fieldsOf d) (delayOf (byte d 5)) ≡ false
-unfolding pastWidth profileLevelPast tierToChromaPast hdrDelayPast fieldsOf
+read-within : (d : Bytes) → pastWidth (fieldsOf d) ≡ false
+unfolding pastWidth profileLevelPast tierToChromaPast fieldsOf
 read-within d =
     let b3 = byte d 3 in
     let b4 = byte d 4 in
-    rw
-    (narrow 3 (b3 / 32), narrow 5 (b3 / 1), narrow 1 (b4 / 128), narrow 1 (b4 / 64), narrow 1 (b4 / 32), narrow 1 (b4 / 16), narrow 1 (b4 / 8), narrow 1 (b4 / 4), narrow 2 (b4 / 1), narrow 2 (byte d 5 / 64), delay-within (byte d 5))
+    rw (narrow 3 (b3 / 32), narrow 5 (b3 / 1), narrow 1 (b4 / 128), narrow 1 (b4 / 64), narrow 1 (b4 / 32))
+    (rw (narrow 1 (b4 / 16), narrow 1 (b4 / 8), narrow 1 (b4 / 4), narrow 2 (b4 / 1), narrow 2 (byte d 5 / 64)))
 
--- what is read is written as the same bytes, wherever there is room for them
-pub read-written : (d : Bytes) (v : Video) (room : ℕ) → ((i : ℕ) → byte d i < 256) → 6 ≤ room → reading d ≡ passed v
-    → (writing (v .fields) (v .delay) room ≡ passed 6) × (descriptorOf (v .fields) (v .delay) ≡ d)
-unfolding reading writing descriptorOf fieldsOf
-read-written d v room h k e =
-    let parts = passed-after _ _ v e in
-    let r = not-wrong d (given-passed 40 (wrong d) (parts .0)) in
-    let same : v ≡ record { fields = fieldsOf d; delay = delayOf (byte d 5) } = sym (passed-same _ v (parts .1)) in
-    let back : descriptorOf (fieldsOf d) (delayOf (byte d 5)) ≡ byte d 0 ∷ byte d 1 ∷ byte d 2 ∷ byte d 3 ∷ byte d 4 ∷ byte d 5 ∷ [] =
-    rw
-    (r .tag, r .size, first-back (byte d 2) (h 2) (r .first), second-back (byte d 3) (h 3), third-back (byte d 4) (h 4), last-back (byte d 5) (h 5) (r .last)) in (
-      sym (pass-on 41 (ap (λ (w : Video). pastWidth (w .fields) (w .delay)) same ∙ read-within d) (pass-on 8 (le-ltb room 6 k) refl)),
-      ap (λ (w : Video). descriptorOf (w .fields) (w .delay)) same ∙ back ∙ sym (six d (r .long)),
-    )
+-- the delay is present exactly where its bit is set
+present-bit : (b : ℕ) → isPresent (delayOf b) ≡ delayPresent b
+unfolding delayOf pick
+present-bit b = case (delayPresent b) (λ e. rw e) (λ e. rw e)
+
+-- what reading passes, it passes as these fields and this delay
+module _ (d : Bytes) (v : Video) (e : reading d ≡ passed v) where
+  read-right : Right d
+  unfolding reading
+  read-right = not-wrong d (given-passed 40 (wrong d) (passed-after _ _ v e .0))
+
+  pub read-as : v ≡ record { fields = fieldsOf d; delay = delayOf (byte d 5) }
+  unfolding reading
+  read-as = sym (passed-same _ v (passed-after _ _ v e .1))
+
+  -- a rewrite's bytes read as the same fields, and no delay
+  pub rewritten-read : reading (descriptorOf (v .fields)) ≡ passed (record { fields = v .fields; delay = Absent })
+  rewritten-read = within-read (v .fields) (ap (λ (w : Video). pastWidth (w .fields)) read-as ∙ read-within d)
+
+  back : ((i : ℕ) → byte d i < 256) → delayPresent (byte d 5) ≡ false → descriptorOf (fieldsOf d) ≡ d
+  unfolding descriptorOf fieldsOf
+  back h k =
+      let r = read-right in
+      let first = first-back (byte d 2) (h 2) (r .first) in
+      let last = last-back (byte d 5) (h 5) (r .last) k in
+      rw (second-back (byte d 3) (h 3), third-back (byte d 4) (h 4), last)
+      (sym (six d (r .long) ∙ rw (r .tag, r .size, first)))
+
+  -- "reading then writing gives the bytes back exactly where no delay was present"
+  pub read-written : (room : ℕ) → ((i : ℕ) → byte d i < 256) → 6 ≤ room
+      → (writing (v .fields) room ≡ passed 6)
+      × (v .delay ≡ Absent → descriptorOf (v .fields) ≡ d)
+      × (descriptorOf (v .fields) ≡ d → v .delay ≡ Absent)
+  unfolding writing descriptorOf
+  read-written room h k = (
+    sym (pass-on 41 (ap (λ (w : Video). pastWidth (w .fields)) read-as ∙ read-within d) (pass-on 8 (le-ltb room 6 k) refl)),
+    λ absent.
+        let no = sym (present-bit (byte d 5)) ∙ ap isPresent (sym (ap (λ (w : Video). w .delay) read-as) ∙ absent) in
+        ap (λ (w : Video). descriptorOf (w .fields)) read-as ∙ back h no,
+    λ same. ap (λ (w : Video). w .delay) (passed-same _ _ (sym e ∙ ap reading (sym same) ∙ rewritten-read)),
+  )
+
+-- "a rewrite says that it dropped one exactly where one was present": 40, then 8, and then whether the bit was set
+pub rewriting-tries : (d : Bytes) (room : ℕ)
+    → rewriting d room
+    ≡ (given 40 (wrong d)
+    >> (given 8 (ltb room 6) >> passed (record { bytes = 6; «dropped_delay» = delayPresent (byte d 5) })))
+unfolding rewriting reading writing descriptorOf _>>=_ _>>_ given pick
+rewriting-tries d room =
+    case (wrong d) (λ e. rw e)
+    (λ e. rw (e, read-within d, present-bit (byte d 5)) (case (ltb room 6) (λ short. rw short) (λ long. rw long)))

@@ -2,15 +2,13 @@
 use Prim.Native.Nat.{_<_}
 use mathlib.Core.Bool.{false}
 use mathlib.Core.Path.{_≡_}
-use native.Mathlib.Omega.{arith}
 use borrow.Author.Tests.{leb-false}
 use Rattle.lists.proofs.Tests.{or-neither}
 use Rattle.descriptor.specs.declared.fields.Fields.{Fields}
-use Rattle.descriptor.specs.declared.fields.Delay.{Delay}
-use Rattle.descriptor.specs.declared.fields.Delay.the-variants.{Absent, Present}
-use Rattle.descriptor.specs.Descriptor.{delayPast, profileLevelPast, tierToChromaPast, hdrDelayPast, pastWidth, delayBits}
+use Rattle.descriptor.specs.Descriptor.{profileLevelPast, tierToChromaPast, hdrPast, pastWidth}
 
-pub profile-level-within : (f : Fields) → profileLevelPast f ≡ false → (f .«seq_profile» < 8) × (f .«seq_level_idx_0» < 32)
+pub profile-level-within : (f : Fields) → profileLevelPast f ≡ false
+    → (f .«seq_profile» < 8) × (f .«seq_level_idx_0» < 32)
 unfolding profileLevelPast
 profile-level-within f e = let h = or-neither _ _ e in (leb-false 8 _ (h .0), leb-false 32 _ (h .1))
 
@@ -42,17 +40,11 @@ tier-to-chroma-within f e =
       position = leb-false 4 _ (position .1);
     }
 
-pub hdr-delay-within : (f : Fields) (delay : Delay) → hdrDelayPast f delay ≡ false → (f .«hdr_wcg_idc» < 4) × (delayPast delay ≡ false)
-unfolding hdrDelayPast
-hdr-delay-within f delay e = let h = or-neither _ _ e in (leb-false 4 _ (h .0), h .1)
+pub hdr-within : (f : Fields) → hdrPast f ≡ false → f .«hdr_wcg_idc» < 4
+hdr-within f e = leb-false 4 _ e
 
 -- no byte has a field past its width
-pub each-within : (f : Fields) (delay : Delay) → pastWidth f delay ≡ false
-    → (profileLevelPast f ≡ false) × (tierToChromaPast f ≡ false) × (hdrDelayPast f delay ≡ false)
+pub each-within : (f : Fields) → pastWidth f ≡ false
+    → (profileLevelPast f ≡ false) × (tierToChromaPast f ≡ false) × (hdrPast f ≡ false)
 unfolding pastWidth
-each-within f delay e = let h = or-neither _ _ e in let k = or-neither _ _ (h .0) in (k .0, k .1, h .1)
-
--- the delay's bits
-pub delay-bits-within : (delay : Delay) → delayPast delay ≡ false → delayBits delay < 32
-delay-bits-within Absent e = omega arith
-delay-bits-within (Present n) e = omega (arith, leb-false 16 n e)
+each-within f e = let h = or-neither _ _ e in let k = or-neither _ _ (h .0) in (k .0, k .1, h .1)

@@ -1,7 +1,8 @@
-// The AV1 descriptors (000, 2; document 01, "The AV1 descriptors").
+// The AV1 descriptors (000, 2; document 01, "The AV1 descriptors"; request 2026-12).
 mod fields;
 mod reading;
 mod registration;
+mod rewriting;
 mod writing;
 
 pub use fields::Delay;
@@ -11,5 +12,8 @@ pub use reading::VideoRead;
 pub use reading::read;
 pub use reading::wrong;
 pub use registration::is_registration;
+pub use rewriting::Outcome;
+pub use rewriting::Rewritten;
+pub use rewriting::rewrite;
 pub use writing::Written;
 pub use writing::write;

@@ -5,26 +5,20 @@ ghost use Prim.Native.Nat.{_≤_};
 ghost use lib.ListN.{length};
 ghost use Rattle.lists.specs.Lists.{over};
 ghost use Rattle.refusal.specs.Verdict.{leaves};
-ghost use Rattle.descriptor.specs.Descriptor.{delayPast, profileLevelPast, tierToChromaPast, hdrDelayPast, pastWidth, profileLevel, tierToChroma, delayBits, hdrDelay, descriptorOf, writing, writtenSays};
-use crate::fields::Delay;
+ghost use Rattle.descriptor.specs.Descriptor.{profileLevelPast, tierToChromaPast, hdrPast, pastWidth};
+ghost use Rattle.descriptor.specs.Descriptor.{profileLevel, tierToChroma, hdrNoDelay, descriptorOf};
+ghost use Rattle.descriptor.specs.Descriptor.{writing, writtenSays};
 use crate::fields::Fields;
 use refusal::Refusal;
 use refusal::Refused;
+
+// The reserved bit, initial_presentation_delay_present, and the low four bits.
+const NO_DELAY: u8 = 0;
 
 // How many bytes were written, or the refusal.
 pub enum Written {
     Bytes(usize),
     Refused(Refused),
-}
-
-// Whether a delay that is present takes more than four bits.
-fn delay_past(delay: Delay) -> bool
-    ensures { λ r. ⌜ r ≡ delayPast delay ⌝ }
-{
-    match delay {
-        Delay::Absent => false,
-        Delay::Present(n) => 16 <= n,
-    }
 }
 
 // Whether a field takes more bits than it has: profile and level.
@@ -62,19 +56,9 @@ fn tier_to_chroma_past(fields: Fields) -> bool
     4 <= fields.chroma_sample_position
 }
 
-// hdr_wcg_idc and the delay.
-fn hdr_delay_past(fields: Fields, delay: Delay) -> bool
-    ensures { λ r. ⌜ r ≡ hdrDelayPast fields delay ⌝ }
-{
-    if 4 <= fields.hdr_wcg_idc {
-        return true;
-    }
-    delay_past(delay)
-}
-
-// Whether one of them does.
-fn past_width(fields: Fields, delay: Delay) -> bool
-    ensures { λ r. ⌜ r ≡ pastWidth fields delay ⌝ }
+// Whether one of the ten does.
+fn past_width(fields: Fields) -> bool
+    ensures { λ r. ⌜ r ≡ pastWidth fields ⌝ }
 {
     if profile_level_past(fields) {
         return true;
@@ -82,7 +66,7 @@ fn past_width(fields: Fields, delay: Delay) -> bool
     if tier_to_chroma_past(fields) {
         return true;
     }
-    hdr_delay_past(fields, delay)
+    4 <= fields.hdr_wcg_idc
 }
 
 // The byte of profile and level.
@@ -107,44 +91,33 @@ fn tier_to_chroma(fields: Fields) -> u8
         + fields.chroma_sample_position
 }
 
-// initial_presentation_delay_present and the low four bits.
-fn delay_bits(delay: Delay) -> u8
-    requires { ⌜ delayPast delay ≡ false ⌝ }
-    ensures { λ r. ⌜ r ≡ delayBits delay ⌝ }
+// The byte of hdr_wcg_idc, with no delay.
+fn hdr_no_delay(fields: Fields) -> u8
+    requires { ⌜ hdrPast fields ≡ false ⌝ }
+    ensures { λ r. ⌜ r ≡ hdrNoDelay fields ⌝ }
 {
-    match delay {
-        Delay::Absent => 0,
-        Delay::Present(n) => 16 + n,
-    }
-}
-
-// The byte of hdr_wcg_idc and the delay.
-fn hdr_delay(fields: Fields, delay: Delay) -> u8
-    requires { ⌜ hdrDelayPast fields delay ≡ false ⌝ }
-    ensures { λ r. ⌜ r ≡ hdrDelay fields delay ⌝ }
-{
-    fields.hdr_wcg_idc * 64 + delay_bits(delay)
+    fields.hdr_wcg_idc * 64 + NO_DELAY
 }
 
 // The descriptor, which has room, over the front of out.
-fn put(fields: Fields, delay: Delay, out: &mut [u8])
-    requires { ⌜ (pastWidth fields delay ≡ false) × (6 ≤ length (now out)) ⌝ }
-    ensures { λ _. ⌜ now (out .exit) ≡ over (descriptorOf fields delay) (now (out .entry)) ⌝ }
+fn put(fields: Fields, out: &mut [u8])
+    requires { ⌜ (pastWidth fields ≡ false) × (6 ≤ length (now out)) ⌝ }
+    ensures { λ _. ⌜ now (out .exit) ≡ over (descriptorOf fields) (now (out .entry)) ⌝ }
 {
     out[0] = 0x80;
     out[1] = 4;
     out[2] = 0x81;
     out[3] = profile_level(fields);
     out[4] = tier_to_chroma(fields);
-    out[5] = hdr_delay(fields, delay);
+    out[5] = hdr_no_delay(fields);
 }
 
 // The descriptor of these fields over the front of out; 41, then 8.
-pub fn write(fields: Fields, delay: Delay, out: &mut [u8]) -> Written
-    ensures { λ r. ⌜ writtenSays r ≡ writing fields delay (length (now (out .entry))) ⌝ }
-    ensures { λ r. ⌜ now (out .exit) ≡ leaves (writtenSays r) (descriptorOf fields delay) (now (out .entry)) ⌝ }
+pub fn write(fields: Fields, out: &mut [u8]) -> Written
+    ensures { λ r. ⌜ writtenSays r ≡ writing fields (length (now (out .entry))) ⌝ }
+    ensures { λ r. ⌜ now (out .exit) ≡ leaves (writtenSays r) (descriptorOf fields) (now (out .entry)) ⌝ }
 {
-    if past_width(fields, delay) {
+    if past_width(fields) {
         return Written::Refused(Refused {
             why: Refusal::DESCRIPTOR_FIELD,
             place: 0,
@@ -156,6 +129,6 @@ pub fn write(fields: Fields, delay: Delay, out: &mut [u8]) -> Written
             place: 0,
         });
     }
-    put(fields, delay, out);
+    put(fields, out);
     Written::Bytes(6)
 }

@@ -12,7 +12,8 @@ pub const SUITE: Definition = Definition {
         list.extend(labels(&[
             "read: with delay",
             "read: without delay",
-            "read, then written",
+            "read, then written: the same",
+            "read, then written: not the same",
             "01's example",
             "no bytes",
             "one byte short",

@@ -1,26 +1,20 @@
-//! Descriptors written: every field past its width, the delay, rooms; and read again.
+//! Descriptors written: every field past its width, rooms; and read again.
 
-use super::descriptor::{Caller, Values, highest};
+use super::descriptor::{Caller, highest};
 use crate::kit::{Definition, Random, Suite, labels};
-use reference::descriptor::{DELAY_PAST, FIELDS, PRESENT_PAST};
+use reference::descriptor::FIELDS;
 
 pub const SUITE: Definition = Definition {
     name: "descriptor-write",
     labels: || {
         let mut list: Vec<String> = FIELDS.iter().map(|field| field.past.to_string()).collect();
         list.extend(labels(&[
-            PRESENT_PAST,
-            DELAY_PAST,
             "41 before 8",
             "8: no room",
             "8: several bytes short",
             "8: one byte short",
             "room exactly enough",
             "room more than enough",
-            "written: no delay",
-            "written: no delay, another value",
-            "written: no delay, value past its width",
-            "written: with delay",
             "written, then read",
             "one past the width",
             "two fields past their width",
@@ -35,7 +29,6 @@ fn run(suite: &mut Suite) {
     let mut random = Random::new(21);
     let highest = highest();
     let bases = [[0; 10], highest, [0, 8, 0, 0, 0, 0, 1, 1, 0, 3]];
-    let delays = [(0, 0), (0, 9), (0, 255), (1, 0), (1, 15), (1, 16), (2, 0)];
 
     // Every value of every field, with all rooms.
     for base in bases {
@@ -43,39 +36,13 @@ fn run(suite: &mut Suite) {
             for value in 0..=255 {
                 let mut fields = base;
                 fields[index] = value;
-                for (delay_present, delay) in delays {
-                    let values = Values {
-                        fields,
-                        delay_present,
-                        delay,
-                    };
-                    let more: &[&str] = if u32::from(value) == u32::from(top) + 1 {
-                        &["one past the width"]
-                    } else {
-                        &[]
-                    };
-                    for room in 0..=8 {
-                        caller.write(suite, &values, room, more);
-                    }
-                    if value % 64 == 1 {
-                        caller.write(suite, &values, 1000, more);
-                    }
-                }
-            }
-        }
-    }
-    // Every delay_present with every delay.
-    for base in bases {
-        for delay_present in 0..=255 {
-            for delay in 0..=255 {
-                let values = Values {
-                    fields: base,
-                    delay_present,
-                    delay,
+                let more: &[&str] = if u32::from(value) == u32::from(top) + 1 {
+                    &["one past the width"]
+                } else {
+                    &[]
                 };
-                caller.write(suite, &values, 6 + usize::from(delay % 3), &[]);
-                if delay_present < 3 {
-                    caller.write(suite, &values, 5, &[]);
+                for room in (0..=8).chain([1000]) {
+                    caller.write(suite, &fields, room, more);
                 }
             }
         }
@@ -87,15 +54,8 @@ fn run(suite: &mut Suite) {
                 let mut fields = [0; 10];
                 fields[first] = highest[first].saturating_add(a);
                 fields[second] = highest[second].saturating_add(b);
-                for (delay_present, delay) in delays {
-                    let values = Values {
-                        fields,
-                        delay_present,
-                        delay,
-                    };
-                    for room in [0, 5, 6, 7] {
-                        caller.write(suite, &values, room, &["two fields past their width"]);
-                    }
+                for room in [0, 5, 6, 7] {
+                    caller.write(suite, &fields, room, &["two fields past their width"]);
                 }
             }
         }
@@ -109,11 +69,6 @@ fn run(suite: &mut Suite) {
         if round % 8 == 0 {
             fields[random.below(10)] = random.next() as u8;
         }
-        let values = Values {
-            fields,
-            delay_present: random.below(2) as u8,
-            delay: random.below(if round % 4 == 0 { 256 } else { 16 }) as u8,
-        };
-        caller.write(suite, &values, 6, &[]);
+        caller.write(suite, &fields, 6, &[]);
     }
 }

@@ -70,7 +70,11 @@ const UNITS: &[&Definition] = &[
     &listing::SUITE,
 ];
 
-const DESCRIPTORS: &[&Definition] = &[&descriptor_read::SUITE, &descriptor_write::SUITE];
+const DESCRIPTORS: &[&Definition] = &[
+    &descriptor_read::SUITE,
+    &descriptor_write::SUITE,
+    &descriptor::rewrite::SUITE,
+];
 
 const SEGMENTS: &[&Definition] = &[
     &segment_valid::SUITE,

@@ -55,6 +55,7 @@ pub const FEATURES: &[&str] = &[
     "PES header stuffing",
     "other PES flags",
     "video descriptor",
+    "video descriptor with delay",
     "no video descriptor",
     "tag 80 in another entry",
     "registration alike",
@@ -331,9 +332,13 @@ impl Maker<'_> {
         for (value, field) in fields.iter_mut().zip(&descriptor::FIELDS) {
             *value = self.random.below(1 << field.width) as u8;
         }
-        let present = self.random.below(2) as u8;
-        let delay = self.random.below(16) as u8;
-        descriptor::write(&fields, present, delay, 6).expect("the fields are inside their widths")
+        let mut video = descriptor::write(&fields, 6).expect("the fields are inside their widths");
+        if self.random.one_in(2) {
+            // As old recordings have it: a delay.
+            video[5] |= 0x10 | self.random.below(16) as u8;
+            self.has("video descriptor with delay");
+        }
+        video
     }
 
     /// The class of a PID at this moment, by what was put so far.

@@ -1,7 +1,7 @@
 //! The functions under test of descriptors and segments: the library's, or the reference's own.
 
 use av1ts::Answer;
-use av1ts::descriptor::Descriptor;
+use av1ts::descriptor::{Descriptor, Rewritten};
 use av1ts::segment::Segment;
 use reference::refusal::Refusal;
 use reference::segment::{Accepted, Rooms};
@@ -26,17 +26,28 @@ pub fn read_descriptor(bytes: &[u8]) -> Descriptor {
     descriptor_answer(&descriptor::read(bytes))
 }
 
-pub fn write_descriptor(fields: &[u8; 10], delay_present: u8, delay: u8, out: &mut [u8]) -> Answer {
+pub fn write_descriptor(fields: &[u8; 10], out: &mut [u8]) -> Answer {
     if library() {
-        return av1ts::descriptor::write_descriptor(fields, delay_present, delay, out);
+        return av1ts::descriptor::write_descriptor(fields, out);
     }
-    match descriptor::write(fields, delay_present, delay, out.len()) {
+    match descriptor::write(fields, out.len()) {
         Err(refusal) => super::payload::refused(&refusal),
         Ok(bytes) => {
             out[..6].copy_from_slice(&bytes);
             written_answer()
         }
     }
+}
+
+pub fn rewrite_descriptor(bytes: &[u8], out: &mut [u8]) -> Rewritten {
+    if library() {
+        return av1ts::descriptor::rewrite_descriptor(bytes, out);
+    }
+    let rewritten = descriptor::rewrite(bytes, out.len());
+    if let Ok(rewritten) = &rewritten {
+        out[..6].copy_from_slice(&rewritten.bytes);
+    }
+    rewritten_answer(&rewritten)
 }
 
 pub fn check_segment(
@@ -96,6 +107,22 @@ pub fn written_answer() -> Answer {
     Answer {
         count: 6,
         ..Answer::default()
+    }
+}
+
+/// What the C interface answers to the rewrite of a descriptor.
+pub fn rewritten_answer(rewritten: &Result<descriptor::Rewritten, Refusal>) -> Rewritten {
+    match rewritten {
+        Err(refusal) => Rewritten {
+            number: refusal.number,
+            place: refusal.place,
+            ..Rewritten::default()
+        },
+        Ok(rewritten) => Rewritten {
+            count: 6,
+            dropped_delay: u64::from(rewritten.dropped_delay),
+            ..Rewritten::default()
+        },
     }
 }
 

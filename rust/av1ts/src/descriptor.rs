@@ -1,4 +1,4 @@
-//! Reading and writing the AV1 video descriptor.
+//! Reading, writing and rewriting the AV1 video descriptor.
 
 use crate::Answer;
 
@@ -13,15 +13,26 @@ pub struct Descriptor {
     pub delay: u64,
 }
 
+/// `av1ts_rewritten`: the bytes written, and 1 where a delay was dropped. In a refusal all but number
+/// and place is 0.
+#[repr(C)]
+#[derive(Clone, Copy, Debug, Default, PartialEq, Eq)]
+pub struct Rewritten {
+    pub number: u64,
+    pub place: u64,
+    pub count: u64,
+    pub dropped_delay: u64,
+}
+
 unsafe extern "C" {
     fn av1ts_read_descriptor(bytes: *const u8, len: usize) -> Descriptor;
-    fn av1ts_write_descriptor(
-        field: *const u8,
-        delay_present: u8,
-        delay: u8,
+    fn av1ts_write_descriptor(field: *const u8, out: *mut u8, out_len: usize) -> Answer;
+    fn av1ts_rewrite_descriptor(
+        bytes: *const u8,
+        len: usize,
         out: *mut u8,
         out_len: usize,
-    ) -> Answer;
+    ) -> Rewritten;
 }
 
 /// The values of a video descriptor, which is given with tag and length.
@@ -30,17 +41,16 @@ pub fn read_descriptor(bytes: &[u8]) -> Descriptor {
     unsafe { av1ts_read_descriptor(bytes.as_ptr(), bytes.len()) }
 }
 
-/// Writes a video descriptor to the front of `out`; `count` is the number of bytes written.
-pub fn write_descriptor(field: &[u8; 10], delay_present: u8, delay: u8, out: &mut [u8]) -> Answer {
+/// Writes a video descriptor without delay to the front of `out`; `count` is the number of bytes
+/// written.
+pub fn write_descriptor(field: &[u8; 10], out: &mut [u8]) -> Answer {
     // SAFETY: the C side reads ten bytes of `field`, and `out` is valid for its length; the two do
     // not overlap.
-    unsafe {
-        av1ts_write_descriptor(
-            field.as_ptr(),
-            delay_present,
-            delay,
-            out.as_mut_ptr(),
-            out.len(),
-        )
-    }
+    unsafe { av1ts_write_descriptor(field.as_ptr(), out.as_mut_ptr(), out.len()) }
+}
+
+/// Reads a video descriptor and writes it without delay to the front of `out`.
+pub fn rewrite_descriptor(bytes: &[u8], out: &mut [u8]) -> Rewritten {
+    // SAFETY: both slices are valid for their lengths and do not overlap.
+    unsafe { av1ts_rewrite_descriptor(bytes.as_ptr(), bytes.len(), out.as_mut_ptr(), out.len()) }
 }

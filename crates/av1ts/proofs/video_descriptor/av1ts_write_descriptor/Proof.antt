@@ -1,51 +1,35 @@
--- A «delay_present» above 1 is 41. Otherwise `descriptor::write` answers by the definition; each case of its answer is put into the C struct.
+-- `descriptor::write` answers by the definition; each case of its answer is put into the C struct.
 use borrow.Author.Needs.{needs}
 use Prim.Native.Nat.{ℕ}
 use mathlib.Core.Path.{_≡_, sym, ap, ap₂, _∙_}
-use borrow.Author.Tests.{lt-ltb, le-ltb}
 use lib.ListN.{length}
 use Rattle.lists.specs.Lists.{Bytes}
 use Rattle.refusal.specs.Verdict.{Verdict, leaves}
-use Rattle.refusal.proofs.Verdicts.{refuse, pass-on, refused-leaves}
 use Rattle.descriptor.specs.declared.fields.Fields.{Fields}
-use Rattle.descriptor.specs.declared.fields.Delay.{Delay}
 use Rattle.descriptor.specs.Descriptor.{descriptorOf, writing, writtenSays}
-use Rattle.av1ts.specs.Answers.{countAnswer, fieldsFrom, delayFrom, writingFrom}
+use Rattle.av1ts.specs.Answers.{countAnswer, fieldsFrom}
 use Rattle.av1ts.proofs.video_descriptor.av1ts_write_descriptor.Statement.{statement}
 use Rattle.av1ts.proofs.video_descriptor.av1ts_write_descriptor.Tie as tie
 
--- what `descriptor::write` answered is the definition's verdict
-verdict : (c : tie.After-write)
-    → writtenSays (c .write .result)
-    ≡ writingFrom (c .before .before .before .before .before .before .args .field .now) (c .before .before .before .before .before .before .args .delay-present)
-    (c .before .before .before .before .before .before .args .delay) (length (c .before .before .before .before .before .before .args .out .now))
-unfolding writingFrom
-verdict c =
-    pass-on 41 (le-ltb 1 _ (c .before .before .before .before .if1 .left))
-    (c .write .ensures .0
-    ∙ ap₂ (λ (f : Fields) (d : Delay). writing f d (length (c .before .before .before .before .before .before .args .out .now))) (c .before .before .before .fields-from .ensures)
-    (c .before .before .delay-from .ensures))
+-- what is handed in
+abbrev start : (c : tie.After-write) → tie.Start
+start c = c .before .before .before .before
 
--- the bytes are those of the fields and the delay that were handed in
-bytes : (c : tie.After-write)
-    → descriptorOf (c .before .before .before .fields-from .result) (c .before .before .delay-from .result)
-    ≡ descriptorOf (fieldsFrom (c .before .before .before .before .before .before .args .field .now))
-    (delayFrom (c .before .before .before .before .before .before .args .delay-present) (c .before .before .before .before .before .before .args .delay))
-bytes c = ap₂ descriptorOf (c .before .before .before .fields-from .ensures) (c .before .before .delay-from .ensures)
-
-refusal-requires : tie.Need-refusal-requires
-refusal-requires c κs = search needs
-
-returns : tie.Need-returns
-unfolding writingFrom
-returns c = let e = refuse 41 _ (lt-ltb 1 _ (c .before .if1 .taken)) in
-    (c .refusal .ensures ∙ ap countAnswer e, refused-leaves _ _ (sym e))
+-- what was answered is the definition's verdict on the fields that were handed in, and the output is what it leaves
+answered : (c : tie.After-write)
+    → let fields = fieldsFrom (start c .args .field .now) in
+    let out = start c .args .out .now in
+    (writtenSays (c .write .result) ≡ writing fields (length out))
+    × (leaves (writtenSays (c .write .result)) (descriptorOf (c .before .before .fields-from .result)) out
+    ≡ leaves (writing fields (length out)) (descriptorOf fields) out)
+answered c =
+    let out = start c .args .out .now in
+    let fields = c .before .before .fields-from .ensures in
+    let verdict = c .write .ensures .0 ∙ ap (λ (f : Fields). writing f (length out)) fields in
+    (verdict, ap₂ (λ (v : Verdict ℕ) (w : Bytes). leaves v w out) verdict (ap descriptorOf fields))
 
 fields-from-requires : tie.Need-fields-from-requires
 fields-from-requires c κs = search needs
-
-delay-from-requires : tie.Need-delay-from-requires
-delay-from-requires c κs = search needs
 
 write-requires : tie.Need-write-requires
 write-requires c κs = search needs
@@ -56,36 +40,39 @@ enum-known-answer c = search needs
 enum-known-answer-2 : tie.Need-enum-known-answer-2
 enum-known-answer-2 c = search needs
 
-refusal-requires-2 : tie.Need-refusal-requires-2
-refusal-requires-2 c κs = search needs
+refusal-requires : tie.Need-refusal-requires
+refusal-requires c κs = search needs
 
 same-length : tie.Need-same-length
 same-length c = search needs
 
-returns-2 : tie.Need-returns-2
-returns-2 c = let at = c .before .before .before .before .before in
-    (ap countAnswer (sym (ap writtenSays (c .before .answer .given .1)) ∙ verdict at), at .write .ensures .1 ∙ ap₂ (λ (v : Verdict ℕ) (w : Bytes). leaves v w (c .before .before .before .before .before .before .before .before .before .before .before .args .out .now)) (verdict at) (bytes at))
+returns : tie.Need-returns
+returns c =
+    let at = c .before .before .before .before .before in
+    let says = answered at in
+    (ap countAnswer (sym (ap writtenSays (c .before .answer .given .1)) ∙ says .0), at .write .ensures .1 ∙ says .1)
 
 same-length-2 : tie.Need-same-length-2
 same-length-2 c = search needs
 
-returns-3 : tie.Need-returns-3
-returns-3 c = let at = c .before .before .before .before .before .before in
-    (c .refusal2 .ensures ∙ ap countAnswer (sym (ap writtenSays (c .before .before .answer2 .given .1)) ∙ verdict at), at .write .ensures .1 ∙ ap₂ (λ (v : Verdict ℕ) (w : Bytes). leaves v w (c .before .before .before .before .before .before .before .before .before .before .before .before .args .out .now)) (verdict at) (bytes at))
+returns-2 : tie.Need-returns-2
+returns-2 c =
+    let at = c .before .before .before .before .before .before in
+    let says = answered at in (
+      c .refusal .ensures ∙ ap countAnswer (sym (ap writtenSays (c .before .before .answer2 .given .1)) ∙ says .0),
+      at .write .ensures .1 ∙ says .1,
+    )
 
 pub av1ts-write-descriptor-spec : {M : Type 1} → statement M
 av1ts-write-descriptor-spec =
     tie.close
     (tie.spec
-    refusal-requires
-    returns
     fields-from-requires
-    delay-from-requires
     write-requires
     enum-known-answer
     enum-known-answer-2
-    refusal-requires-2
+    refusal-requires
     same-length
-    returns-2
+    returns
     same-length-2
-    returns-3)
+    returns-2)

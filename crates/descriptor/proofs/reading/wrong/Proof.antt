@@ -42,7 +42,9 @@ zeros-wrong-requires c κs = search needs
 
 returns-5 : tie.Need-returns-5
 unfolding wrong
-returns-5 c = rw (c .zeros-wrong .ensures, sym (c .before .before .before .version-wrong .ensures) ∙ c .before .before .if4 .left) (search ways)
+returns-5 c =
+    let at = c .before .before in
+    rw (c .zeros-wrong .ensures, sym (at .before .version-wrong .ensures) ∙ at .if4 .left) (search ways)
 
 pub wrong-spec : {M : Type 1} → statement M
 wrong-spec =

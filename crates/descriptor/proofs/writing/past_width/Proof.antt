@@ -17,15 +17,16 @@ tier-to-chroma-past-requires c κs = search needs
 
 returns-2 : tie.Need-returns-2
 unfolding pastWidth
-returns-2 c = rw (sym (c .before .before .before .profile-level-past .ensures) ∙ c .before .before .if1 .left, sym (c .before .tier-to-chroma-past .ensures) ∙ c .if2 .taken)
-
-hdr-delay-past-requires : tie.Need-hdr-delay-past-requires
-hdr-delay-past-requires c κs = search needs
+returns-2 c =
+    rw (sym (c .before .before .before .profile-level-past .ensures) ∙ c .before .before .if1 .left)
+    (rw (sym (c .before .tier-to-chroma-past .ensures) ∙ c .if2 .taken))
 
 returns-3 : tie.Need-returns-3
 unfolding pastWidth
-returns-3 c = rw
-    (c .hdr-delay-past .ensures, sym (c .before .before .before .before .profile-level-past .ensures) ∙ c .before .before .before .if1 .left, sym (c .before .before .tier-to-chroma-past .ensures) ∙ c .before .if2 .left)
+returns-3 c =
+    let at = c .before in
+    rw (sym (at .before .before .before .profile-level-past .ensures) ∙ at .before .before .if1 .left)
+    (rw (sym (at .before .tier-to-chroma-past .ensures) ∙ at .if2 .left))
 
 pub past-width-spec : {M : Type 1} → statement M
 past-width-spec =
@@ -35,5 +36,4 @@ past-width-spec =
     returns
     tier-to-chroma-past-requires
     returns-2
-    hdr-delay-past-requires
     returns-3)

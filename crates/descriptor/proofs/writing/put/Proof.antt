@@ -18,19 +18,19 @@ slice-write-out-3 : tie.Need-slice-write-out-3
 slice-write-out-3 c = simp length-set (omega arith)
 
 profile-level-requires : tie.Need-profile-level-requires
-profile-level-requires c κs = each-within _ _ (c .before .pre .0) .0
+profile-level-requires c κs = each-within _ (c .before .pre .0) .0
 
 slice-write-out-4 : tie.Need-slice-write-out-4
 slice-write-out-4 c = simp length-set (omega arith)
 
 tier-to-chroma-requires : tie.Need-tier-to-chroma-requires
-tier-to-chroma-requires c κs = each-within _ _ (c .before .before .pre .0) .1
+tier-to-chroma-requires c κs = each-within _ (c .before .before .pre .0) .1
 
 slice-write-out-5 : tie.Need-slice-write-out-5
 slice-write-out-5 c = simp length-set (omega arith)
 
-hdr-delay-requires : tie.Need-hdr-delay-requires
-hdr-delay-requires c κs = each-within _ _ (c .before .before .before .pre .0) .2
+hdr-no-delay-requires : tie.Need-hdr-no-delay-requires
+hdr-no-delay-requires c κs = each-within _ (c .before .before .before .pre .0) .2
 
 slice-write-out-6 : tie.Need-slice-write-out-6
 slice-write-out-6 c = search needs
@@ -42,8 +42,9 @@ returns : tie.Need-returns
 unfolding descriptorOf
 returns c = let start = c .before .before .before .before in
     let fits = start .pre .1 in
-    rw (c .before .before .profile-level .ensures, c .before .tier-to-chroma .ensures, c .hdr-delay .ensures)
-    (w.done (w.put (w.put (w.put (w.put (w.put (w.put (w.start (start .args .out .now) (descriptorOf (start .args .fields) (start .args .delay))) fits) fits) fits) fits) fits) fits))
+    let empty = w.start (start .args .out .now) (descriptorOf (start .args .fields)) in
+    rw (c .before .before .profile-level .ensures, c .before .tier-to-chroma .ensures, c .hdr-no-delay .ensures)
+    (w.done (w.put (w.put (w.put (w.put (w.put (w.put empty fits) fits) fits) fits) fits) fits))
 
 pub put-spec : {M : Type 1} → statement M
 put-spec =
@@ -56,7 +57,7 @@ put-spec =
     slice-write-out-4
     tier-to-chroma-requires
     slice-write-out-5
-    hdr-delay-requires
+    hdr-no-delay-requires
     slice-write-out-6
     same-length
     returns)

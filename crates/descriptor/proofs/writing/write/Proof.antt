@@ -17,7 +17,9 @@ returns c = (refuse 41 _ (sym (c .before .past-width .ensures) ∙ c .if1 .taken
 
 returns-2 : tie.Need-returns-2
 unfolding writing leaves descriptorOf
-returns-2 c = (pass-on 41 (sym (c .before .before .past-width .ensures) ∙ c .before .if1 .left) (refuse 8 _ (lt-ltb _ _ (c .if2 .taken))), refl)
+returns-2 c =
+    let within = sym (c .before .before .past-width .ensures) ∙ c .before .if1 .left in
+    (pass-on 41 within (refuse 8 _ (lt-ltb _ _ (c .if2 .taken))), refl)
 
 put-requires : tie.Need-put-requires
 put-requires c κs = (sym (c .before .before .before .past-width .ensures) ∙ c .before .before .if1 .left, c .before .if2 .left)
@@ -27,11 +29,10 @@ same-length c = search needs
 
 returns-3 : tie.Need-returns-3
 unfolding writing leaves descriptorOf
-returns-3 c = (
-  pass-on 41 (sym (c .before .before .before .before .before .before .past-width .ensures) ∙ c .before .before .before .before .before .if1 .left)
-      (pass-on 8 (le-ltb _ _ (c .before .before .before .before .if2 .left)) refl),
-  c .before .before .put .ensures,
-)
+returns-3 c =
+    let at = c .before .before .before .before in
+    let within = sym (at .before .before .past-width .ensures) ∙ at .before .if1 .left in
+    (pass-on 41 within (pass-on 8 (le-ltb _ _ (at .if2 .left)) refl), c .before .before .put .ensures)
 
 pub write-spec : {M : Type 1} → statement M
 write-spec =
