@@ -103,6 +103,27 @@ typedef struct {
 av1ts_segment av1ts_check_segment(const uint8_t *segment, size_t segment_len, uint8_t *out, size_t out_len, size_t *lengths, size_t lengths_len, uint64_t *times,
                                   size_t times_len);
 
+/* The state of a replay of the transport buffer. fill and highest are in bits times 27,000,000. has_last 1: last is the time of the last arrival; 0: there was
+ * none, and last is 0. arrivals: how many since the fresh state. has_above 1: above is the index, since the fresh state, of the first arrival after which the fill
+ * was above 4,096 times 27,000,000; 0: there was none, and above is 0. The fresh state is all zeros. The report of a run is highest, has_above and above. */
+typedef struct {
+    uint64_t fill, highest, has_last, last, arrivals, has_above, above;
+} av1ts_replay_state;
+
+typedef struct {
+    uint64_t number, place;
+    av1ts_replay_state state;
+} av1ts_replayed;
+
+/* A run over arrivals from a state: their times in ticks of 27 MHz, their byte counts, and the drain rate in bits per second. state: the one that the run left,
+ * which may be handed to the next run; a trace in two runs at one rate, nothing refused, leaves the state that it leaves in one.
+ * Refuses: 47 (place 0) a rate of 0 or above 1,000,000,000, or times and byte counts unlike in number; at the arrival's index in this trace, 46 a time that goes
+ * back or over 27,000,000 ticks since the last, 47 a byte count above 188 or an arrival past the 1,000,000th since the fresh state. A refusal leaves the state as
+ * before that arrival. A state whose numbers contradict each other, as no run's do, is 47 at place 0, and is handed back: has_last or has_above neither 1 nor 0
+ * with a 0 beside it; arrivals above 1,000,000; fill above highest; highest above arrivals times 40,608,000,000; a last time without arrivals or arrivals without
+ * one; above not below arrivals, or not there exactly where highest is above 4,096 times 27,000,000. */
+av1ts_replayed av1ts_replay(av1ts_replay_state state, uint64_t rate, const uint64_t *times, size_t times_len, const uint64_t *counts, size_t counts_len);
+
 #ifdef __cplusplus
 }
 #endif

@@ -172,6 +172,17 @@ impl Around for usize {
     ];
 }
 
+impl Around for u64 {
+    const AROUND: [([u64; 4], [u64; 6]); 6] = [
+        ([0; 4], [0; 6]),
+        ([1; 4], [1; 6]),
+        ([188; 4], [188; 6]),
+        ([u64::MAX; 4], [u64::MAX; 6]),
+        ([27_000_000; 4], [27_000_001, 189, 0, 0, 0, 0]),
+        ([7; 4], [u64::MAX - 1, 0, 0, 0, 0, 0]),
+    ];
+}
+
 /// An input to be lent, inside a larger buffer; what stands around it changes from one to the next.
 pub struct Given<T> {
     whole: Vec<T>,

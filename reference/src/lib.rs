@@ -12,6 +12,7 @@ pub mod packet;
 pub mod payload;
 pub mod pes;
 pub mod refusal;
+pub mod replay;
 pub mod report;
 pub mod section;
 pub mod segment;

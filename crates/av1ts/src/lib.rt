@@ -3,6 +3,7 @@
 mod access_unit;
 mod answer;
 mod payload;
+mod replaying;
 mod rewriting;
 mod segments;
 mod video_descriptor;
@@ -14,6 +15,9 @@ pub use access_unit::av1ts_write_unit;
 pub use answer::Answer;
 pub use payload::av1ts_escape;
 pub use payload::av1ts_unescape;
+pub use replaying::ReplayAnswer;
+pub use replaying::ReplayState;
+pub use replaying::av1ts_replay;
 pub use rewriting::RewriteAnswer;
 pub use rewriting::av1ts_rewrite_descriptor;
 pub use segments::SegmentAnswer;

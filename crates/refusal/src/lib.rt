@@ -72,6 +72,11 @@ impl Refusal {
 
     pub const UNIT_COUNT: Refusal = Refusal { number: 34 };
 
+    // The requests of document 02.
+    pub const ARRIVAL_TIME: Refusal = Refusal { number: 46 };
+
+    pub const REPLAY_BOUNDS: Refusal = Refusal { number: 47 };
+
     // Its number.
     pub fn number(self) -> u8
         ensures { λ r. ⌜ r ≡ numberOf self ⌝ }

@@ -15,6 +15,7 @@ mod payload_exhaustive;
 mod payload_limits;
 mod payload_random;
 mod payload_worked;
+mod replay;
 mod segment;
 mod segment_clock;
 mod segment_closing;
@@ -76,6 +77,13 @@ const DESCRIPTORS: &[&Definition] = &[
     &descriptor::rewrite::SUITE,
 ];
 
+const REPLAY: &[&Definition] = &[
+    &replay::ticks::SUITE,
+    &replay::boundaries::SUITE,
+    &replay::cut::SUITE,
+    &replay::states::SUITE,
+];
+
 const SEGMENTS: &[&Definition] = &[
     &segment_valid::SUITE,
     &segment_refusals::SUITE,
@@ -96,6 +104,7 @@ pub fn all(itself: bool) -> Vec<&'static Definition> {
     let mut all = Vec::new();
     if !itself {
         all.extend(UNITS);
+        all.extend(REPLAY);
     }
     all.extend(DESCRIPTORS);
     all.extend(SEGMENTS);

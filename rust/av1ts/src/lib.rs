@@ -6,6 +6,7 @@
 
 pub mod descriptor;
 pub mod payload;
+pub mod replay;
 pub mod segment;
 pub mod unit;
 pub mod walk;

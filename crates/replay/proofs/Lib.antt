@@ -1,0 +1,4 @@
+pub mod Draining
+pub mod States
+pub mod Traces
+pub mod Turns
