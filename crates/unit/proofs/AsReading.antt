@@ -10,20 +10,19 @@ use borrow.Author.Tests.{eqb-false, eqb-true, ne-eqb, not-false}
 use lib.Dec.{eqb}
 use lib.ListN.{length, take, drop, length-append}
 use lib.Seq.{take-append-seam}
-use Rattle.lists.specs.Lists.{Bytes, pick}
+use Rattle.lists.specs.Lists.{Bytes}
 use Rattle.lists.specs.Bytes.{byte}
 use Rattle.lists.proofs.Tests.{case}
-use Rattle.refusal.specs.Verdict.{passed, refused, given, inTurn}
+use Rattle.refusal.specs.Verdict.{Verdict, passed, refused, _>>_, NoValue, given, inTurn}
 use Rattle.refusal.proofs.Verdicts.{refuse, pass-on, passed-after, given-passed, not-given, All}
-use Rattle.refusal.proofs.Refusing.{Without, without-passed, without-refused, without-given, without-then, without-bind}
-use Rattle.refusal.proofs.Refusing.{same-number, refused-later, refused-here, bind-refused, turns-refused}
+use Rattle.refusal.proofs.Refusing.{refuses-given, refuses-pick, refuses-then, refuses-bind}
+use Rattle.refusal.proofs.Turns.{same-number, Without, not-so, refused-later, refused-here, bind-refused, turns-refused}
 use Rattle.emulation.specs.Payload.{legal, unescape}
 use Rattle.emulation.proofs.Theorems.{unescape-some}
 use Rattle.obu.specs.declared.leb128.Leb.{Leb}
 use Rattle.obu.specs.declared.leb128.Leb.the-variants.{Number, Bad}
-use Rattle.obu.specs.declared.header.Size.the-variants.{Absent}
 use Rattle.obu.specs.Leb128.{leb128}
-use Rattle.obu.specs.Header.{hasSizeBit, sizeSaid, sizeOf, sizedHeader, headerOf, judged, obuRefusal}
+use Rattle.obu.specs.Header.{fixedBytes, sizeSaid, sizeOf, sizedHeader, headerOf, judged, obuRefusal}
 use Rattle.obu.specs.Order.{Kind, OrderMeans, orderRefusal}
 use Rattle.obu.proofs.Meaning.{order-means}
 use Rattle.unit.specs.Unit.{atStartCode, payloads, tsobuRefusal, readUnit, AcceptsAs}
@@ -62,44 +61,43 @@ module _ (number : ℕ) (w : WalkNumber number) where
       by (inl z) = eqb-false other 3 e3 (k ∙ z)
       by (inr z) = eqb-false other 10 e10 (k ∙ z)
 
-  -- the other tries give neither
-  tries : (other : ℕ) (t : Bool) → eqb other 3 ≡ false → eqb other 10 ≡ false → Without number (given other t)
-  tries other t e3 e10 = without-given number other t (differs other e3 e10)
+  -- a try that gives another number, and what follows
+  one : (other : ℕ) (t : Bool) → eqb other 3 ≡ false → eqb other 10 ≡ false → Without number (given other t)
+  one other t e3 e10 = refuses-given _ other t (differs other e3 e10)
+
+  try : {A : Type 0} (other : ℕ) (t : Bool) (v : Verdict A) → eqb other 3 ≡ false → eqb other 10 ≡ false → Without number v
+      → Without number (given other t >> v)
+  try other t v e3 e10 h = refuses-then _ _ _ (one other t e3 e10) (λ _ _. h)
 
   leb-said : (leb : Leb) → Without number (sizeSaid leb)
-  leb-said (Number value width) = without-passed number _
-  leb-said Bad = without-refused number 5 0 (differs 5 refl refl)
-
-  size-said : (t : Bool) (rest : Bytes) → Without number (pick t (sizeSaid (leb128 rest)) (passed Absent))
-  unfolding pick
-  size-said true rest = leb-said (leb128 rest)
-  size-said false rest = without-passed number _
+  leb-said (Number value width) = tt
+  leb-said Bad = differs 5 refl refl
 
   header-said : (obu : Bytes) → 1 ≤ length obu → Without number (headerOf obu)
   unfolding headerOf sizedHeader sizeOf
   header-said obu h =
       let some : given 3 (eqb (length obu) 0) ≡ passed tt = not-given 3 _ (ne-eqb (length obu) 0 (λ z. omega arith)) in
-      without-then number _ _ (subst (Without number) (sym some) (without-passed number tt))
-      (without-then number _ _ (tries 4 _ refl refl)
-      (without-then number _ _ (tries 4 _ refl refl)
-      (without-bind number _ _ (size-said (hasSizeBit (byte obu 0)) _) (λ size. without-passed number _))))
+      refuses-then _ _ _ (subst (Without number) (sym some) tt) (λ _ _.
+      try 4 _ _ refl refl
+      (try 4 _ _ refl refl
+      (refuses-bind _ _ _ (refuses-pick _ _ _ _ (leb-said (leb128 (drop (fixedBytes (byte obu 0)) obu))) tt) (λ _ _. tt))))
 
   -- an OBU that is not empty is refused with neither
   obu-said : (obu : Bytes) → 1 ≤ length obu → Without number (obuRefusal obu)
   unfolding judged
   obu-said obu h =
-      without-then number _ _
-      (without-bind number _ _ (header-said obu h) (λ header.
-      without-then number _ _ (tries 5 _ refl refl)
-      (without-then number _ _ (tries 5 _ refl refl)
-      (without-then number _ _ (tries 6 _ refl refl)
-      (without-then number _ _ (tries 42 _ refl refl)
-      (without-then number _ _ (tries 42 _ refl refl) (without-passed number _)))))))
-      (without-passed number tt)
+      refuses-then _ _ _
+      (refuses-bind _ _ _ (header-said obu h) (λ _ _.
+      try 5 _ _ refl refl (try 5 _ _ refl refl (try 6 _ _ refl refl (try 42 _ _ refl refl (try 42 _ _ refl refl tt))))))
+      (λ _ _. tt)
 
-  -- nor does the order
+  -- nor is the order
   order-said : (kinds : List Kind) → Without number (orderRefusal kinds)
-  order-said kinds = record { not = λ place e. differs 7 refl refl (sym (subst (OrderMeans kinds) e (order-means kinds) .0)) }
+  order-said kinds = by (orderRefusal kinds) (order-means kinds)
+    where
+      by : (v : Verdict NoValue) → OrderMeans kinds v → Without number v
+      by (passed tt) m = tt
+      by (refused n place) m = λ k. differs 7 refl refl (sym (m .0) ∙ k)
 
   -- ---- a payload that reading refuses with one of them is refused so by the step at its start code
   payload-refused : (p : Bytes) (place : ℕ) → tsobuRefusal p ≡ refused number place
@@ -112,7 +110,7 @@ module _ (number : ℕ) (w : WalkNumber number) where
       let n = eqb-false (length p) 0 z in
       let some : 1 ≤ length p = omega arith in
       case (legal p)
-      (λ f. absurd (obu-said (unescape p) (unescape-some p some) .not place (pass-on 3 z (pass-on 10 (ap not f) refl) ∙ e)))
+      (λ f. not-so number place _ (obu-said (unescape p) (unescape-some p some)) (pass-on 3 z (pass-on 10 (ap not f) refl) ∙ e))
       (λ f. inr (same-number (sym e ∙ sym (pass-on 3 z (refuse 10 _ (ap not f)))), some, f)))
 
   step-refused : (unit : Bytes) (at place : ℕ) → atStartCode (drop at unit) ≡ true → tsobuRefusal (payloadAt unit at) ≡ refused number place
@@ -130,12 +128,11 @@ module _ (number : ℕ) (w : WalkNumber number) where
       → (atStartCode unit ≡ true) × (inTurn tsobuRefusal 0 (payloads unit) ≡ refused number k)
   unfolding readUnit
   read-turns unit k e =
-      let h2 = refused-later number k _ _ (tries 2 _ refl refl) e in
-      let h9 = refused-later number k _ _ (tries 9 _ refl refl) (h2 .1) in
-      let h1 = refused-later number k _ _ (tries 1 _ refl refl) (h9 .1) in (
+      let h2 = refused-later number k _ _ (one 2 _ refl refl) e in
+      let h9 = refused-later number k _ _ (one 9 _ refl refl) (h2 .1) in
+      let h1 = refused-later number k _ _ (one 1 _ refl refl) (h9 .1) in (
         not-false (atStartCode unit) (given-passed 9 _ (h9 .0)),
-        refused-here number k _ _
-            (without-then number _ _ (tries 2 _ refl refl) (without-then number _ _ (order-said _) (without-passed number _))) (h1 .1),
+        refused-here number k _ _ (try 2 _ _ refl refl (refuses-then _ _ _ (order-said _) (λ _ _. tt))) (h1 .1),
       )
 
   -- ---- where reading refuses with 3 or 10 at OBU k, the walk hands out the first k payloads and then refuses with that number and place
@@ -162,5 +159,5 @@ module _ (number : ℕ) (w : WalkNumber number) where
   unfolding reading checking
   reading-refused unit bytes lengths k e =
       read-refused unit k
-      (bind-refused number k (readUnit unit) _ (λ obus. without-passed number _)
-      (bind-refused number k (checking unit) _ (λ counts. without-then number _ _ (tries 8 _ refl refl) (without-passed number _)) e))
+      (bind-refused number k (readUnit unit) _ (λ obus. tt)
+      (bind-refused number k (checking unit) _ (λ counts. try 8 _ _ refl refl tt) e))

@@ -12,7 +12,7 @@ use Rattle.lists.specs.Lists.{Bytes}
 use Rattle.lists.proofs.Tests.{case, clash, and-both, and-second, and-by-true}
 use Rattle.refusal.specs.Verdict.{Verdict, passed, refused, given, atPlace}
 use Rattle.refusal.proofs.Verdicts.{refuse, pass-on, refuse-at, pass-at, never, passed-same, passed-after, given-passed, at-passed}
-use Rattle.refusal.proofs.Refusing.{same-number, same-place}
+use Rattle.refusal.proofs.Turns.{same-number, same-place}
 use Rattle.emulation.specs.Payload.{legal}
 use Rattle.unit.specs.Unit.{atStartCode}
 use Rattle.unit.specs.Walk.{WalkPlace, payloadFrom, obuIndex, Found, payload, end, partAt, payloadStep, atEnd, stepping, goesTo}

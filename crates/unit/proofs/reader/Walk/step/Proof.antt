@@ -241,11 +241,8 @@ module _ {M : Type 1} (𝓤 : URA M) (H : Heap 𝓤) (A : Atoms 𝓤) (W : Given
       ∷ ‵ (ShrSlice (named 0) κ′ u8 .own x (slice-vals x)) ∷ ‵ (flft κ′ q′) ∷ []) ∵
       suffices ! _
       (ends-at 𝓤 H A step.ended stayed (step.clauses 𝓤 H A at-mem run) W bound (Result s x) (result s x) (at-place h n, tt) (tt, tt)) $
-      suffices ! (sep 𝓤 (sep 𝓤 (Owned n s x) (fact 𝓤 (Step-said s))) (sep 𝓤 (fact 𝓤 (Part-said x)) (fact 𝓤 (Reader-said n))))
-      (assoc∗ 𝓤 (Owned n s x) (fact 𝓤 (Step-said s)) (sep 𝓤 (fact 𝓤 (Part-said x)) (fact 𝓤 (Reader-said n)))) $
-      suffices ! (sep 𝓤 (sep 𝓤 (sep 𝓤 (Owned n s x) (fact 𝓤 (Step-said s))) (fact 𝓤 (Part-said x))) (fact 𝓤 (Reader-said n)))
-      (assoc∗ 𝓤 (sep 𝓤 (Owned n s x) (fact 𝓤 (Step-said s))) (fact 𝓤 (Part-said x)) (fact 𝓤 (Reader-said n))) $
-      says ! g $ says ! f $ says ! e $
+      suffices ! _ (assoc∗ 𝓤 (Owned n s x) (fact 𝓤 _) (sep 𝓤 (fact 𝓤 _) (fact 𝓤 _))) $
+      suffices ! _ (assoc∗ 𝓤 (sep 𝓤 (Owned n s x) (fact 𝓤 _)) (fact 𝓤 _) (fact 𝓤 _)) $ says ! g $ says ! f $ says ! e $
       nothing ! $ move ! (5 ∷ 0 ∷ []) $ join ! $ move ! (3 ∷ 0 ∷ []) $ join ! $ frame ! $
       feqI ! (List Val) (vptr b o ∷ []) (vptr b o ∷ []) refl $ fjoin3 ! $ nothing ! $ move ! (1 ∷ 0 ∷ []) $ fjoin ! $ frame ! $
       -- [what the part owns]: what the fields own together is what the result owns
