@@ -124,6 +124,25 @@ typedef struct {
  * one; above not below arrivals, or not there exactly where highest is above 4,096 times 27,000,000. */
 av1ts_replayed av1ts_replay(av1ts_replay_state state, uint64_t rate, const uint64_t *times, size_t times_len, const uint64_t *counts, size_t counts_len);
 
+/* The mastering figures of metadata_hdr_mdcv. figure: in the content's order: primary_chromaticity_x[0], _y[0], x[1], y[1], x[2], y[2] (red, green, blue),
+ * white_point_chromaticity_x, _y, luminance_max, luminance_min; each is exactly the content's whole number divided by 65,536, luminance_max by 256, luminance_min by
+ * 16,384. */
+typedef struct {
+    uint64_t number, place;
+    double figure[10];
+} av1ts_mastering;
+
+/* The figures of the content of a metadata OBU of type 2.
+ * Refuses: 48 content not of this form: a leb128 of value 2, of which longer forms are read, eight numbers of 16 bits and two of 32, one byte 80, and nothing
+ * after it (then every figure is 0). */
+av1ts_mastering av1ts_read_mastering(const uint8_t *content, size_t content_len);
+
+/* The 26 bytes of such a content. value: ten whole numbers from ST 2086, in the same order: chromaticities in steps of 0.00002, luminances in steps of 0.0001. Each
+ * is written as the content's nearest whole number, but 50,000 as 65,535. count: the bytes written.
+ * Refuses: 49 a chromaticity past 50,000, or a luminance that rounds past 32 bits: a maximum above 167,772,159,980, a minimum above 2,621,439,999; 8 the output is
+ * too short. */
+av1ts_answer av1ts_write_mastering(const uint64_t value[10], uint8_t *out, size_t out_len);
+
 #ifdef __cplusplus
 }
 #endif

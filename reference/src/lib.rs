@@ -6,6 +6,7 @@ pub mod compose;
 pub mod crc;
 pub mod descriptor;
 pub mod listing;
+pub mod mastering;
 pub mod obu;
 pub mod order;
 pub mod packet;

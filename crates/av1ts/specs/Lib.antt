@@ -1,3 +1,4 @@
 pub mod Answers
 pub mod Rewriting
 pub mod Replaying
+pub mod Metadata

@@ -2,6 +2,7 @@
 // pointer and a length.
 mod access_unit;
 mod answer;
+mod metadata;
 mod payload;
 mod replaying;
 mod rewriting;
@@ -13,6 +14,9 @@ pub use access_unit::av1ts_check_unit;
 pub use access_unit::av1ts_read_unit;
 pub use access_unit::av1ts_write_unit;
 pub use answer::Answer;
+pub use metadata::MasteringAnswer;
+pub use metadata::av1ts_read_mastering;
+pub use metadata::av1ts_write_mastering;
 pub use payload::av1ts_escape;
 pub use payload::av1ts_unescape;
 pub use replaying::ReplayAnswer;

@@ -54,6 +54,7 @@ fn state_right(state: ReplayState) -> bool
     pair_right(state.has_above, state.above)
 }
 
+// The last time that was handed in.
 fn last_from(has: u64, time: u64) -> Last
     ensures { λ r. ⌜ r ≡ lastFrom has time ⌝ }
 {
@@ -63,6 +64,7 @@ fn last_from(has: u64, time: u64) -> Last
     Last::At(Ticks27(time))
 }
 
+// The first arrival above that was handed in.
 fn above_from(has: u64, index: u64) -> Above
     ensures { λ r. ⌜ r ≡ aboveFrom has index ⌝ }
 {
@@ -72,6 +74,7 @@ fn above_from(has: u64, index: u64) -> Above
     Above::At(index)
 }
 
+// The state that was handed in.
 fn state_from(state: ReplayState) -> State
     ensures { λ r. ⌜ r ≡ stateFrom state ⌝ }
 {
@@ -84,6 +87,7 @@ fn state_from(state: ReplayState) -> State
     }
 }
 
+// 1 where there is a last time.
 fn has_last(last: Last) -> u64
     ensures { λ r. ⌜ r ≡ hasLast last ⌝ }
 {
@@ -93,6 +97,7 @@ fn has_last(last: Last) -> u64
     }
 }
 
+// The last time, or 0.
 fn last_time(last: Last) -> u64
     ensures { λ r. ⌜ r ≡ lastTime last ⌝ }
 {
@@ -102,6 +107,7 @@ fn last_time(last: Last) -> u64
     }
 }
 
+// 1 where there was an arrival above.
 fn has_above(above: Above) -> u64
     ensures { λ r. ⌜ r ≡ hasAbove above ⌝ }
 {
@@ -111,6 +117,7 @@ fn has_above(above: Above) -> u64
     }
 }
 
+// The index of the first arrival above, or 0.
 fn above_index(above: Above) -> u64
     ensures { λ r. ⌜ r ≡ aboveIndex above ⌝ }
 {
@@ -120,6 +127,7 @@ fn above_index(above: Above) -> u64
     }
 }
 
+// The state to hand back.
 fn state_answer(state: State) -> ReplayState
     ensures { λ r. ⌜ r ≡ stateAnswer state ⌝ }
 {
@@ -136,6 +144,7 @@ fn state_answer(state: State) -> ReplayState
     }
 }
 
+// What a run answered, and the state that it left.
 fn replay_answer(ran: Ran) -> ReplayAnswer
     ensures { λ r. ⌜ r ≡ replayAnswer (ranSays ran) ⌝ }
 {

@@ -77,6 +77,10 @@ impl Refusal {
 
     pub const REPLAY_BOUNDS: Refusal = Refusal { number: 47 };
 
+    pub const MASTERING_FORM: Refusal = Refusal { number: 48 };
+
+    pub const MASTERING_BOUNDS: Refusal = Refusal { number: 49 };
+
     // Its number.
     pub fn number(self) -> u8
         ensures { λ r. ⌜ r ≡ numberOf self ⌝ }

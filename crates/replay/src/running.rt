@@ -25,6 +25,7 @@ pub struct Ran {
     pub state: State,
 }
 
+// A refusal, and the state that it leaves.
 fn refuse(why: Refusal, place: usize, state: State) -> Ran
     ensures { λ r. ⌜ ranSays r ≡ refusedAt (numberOf why) place state ⌝ }
 {

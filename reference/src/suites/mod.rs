@@ -8,6 +8,7 @@ mod descriptor_write;
 mod faults;
 mod leb128;
 mod listing;
+mod mastering;
 mod obu;
 mod order;
 mod payload;
@@ -77,6 +78,8 @@ const DESCRIPTORS: &[&Definition] = &[
     &descriptor::rewrite::SUITE,
 ];
 
+const MASTERING: &[&Definition] = &[&mastering::read::SUITE, &mastering::write::SUITE];
+
 const REPLAY: &[&Definition] = &[
     &replay::ticks::SUITE,
     &replay::boundaries::SUITE,
@@ -105,6 +108,7 @@ pub fn all(itself: bool) -> Vec<&'static Definition> {
     if !itself {
         all.extend(UNITS);
         all.extend(REPLAY);
+        all.extend(MASTERING);
     }
     all.extend(DESCRIPTORS);
     all.extend(SEGMENTS);

@@ -5,6 +5,7 @@
 //! A module declares the C functions of its topic and has one safe function for each.
 
 pub mod descriptor;
+pub mod mastering;
 pub mod payload;
 pub mod replay;
 pub mod segment;

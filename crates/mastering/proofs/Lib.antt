@@ -1,0 +1,5 @@
+pub mod Rounding
+pub mod Values
+pub mod Bounds
+pub mod Readings
+pub mod RoundTrip

@@ -1,0 +1,4 @@
+pub mod Content
+pub mod Figures
+pub mod Steps
+pub mod Exact
