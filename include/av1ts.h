@@ -47,6 +47,11 @@ av1ts_answer av1ts_write_unit(const uint8_t *obus, size_t obus_len, const size_t
  * more than 1,048,576 bytes together; 7; 8 an output is too short (bytes or lengths). A refusal leaves both outputs. */
 av1ts_answer av1ts_read_unit(const uint8_t *unit, size_t unit_len, uint8_t *out, size_t out_len, size_t *lengths, size_t lengths_len);
 
+/* The same, with how many bytes the size of each OBU takes from the front of widths, 0 where an OBU has no size; a longer leb128 than needed counts with its
+ * full width. Refuses as av1ts_read_unit, and 8 where widths is too short. A refusal leaves all three outputs. */
+av1ts_answer av1ts_read_unit_widths(const uint8_t *unit, size_t unit_len, uint8_t *out, size_t out_len, size_t *lengths, size_t lengths_len, size_t *widths,
+                                    size_t widths_len);
+
 /* The same verdict and figures with no output: all refusals of reading but 8. */
 av1ts_answer av1ts_check_unit(const uint8_t *unit, size_t unit_len);
 

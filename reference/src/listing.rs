@@ -8,7 +8,8 @@ pub const MOST_LISTED: usize = 65_536;
 
 /// The text for all bytes of standard input: "more prints `refused 2 0`. A refusal prints `refused`,
 /// number, place." Otherwise "Header: OBU count, bytes dropped in all; then index, type, OBU length,
-/// bytes dropped." Every line ends with a newline.
+/// bytes dropped." And "The lister's OBU lines gain ` width w` at the end, 0 where no size is
+/// present". Every line ends with a newline.
 pub fn list(input: &[u8]) -> String {
     if input.len() > MOST_LISTED {
         return "refused 2 0\n".to_string();
@@ -23,10 +24,10 @@ pub fn list(input: &[u8]) -> String {
         unit::total_dropped(&obus)
     );
     for (index, obu) in obus.iter().enumerate() {
-        let (size, removed) = (obu.bytes.len(), obu.dropped);
+        let (size, removed, width) = (obu.bytes.len(), obu.dropped, obu.width);
         writeln!(
             text,
-            "{index} type {} size {size} removed {removed}",
+            "{index} type {} size {size} removed {removed} width {width}",
             obu.kind.obu_type()
         )
         .expect("a string takes any text");

@@ -102,8 +102,16 @@ pub fn header(byte: u8) -> Header {
     }
 }
 
-/// Tries 3, 4, 5, 6 and 42 on one OBU, which has the given index; answers its kind.
-pub fn check(obu: &[u8], index: usize) -> Result<Kind, Refusal> {
+/// What the check of an OBU gives: its kind, and the width of its size field, "0 where no size is
+/// present".
+#[derive(Clone, Copy, Debug, PartialEq, Eq)]
+pub struct Checked {
+    pub kind: Kind,
+    pub width: usize,
+}
+
+/// Tries 3, 4, 5, 6 and 42 on one OBU, which has the given index.
+pub fn check(obu: &[u8], index: usize) -> Result<Checked, Refusal> {
     // "an OBU of no bytes"
     let Some(&first) = obu.first() else {
         return Err(Refusal::new(3, index, "3: no bytes"));
@@ -124,8 +132,10 @@ pub fn check(obu: &[u8], index: usize) -> Result<Kind, Refusal> {
     }
 
     // "bad leb128, size wrong, or a delimiter with content"
+    let mut width = 0;
     if header.has_size {
         let size = leb128(rest).map_err(|condition| Refusal::new(5, index, condition))?;
+        width = size.width;
         rest = &rest[size.width..];
         // "The value must equal the bytes that remain."
         if size.value > rest.len() as u64 {
@@ -148,5 +158,8 @@ pub fn check(obu: &[u8], index: usize) -> Result<Kind, Refusal> {
     if let Some(condition) = wrong_content(header.obu_type, rest) {
         return Err(Refusal::new(42, index, condition));
     }
-    Ok(Kind::new(header.obu_type, rest))
+    Ok(Checked {
+        kind: Kind::new(header.obu_type, rest),
+        width,
+    })
 }

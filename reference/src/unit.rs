@@ -43,6 +43,8 @@ pub fn payloads(unit: &[u8]) -> Vec<Range<usize>> {
 pub struct ReadObu {
     pub bytes: Vec<u8>,
     pub kind: Kind,
+    /// "how many bytes the old one took", of its size
+    pub width: usize,
     pub dropped: usize,
 }
 
@@ -70,10 +72,11 @@ pub fn accept(unit: &[u8]) -> Result<Vec<ReadObu>, Refusal> {
             return Err(Refusal::new(10, index, condition));
         }
         let unescaped = payload::unescaped(payload);
-        let kind = obu::check(&unescaped.obu, index)?;
+        let checked = obu::check(&unescaped.obu, index)?;
         obus.push(ReadObu {
             bytes: unescaped.obu,
-            kind,
+            kind: checked.kind,
+            width: checked.width,
             dropped: unescaped.dropped,
         });
     }
@@ -97,6 +100,20 @@ pub fn total_dropped(obus: &[ReadObu]) -> usize {
 pub fn read(unit: &[u8], bytes_room: usize, lengths_room: usize) -> Result<Vec<ReadObu>, Refusal> {
     let obus = accept(unit)?;
     if total_bytes(&obus) > bytes_room || obus.len() > lengths_room {
+        return Err(Refusal::new(8, 0, OUTPUT_TOO_SHORT));
+    }
+    Ok(obus)
+}
+
+/// Reading into rooms, that of widths too: one width for each OBU.
+pub fn read_widths(
+    unit: &[u8],
+    bytes_room: usize,
+    lengths_room: usize,
+    widths_room: usize,
+) -> Result<Vec<ReadObu>, Refusal> {
+    let obus = read(unit, bytes_room, lengths_room)?;
+    if obus.len() > widths_room {
         return Err(Refusal::new(8, 0, OUTPUT_TOO_SHORT));
     }
     Ok(obus)
@@ -126,7 +143,7 @@ pub fn written(obus: &[u8], lengths: &[usize]) -> Result<Vec<u8>, Refusal> {
     for (index, &length) in lengths.iter().enumerate() {
         let (obu, after) = rest.split_at(length);
         rest = after;
-        kinds.push(obu::check(obu, index)?);
+        kinds.push(obu::check(obu, index)?.kind);
         carried.extend_from_slice(&START_CODE);
         carried.extend(payload::escaped(obu));
     }

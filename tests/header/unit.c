@@ -25,9 +25,10 @@ int main(void) {
     const uint8_t unit[12] = {0, 0, 1, 0x12, 0, 0, 0, 1, 0x30, 0xAA, 0, 0};
     const uint8_t obus[6] = {0x12, 0, 0x30, 0xAA, 0, 0};
     const size_t lengths[2] = {2, 4};
+    const uint8_t wide[14] = {0, 0, 1, 0x2A, 0x81, 0, 5, 0, 0, 1, 0x30, 0xAA, 0, 0};
     const uint8_t shown_again[10] = {0, 0, 1, 0x18, 0x80, 0, 0, 1, 0x20, 0xAA};
     uint8_t out[16];
-    size_t read[3] = {7, 7, 7};
+    size_t read[3] = {7, 7, 7}, widths[3] = {7, 7, 7};
 
     memset(out, 0xEE, sizeof out);
     expect("two OBUs are written", is(av1ts_write_unit(obus, 6, lengths, 2, out, 16), 0, 0, 12, 0, 0));
@@ -37,6 +38,9 @@ int main(void) {
     memset(out, 0xEE, sizeof out);
     expect("the unit is read", is(av1ts_read_unit(unit, 12, out, 16, read, 3), 0, 0, 2, 6, 0));
     expect("its OBUs and lengths", memcmp(out, obus, 6) == 0 && out[6] == 0xEE && read[0] == 2 && read[1] == 4 && read[2] == 7);
+    expect("the widths are read", is(av1ts_read_unit_widths(wide, 14, out, 16, read, 3, widths, 3), 0, 0, 2, 8, 0));
+    expect("a size of two bytes, and none", widths[0] == 2 && widths[1] == 0 && widths[2] == 7);
+    expect("one width is too few", is(av1ts_read_unit_widths(wide, 14, out, 16, read, 3, widths + 2, 1), 8, 0, 0, 0, 0) && widths[2] == 7);
     expect("the unit is checked", is(av1ts_check_unit(unit, 12), 0, 0, 2, 6, 0));
     expect("a delimiter alone ends too soon", is(av1ts_check_unit(unit, 5), 7, 1, 0, 0, 0));
     expect("a frame shown again is a whole unit", is(av1ts_check_unit(shown_again, 5), 0, 0, 1, 2, 0));

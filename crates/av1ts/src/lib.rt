@@ -12,6 +12,7 @@ mod walk;
 
 pub use access_unit::av1ts_check_unit;
 pub use access_unit::av1ts_read_unit;
+pub use access_unit::av1ts_read_unit_widths;
 pub use access_unit::av1ts_write_unit;
 pub use answer::Answer;
 pub use metadata::MasteringAnswer;

@@ -1,4 +1,5 @@
-// The lister: reads a carried unit from standard input and prints what it carries, or the refusal (document 01, "The lister program").
+// The lister: reads a carried unit from standard input and prints what it carries, or the refusal (document 01, "The
+// lister program").
 use libc::STDIN_FILENO;
 use libc::STDOUT_FILENO;
 use listing::Listed;
@@ -7,7 +8,7 @@ use listing::Listed;
 const UNIT_ROOM: usize = 65537;
 
 // The most bytes that a text has, by what `list` promises.
-const TEXT_ROOM: usize = 6630;
+const TEXT_ROOM: usize = 8385;
 
 fn main() {
     let mut unit = [0u8; UNIT_ROOM];

@@ -1,17 +1,20 @@
 -- What was put into a text, piece by piece. Assumes nothing.
 use Prim.Native.Nat.{ℕ, _+_, _≤_, _<_}
 use mathlib.Core.Path.{_≡_, refl, sym, ap, _∙_}
-use mathlib.Core.List.{[], _∷_, _++_}
+use mathlib.Core.List.{[], _++_, append-assoc}
 use native.Mathlib.Omega.{arith}
 use native.Mathlib.Nat.{add-zero}
 use native.Mathlib.Numerals.{add-one}
 use lib.ListN.{length, take, set, getD, length-append, length-set, take-append-drop}
 use lib.Seq.{take-suc, take-all}
-use Rattle.lists.specs.Lists.{Bytes, over, placed}
-use Rattle.lists.specs.Bytes.{byte}
-use Rattle.emulation.specs.Payload.{unescape, dropped}
-use Rattle.obu.specs.Header.{typeBits}
-use Rattle.listing.specs.Listing.{obuLine, payloadLine}
+use Rattle.lists.specs.Lists.{Bytes, placed}
+use Rattle.refusal.specs.Verdict.{passed, refused}
+use Rattle.emulation.specs.Payload.{unescape}
+use Rattle.obu.specs.Header.{sizeBytes}
+use Rattle.unit.specs.Answer.{tsobuFigures}
+use Rattle.unit.specs.declared.tsobu.Figures.{Figures}
+use Rattle.listing.specs.Text.{ascii, decimal}
+use Rattle.listing.specs.Listing.{obuLine, lineSaid, payloadLine}
 use Rattle.listing.specs.Parts.{Puts}
 use Rattle.listing.proofs.Shared.{placed-byte, placed-twice}
 
@@ -20,7 +23,8 @@ pub puts-nothing : (text : Bytes) (at : ℕ) → Puts text at [] text at
 puts-nothing text at = record { stands = sym (take-append-drop at text); ends = omega arith }
 
 -- one piece, and another behind it
-pub puts-then : {text w later v last : Bytes} {at end stop : ℕ} → at ≤ length text → Puts text at w later end → Puts later end v last stop → Puts text at (w ++ v) last stop
+pub puts-then : {text w later v last : Bytes} {at end stop : ℕ} → at ≤ length text → Puts text at w later end → Puts later end v last stop
+    → Puts text at (w ++ v) last stop
 puts-then {text} {w} {later} {v} {last} {at} {end} {stop} h p q =
     record {
       stands =
@@ -50,18 +54,34 @@ putting-next {text} {word} {later} {at} {i} h k p =
       long = length-set later (at + i) (getD word i 0) ∙ p .long;
       so-far =
           puts-as (sym (take-suc word i 0 k) ∙ ap (λ (n : ℕ). take n word) (sym (add-one i)))
-          (puts-then (omega arith) (p .so-far) (record { stands = placed-byte later (at + i) (getD word i 0) (omega (arith, p .long)); ends = omega arith }));
+          (puts-then (omega arith) (p .so-far)
+          (record { stands = placed-byte later (at + i) (getD word i 0) (omega (arith, p .long)); ends = omega arith }));
     }
 
 pub putting-end : {text word later : Bytes} {at i : ℕ} → length word ≤ i → Putting text at word later i → Puts text at word later (at + i)
 putting-end {text} {word} {later} {at} {i} k p = puts-as (take-all i word k) (p .so-far)
 
--- the first byte of a string, from an array of one byte
-pub first-byte : (u first : Bytes) → first ≡ over (take 1 u) (0 ∷ []) → getD first 0 0 ≡ getD u 0 0
-first-byte [] first e = rw e
-first-byte (a ∷ u) first e = rw e
+-- the line of an OBU, piece by piece: a number, then a word and a number four times, then the end of the line
+pieces : (a t b u c v d w e z : Bytes)
+    → ((((a ++ (t ++ b)) ++ (u ++ c)) ++ (v ++ d)) ++ (w ++ e)) ++ z ≡ a ++ t ++ b ++ u ++ c ++ v ++ d ++ w ++ e ++ z
+pieces a t b u c v d w e z = simp append-assoc
 
--- the line of an OBU, from the figures of its payload
-pub payload-line : {type size removed : ℕ} (index : ℕ) (payload : Bytes) → type ≡ typeBits (byte (unescape payload) 0) → size ≡ length (unescape payload) → removed ≡ dropped payload
-    → obuLine index type size removed ≡ payloadLine index payload
-payload-line index payload t s r = λ i. obuLine index (t i) (s i) (r i)
+pub obu-pieces : (index type size removed width : ℕ)
+    → ((((decimal index ++ (ascii " type " ++ decimal type)) ++ (ascii " size " ++ decimal size))
+    ++ (ascii " removed " ++ decimal removed)) ++ (ascii " width " ++ decimal width)) ++ ascii "\n"
+    ≡ obuLine index type size removed width
+unfolding obuLine
+obu-pieces index type size removed width =
+    pieces (decimal index) (ascii " type ") (decimal type) (ascii " size ") (decimal size) (ascii " removed ") (decimal removed)
+    (ascii " width ") (decimal width) (ascii "\n")
+
+-- the line of an OBU, from the verdict on its payload
+pub payload-line : (index : ℕ) (payload : Bytes) (f : Figures) {size width : ℕ} → tsobuFigures payload ≡ passed f
+    → size ≡ length (unescape payload) → width ≡ sizeBytes (f .header .size)
+    → obuLine index (f .header .«obu_type») size (f .dropped) width ≡ payloadLine index payload
+payload-line index payload f e s w =
+    (λ i. obuLine index (f .header .«obu_type») (s i) (f .dropped) (w i)) ∙ sym (ap (lineSaid index payload) e)
+
+pub no-line : (index : ℕ) (payload : Bytes) (number place : ℕ) → tsobuFigures payload ≡ refused number place
+    → [] ≡ payloadLine index payload
+no-line index payload number place e = sym (ap (lineSaid index payload) e)

@@ -1,6 +1,5 @@
 -- The walk over an accepted unit, which puts one line at each step. Assumes nothing.
 use Prim.Native.Nat.{ℕ, _+_, _-_, _*_, _≤_, _<_}
-use mathlib.Core.Bool.{true}
 use mathlib.Core.Path.{_≡_, refl, sym, ap, subst, _∙_}
 use mathlib.Core.List.{List, [], _∷_, _++_, append-nil, append-assoc}
 use native.Mathlib.Omega.{arith}
@@ -9,7 +8,6 @@ use lib.ListN.{length, take, drop}
 use Rattle.lists.specs.Lists.{Bytes}
 use Rattle.refusal.specs.Verdict.{passed}
 use Rattle.refusal.proofs.Verdicts.{never, passed-then}
-use Rattle.emulation.specs.Payload.{legal}
 use Rattle.unit.specs.Unit.{payloads, readUnit, AcceptsAs}
 use Rattle.unit.specs.Answer.{checking}
 use Rattle.unit.specs.Walk.{stepping, payload, goesTo, placeAfter, handedOut, stepSays, HandsOut, none, first, Walks}
@@ -18,8 +16,7 @@ use Rattle.unit.specs.declared.walking.Step.{Step}
 use Rattle.unit.specs.declared.walking.Step.the-variants as step
 use Rattle.unit.proofs.Acceptance.{reads}
 use Rattle.unit.proofs.AsReading.{accepted-walks}
-use Rattle.unit.proofs.Places.{payload-is}
-use Rattle.unit.proofs.Steps.{not-end, gives, gives-part}
+use Rattle.unit.proofs.Steps.{not-end, gives}
 use Rattle.listing.specs.Listing.{payloadLine, payloadLines}
 use Rattle.listing.specs.Parts.{Puts, Accepts, lineRoom, obusRoom}
 use Rattle.listing.proofs.Puttings.{puts-nothing, puts-then, puts-as}
@@ -37,11 +34,6 @@ module _ (unit : Bytes) (at : ℕ) (p : Part) (e : stepping unit at ≡ passed (
 
   part-is : take (p .bytes) (drop (p .start) unit) ≡ part
   part-is = ap (handedOut unit) (sym e)
-
-  pub part-legal : legal part ≡ true
-  part-legal =
-      let h = gives unit at p e in
-      ap legal (sym part-is ∙ gives-part unit at p h ∙ payload-is unit at) ∙ h .fine
 
   goes-on : placeAfter unit at ≡ p .next
   goes-on = ap (goesTo at) e

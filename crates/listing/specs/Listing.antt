@@ -1,17 +1,17 @@
--- What the lister prints for a carried unit. The words of document 01, "Cases to prove (one table) and to run", stand over each definition.
--- Assumes nothing.
+-- What the lister prints for a carried unit. The words of document 01, "Cases to prove (one table) and to run", and of
+-- request 2026-03 stand over each definition. Assumes nothing.
 use Prim.Native.Nat.{ℕ, suc}
 use mathlib.Core.List.{List, [], _∷_, _++_}
 use lib.Dec.{ltb}
 use lib.ListN.{length}
 use Rattle.lists.specs.Lists.{Bytes}
-use Rattle.lists.specs.Bytes.{byte}
 use Rattle.refusal.specs.Verdict.{Verdict, passed, refused, _>>_, given}
 use Rattle.refusal.specs.Number.{refusedBy}
-use Rattle.emulation.specs.Payload.{unescape, dropped}
-use Rattle.obu.specs.Header.{typeBits}
+use Rattle.emulation.specs.Payload.{unescape}
+use Rattle.obu.specs.Header.{sizeBytes}
 use Rattle.unit.specs.Unit.{payloads}
-use Rattle.unit.specs.Answer.{checking}
+use Rattle.unit.specs.Answer.{checking, tsobuFigures}
+use Rattle.unit.specs.declared.tsobu.Figures.{Figures}
 use Rattle.unit.specs.declared.reading.Counts.{Counts}
 use Rattle.listing.specs.Text.{ascii, decimal}
 use Rattle.listing.specs.declared.listed.Listed.{Listed}
@@ -26,14 +26,23 @@ refusalLine number place = ascii "refused " ++ decimal number ++ ascii " " ++ de
 unfoldable pub headerLine : ℕ → ℕ → Bytes
 headerLine obus removed = ascii "obus " ++ decimal obus ++ ascii " removed " ++ decimal removed ++ ascii "\n"
 
--- "then index, type, OBU length, bytes dropped"
-unfoldable pub obuLine : ℕ → ℕ → ℕ → ℕ → Bytes
-obuLine index type size removed =
-    decimal index ++ ascii " type " ++ decimal type ++ ascii " size " ++ decimal size ++ ascii " removed " ++ decimal removed ++ ascii "\n"
+-- "then index, type, OBU length, bytes dropped"; 2026-03: "The lister's OBU lines gain ` width w` at the end"
+unfoldable pub obuLine : ℕ → ℕ → ℕ → ℕ → ℕ → Bytes
+obuLine index type size removed width =
+    decimal index ++ ascii " type " ++ decimal type ++ ascii " size " ++ decimal size ++ ascii " removed "
+    ++ decimal removed
+    ++ ascii " width " ++ decimal width ++ ascii "\n"
 
--- the line of the OBU that a payload carries
+-- the line of the OBU that a payload carries, by the verdict on the payload, which has the header with the type and the
+-- width (one that is refused has no line; no payload of a listed unit is)
+abbrev pub lineSaid : ℕ → Bytes → Verdict Figures → Bytes
+lineSaid index payload (passed figures) =
+    obuLine index (figures .header .«obu_type») (length (unescape payload)) (figures .dropped)
+    (sizeBytes (figures .header .size))
+lineSaid index payload (refused number place) = []
+
 abbrev pub payloadLine : ℕ → Bytes → Bytes
-payloadLine index payload = obuLine index (typeBits (byte (unescape payload) 0)) (length (unescape payload)) (dropped payload)
+payloadLine index payload = lineSaid index payload (tsobuFigures payload)
 
 -- the lines of payloads, of which the first has this index
 unfoldable pub payloadLines : ℕ → List Bytes → Bytes
@@ -59,9 +68,10 @@ textSaying (passed counts) payloads = headerLine (counts .obus) (counts .dropped
 unfoldable pub listText : Bytes → Bytes
 listText unit = textSaying (judgingListed unit) (payloads unit)
 
--- the most bytes that a text has: a header and 64 lines of at most 102 bytes each. It is promised that no text is longer.
+-- the most bytes that a text has: a header and 64 lines of at most 129 bytes each. It is promised that no text is
+-- longer.
 abbrev pub mostText : ℕ
-mostText = 6630
+mostText = 8385
 
 -- the text into an output of so many bytes: "8: output too short"; the answer is how many bytes were written
 unfoldable pub listing : Bytes → ℕ → Verdict ℕ

@@ -17,7 +17,7 @@ abbrev pub numberRoom : ℕ
 numberRoom = 20
 
 abbrev pub lineRoom : ℕ
-lineRoom = 102
+lineRoom = 129
 
 abbrev pub obusRoom : ℕ
 obusRoom = 64 * lineRoom

@@ -1,26 +1,22 @@
 // The lines of the text. Each function answers where its line ends.
 ghost use Prim.Native.Nat.{_+_, _≤_};
 ghost use lib.ListN.{length};
-ghost use mathlib.Core.Path.{_≡_};
-ghost use mathlib.Core.Bool.{true};
 ghost use Rattle.refusal.specs.Number.{numberOf};
-ghost use Rattle.lists.specs.Bytes.{byte};
-ghost use Rattle.emulation.specs.Payload.{legal, unescape};
-ghost use Rattle.obu.specs.Header.{typeBits};
 ghost use Rattle.listing.specs.Listing.{refusalLine, headerLine, obuLine, payloadLine};
 ghost use Rattle.listing.specs.Parts.{Puts, lineRoom};
 use crate::text::put_decimal;
 use crate::text::put_named;
 use crate::text::put_word;
-use emulation::Judged;
-use emulation::judge;
-use emulation::unescape_prefix;
+use obu::size_bytes;
 use refusal::Refused;
+use unit::TsObu;
+use unit::judge_payload;
 
 // A refusal's number and place, at the front.
 pub(crate) fn put_refusal(text: &mut [u8], refused: Refused) -> usize
     requires { ⌜ lineRoom ≤ length (now text) ⌝ }
-    ensures { λ r. ⌜ Puts (now (text .entry)) 0 (refusalLine (numberOf (refused .why)) (refused .place)) (now (text .exit)) r ⌝ }
+    ensures { λ r. ⌜ Puts (now (text .entry)) 0 (refusalLine (numberOf (refused .why)) (refused .place))
+        (now (text .exit)) r ⌝ }
     ensures { λ r. ⌜ r ≤ lineRoom ⌝ }
 {
     let why = refused.why;
@@ -49,43 +45,40 @@ fn put_obu(
     obu_type: usize,
     size: usize,
     removed: usize,
+    width: usize,
 ) -> usize
     requires { ⌜ at + lineRoom ≤ length (now text) ⌝ }
-    ensures { λ r. ⌜ Puts (now (text .entry)) at (obuLine index «obu_type» size removed) (now (text .exit)) r ⌝ }
+    ensures { λ r. ⌜ Puts (now (text .entry)) at (obuLine index «obu_type» size removed width) (now (text .exit)) r ⌝ }
     ensures { λ r. ⌜ r ≤ at + lineRoom ⌝ }
 {
     let at = put_decimal(text, at, index);
     let at = put_named(text, at, b" type ", obu_type);
     let at = put_named(text, at, b" size ", size);
     let at = put_named(text, at, b" removed ", removed);
+    let at = put_named(text, at, b" width ", width);
     put_word(text, at, b"\n")
 }
 
-// The type of the OBU that a payload carries.
-fn obu_type(payload: &[u8]) -> u8
-    ensures { λ r. ⌜ r ≡ typeBits (byte (unescape (now (payload .entry))) 0) ⌝ }
-{
-    let mut first = [0u8; 1];
-    unescape_prefix(payload, &mut first);
-    first[0] / 8 % 16
-}
-
-// The line of the OBU that a legal payload carries.
+// The line of the OBU that a payload carries; none where the payload is refused.
 pub(crate) fn put_payload(text: &mut [u8], at: usize, index: usize, payload: &[u8]) -> usize
-    requires { ⌜ (legal (now payload) ≡ true) × (at + lineRoom ≤ length (now text)) ⌝ }
+    requires { ⌜ at + lineRoom ≤ length (now text) ⌝ }
     ensures { λ r. ⌜ Puts (now (text .entry)) at (payloadLine index (now (payload .entry))) (now (text .exit)) r ⌝ }
     ensures { λ r. ⌜ r ≤ at + lineRoom ⌝ }
 {
-    let judged = judge(payload);
-    let Judged::Legal(removed) = judged else {
-        return at; // not reached
+    let judged = judge_payload(payload);
+    let TsObu::Passed(figures) = judged else {
+        return at;
     };
+    let header = figures.header;
+    let size = header.size;
+    let removed = figures.dropped;
     put_obu(
         text,
         at,
         index,
-        obu_type(payload) as usize,
+        header.obu_type as usize,
         payload.len() - removed,
         removed,
+        size_bytes(size),
     )
 }

@@ -20,7 +20,7 @@ use unit::Walk;
 const MOST_LISTED: usize = 65536;
 
 // The most bytes that a text has.
-const MOST_TEXT: usize = 6630;
+const MOST_TEXT: usize = 8385;
 
 // How many bytes the text has, or the refusal.
 pub enum Listed {
@@ -31,7 +31,8 @@ pub enum Listed {
 // The lines of the OBUs of an accepted unit, one for each step of a walk over it.
 fn put_obus(text: &mut [u8], at: usize, unit: &[u8]) -> usize
     requires { ⌜ Accepts (now unit) × (at + obusRoom ≤ length (now text)) ⌝ }
-    ensures { λ r. ⌜ Puts (now (text .entry)) at (payloadLines 0 (payloads (now (unit .entry)))) (now (text .exit)) r ⌝ }
+    ensures { λ r. ⌜ Puts (now (text .entry)) at (payloadLines 0 (payloads (now (unit .entry))))
+        (now (text .exit)) r ⌝ }
     ensures { λ r. ⌜ r ≤ at + obusRoom ⌝ }
 {
     let mut walk = Walk::new(unit);

@@ -88,7 +88,8 @@ fn extension_missing(first: u8, bytes: usize) -> bool
     false
 }
 
-fn size_bytes(size: Size) -> usize
+// How many bytes a size takes, 0 where no size is present.
+pub fn size_bytes(size: Size) -> usize
     ensures { λ r. ⌜ r ≡ sizeBytes size ⌝ }
 {
     match size {

@@ -10,6 +10,7 @@ pub use header::Size;
 pub use header::judge;
 pub use header::kind_number;
 pub use header::read_header;
+pub use header::size_bytes;
 pub use leb128::Leb;
 pub use leb128::read_leb128;
 pub use ordering::Ordered;

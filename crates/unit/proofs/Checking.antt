@@ -1,20 +1,22 @@
 -- Checking, try by try. Assumes nothing.
 use Prim.Native.Nat.{ℕ, _≤_, _<_}
-use mathlib.Core.Bool.{Bool, true, false, not, _||_, or-true}
-use mathlib.Core.Path.{_≡_, refl, sym, ap, ap₂, _∙_}
+use mathlib.Core.Bool.{Bool, true, false, not, _||_, or-false}
+use mathlib.Core.Path.{_≡_, refl, sym, ap, _∙_}
 use mathlib.Core.List.{List, [], _∷_, map, flatten}
 use native.Mathlib.Omega.{arith}
-use borrow.Author.Tests.{lt-ltb, le-ltb}
+use borrow.Author.Tests.{lt-ltb, le-ltb, ltb-false}
 use lib.Dec.{ltb}
 use lib.ListN.{length, take, length-map}
 use Rattle.lists.specs.Lists.{Bytes}
+use Rattle.lists.proofs.Tests.{or-neither}
 use Rattle.refusal.specs.Verdict.{Verdict, passed, refused, _>>=_, _>>_, given, inTurn}
 use Rattle.refusal.proofs.Verdicts.{refuse, pass-on, follows, stops, then-bind, then-refused, never, passed-after, passed-same, passed-then}
 use Rattle.emulation.specs.Payload.{unescape}
+use Rattle.obu.specs.Header.{sizeWidth}
 use Rattle.obu.specs.Order.{Kind, kindOf, kindOfNumber, orderRefusal}
 use Rattle.unit.specs.Unit.{mostCarried, mostObus, mostObuBytes, atStartCode, payloads, obusIn, sum, tsobuRefusal, readUnit}
 use Rattle.unit.specs.Unit.{droppedIn}
-use Rattle.unit.specs.Answer.{checking, reading, readSays}
+use Rattle.unit.specs.Answer.{checking, reading, tooShort, readingWidths, readSays}
 use Rattle.unit.specs.Parts.{kindIn, endsFrom, payloadCounts, wholeCounts, JudgedUnit}
 use Rattle.unit.specs.declared.reading.Counts.{Counts}
 use Rattle.unit.specs.declared.reading.UnitRead.{UnitRead}
@@ -108,25 +110,28 @@ pub counts-obus : (s : Bytes) (c : Counts) → passed c ≡ payloadCounts s → 
 unfolding payloadCounts
 counts-obus s c k = ap (λ (x : Counts). x .obus) (sym (passed-same _ c (passed-after (inTurn tsobuRefusal 0 (payloads s)) _ c (sym k) .1)))
 
--- ---- the answer with the ends
+-- ---- the answer with the ends and the widths
 whole-counts : (c : Counts) (numbers : List ℕ) (d : Counts) → wholeCounts c numbers ≡ passed d → d ≡ c
 unfolding wholeCounts
 whole-counts c numbers d e = sym (passed-same c d (passed-after _ _ d (passed-after _ _ d e .1) .1))
 
-pub answer-refused : (s : Bytes) (r : UnitRead) (ends : List ℕ) (number place : ℕ) → readSays r ≡ refused number place
+pub answer-refused : (s : Bytes) (r : UnitRead) (ends widths : List ℕ) (number place : ℕ) → readSays r ≡ refused number place
     → refused number place ≡ checking s
-    → JudgedUnit s (record { answer = r; ends = ends })
-answer-refused s r ends number place e k =
-    record { answer = e ∙ k; ends = λ c p. never (k ∙ p) }
+    → JudgedUnit s (record { answer = r; ends = ends; widths = widths })
+answer-refused s r ends widths number place e k =
+    record { answer = e ∙ k; ends = λ c p. never (k ∙ p); widths = λ c p. never (k ∙ p) }
 
-pub answer-whole : (s : Bytes) (r : UnitRead) (c : Counts) (at numbers : List ℕ) → readSays r ≡ wholeCounts c numbers
+pub answer-whole : (s : Bytes) (r : UnitRead) (c : Counts) (at widths numbers : List ℕ) → readSays r ≡ wholeCounts c numbers
     → wholeCounts c numbers ≡ checking s → c .obus ≡ length (payloads s)
-    → take (length (payloads s)) at ≡ endsFrom 0 (payloads s) → JudgedUnit s (record { answer = r; ends = at })
-answer-whole s r c at numbers e k n a =
+    → take (length (payloads s)) at ≡ endsFrom 0 (payloads s) → take (length (payloads s)) widths ≡ map sizeWidth (obusIn s)
+    → JudgedUnit s (record { answer = r; ends = at; widths = widths })
+answer-whole s r c at widths numbers e k n a w =
+    let obus : (d : Counts) → checking s ≡ passed d → d .obus ≡ length (payloads s) =
+    λ d p. ap (λ (x : Counts). x .obus) (whole-counts c numbers d (k ∙ p)) ∙ n in
     record {
       answer = e ∙ k;
-      ends = λ d p. ap (λ (m : ℕ). take m at) (ap (λ (x : Counts). x .obus) (whole-counts c numbers d (k ∙ p)) ∙ n)
-          ∙ a;
+      ends = λ d p. ap (λ (m : ℕ). take m at) (obus d p) ∙ a;
+      widths = λ d p. ap (λ (m : ℕ). take m widths) (obus d p) ∙ w;
     }
 
 -- ---- what an accepted unit is
@@ -152,24 +157,38 @@ checked s c e =
     }
 
 -- ---- reading, behind the verdict of checking
-module _ (s : Bytes) (bytes lengths : ℕ) where
-  pub reading-refused : (number place : ℕ) → checking s ≡ refused number place → refused number place ≡ reading s bytes lengths
-  unfolding reading _>>=_
+module _ (s : Bytes) (bytes lengths widths : ℕ) where
+  pub reading-refused : (number place : ℕ) → checking s ≡ refused number place → refused number place ≡ readingWidths s bytes lengths widths
+  unfolding readingWidths _>>=_
   reading-refused number place e = rw e
 
-  short-by : (c : Counts) → checking s ≡ passed c → (ltb bytes (c .bytes) || ltb lengths (c .obus)) ≡ true
-      → refused 8 0 ≡ reading s bytes lengths
-  unfolding reading _>>=_
-  short-by c e t = rw e (refuse 8 (passed c) t)
+  module _ (c : Counts) (e : checking s ≡ passed c) where
+    pub reading-short : tooShort c bytes lengths widths ≡ true → refused 8 0 ≡ readingWidths s bytes lengths widths
+    unfolding readingWidths _>>=_
+    reading-short t = rw e (refuse 8 (passed c) t)
 
-  pub short-of-bytes : (c : Counts) → checking s ≡ passed c → bytes < c .bytes → refused 8 0 ≡ reading s bytes lengths
-  short-of-bytes c e h = short-by c e (ap (λ (t : Bool). t || ltb lengths (c .obus)) (lt-ltb bytes (c .bytes) h))
+    pub reading-fits : tooShort c bytes lengths widths ≡ false → passed c ≡ readingWidths s bytes lengths widths
+    unfolding readingWidths _>>=_
+    reading-fits t = rw e (pass-on 8 t refl)
 
-  pub short-of-lengths : (c : Counts) → checking s ≡ passed c → lengths < c .obus → refused 8 0 ≡ reading s bytes lengths
-  short-of-lengths c e h = short-by c e
-      (ap (λ (t : Bool). ltb bytes (c .bytes) || t) (lt-ltb lengths (c .obus) h) ∙ or-true (ltb bytes (c .bytes)))
+-- the rooms that are not too short
+pub rooms : (c : Counts) (bytes lengths widths : ℕ) → tooShort c bytes lengths widths ≡ false
+    → (c .bytes ≤ bytes) × (c .obus ≤ lengths) × (c .obus ≤ widths)
+rooms c bytes lengths widths t =
+    let some = or-neither (ltb bytes (c .bytes) || ltb lengths (c .obus)) (ltb widths (c .obus)) t in
+    let first = or-neither (ltb bytes (c .bytes)) (ltb lengths (c .obus)) (some .0) in
+    (ltb-false bytes (c .bytes) (first .0), ltb-false lengths (c .obus) (first .1), ltb-false widths (c .obus) (some .1))
 
-  pub reading-fits : (c : Counts) → checking s ≡ passed c → c .bytes ≤ bytes → c .obus ≤ lengths → passed c ≡ reading s bytes lengths
-  unfolding reading _>>=_
-  reading-fits c e h k =
-      rw e (pass-on 8 (ap₂ (λ (t u : Bool). t || u) (le-ltb bytes (c .bytes) h) (le-ltb lengths (c .obus) k)) refl)
+-- with room for 64 widths, reading is by the bytes and the lengths alone
+widths-enough : (v : Verdict Counts) (bytes lengths widths : ℕ) → ((c : Counts) → v ≡ passed c → c .obus ≤ widths)
+    → (v >>= λ c. given 8 (tooShort c bytes lengths widths) >> passed c)
+    ≡ (v >>= λ c. given 8 (ltb bytes (c .bytes) || ltb lengths (c .obus)) >> passed c)
+unfolding _>>=_
+widths-enough (passed c) bytes lengths widths h =
+    ap (λ (t : Bool). given 8 (ltb bytes (c .bytes) || ltb lengths (c .obus) || t) >> passed c) (le-ltb widths (c .obus) (h c refl))
+    ∙ ap (λ (t : Bool). given 8 t >> passed c) (or-false (ltb bytes (c .bytes) || ltb lengths (c .obus)))
+widths-enough (refused number place) bytes lengths widths h = refl
+
+pub with-64 : (s : Bytes) (bytes lengths : ℕ) → readingWidths s bytes lengths 64 ≡ reading s bytes lengths
+unfolding readingWidths reading
+with-64 s bytes lengths = widths-enough (checking s) bytes lengths 64 (λ c e. checked s c e .few)

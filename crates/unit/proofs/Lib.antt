@@ -9,6 +9,7 @@ pub mod Walks
 pub mod AsReading
 pub mod ByReader
 pub mod Held
+pub mod TsObus
 pub mod Readings
 pub mod Checking
 pub mod Rests

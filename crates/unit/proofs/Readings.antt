@@ -1,43 +1,38 @@
 -- Loops over the payloads of a unit: what is done, then the definition of the rest, is the definition of the whole. Assumes nothing.
 use Prim.Native.Nat.{ℕ, _+_, _-_, _≤_, _<_}
 use mathlib.Core.Bool.{true, false, true≢false}
-use mathlib.Core.Path.{_≡_, refl, sym, ap, ap₂, subst, _∙_}
+use mathlib.Core.Path.{_≡_, refl, sym, ap, subst, _∙_}
 use mathlib.Core.Logic.{inr}
 use mathlib.Core.List.{List, [], _∷_, _++_, map, flatten, append-nil}
 use native.Mathlib.Omega.{arith}
 use native.Mathlib.Numerals.{add-one}
-use borrow.Author.Tests.{lt-ltb, le-ltb, ltb-true, ltb-false, eq-eqb, ne-eqb}
+use borrow.Author.Tests.{lt-ltb, le-ltb, ltb-true, ltb-false}
 use lib.Dec.{ltb}
 use lib.ListN.{length, take, drop, getD, set, length-set, length-append, length-drop, length-map}
-use lib.Seq.{take-suc-set, append-snoc, take-at, getD-take}
-use Rattle.lists.specs.Lists.{Bytes, pick, over, placed}
+use lib.Seq.{take-suc-set, append-snoc, getD-take}
+use Rattle.lists.specs.Lists.{Bytes, over, placed}
 use Rattle.lists.proofs.Tests.{case}
 use Rattle.lists.proofs.Parts.{next}
 use Rattle.lists.proofs.Writing.{Part, start, counted, room, put, put-all, done}
-use Rattle.refusal.specs.declared.Refusal.{Refusal}
 use Rattle.refusal.specs.declared.Refused.{Refused}
-use Rattle.refusal.specs.Verdict.{Verdict, passed, refused, _>>=_, _>>_, given, inTurn}
+use Rattle.refusal.specs.Verdict.{passed, refused, inTurn}
 use Rattle.refusal.specs.Number.{numberOf, refusedBy}
-use Rattle.refusal.proofs.Verdicts.{refuse, pass-on, follows, stops, passed-after, passed-same, then-refused, turn-passed, turn-refused}
-use Rattle.emulation.specs.Payload.{legal, unescape, dropped}
+use Rattle.refusal.proofs.Verdicts.{refuse, pass-on, follows, stops, never, then-refused, turn-passed, turn-refused}
+use Rattle.emulation.specs.Payload.{unescape, dropped}
 use Rattle.emulation.proofs.Steps.{given-or-dropped}
-use Rattle.obu.specs.declared.header.Header.{Header}
-use Rattle.obu.specs.declared.header.Judged.{Judged as Obu}
-use Rattle.obu.specs.declared.header.Judged.the-variants as obu
-use Rattle.obu.specs.Header.{judged, judgedSays as obuSays, mostJudged}
+use Rattle.obu.specs.Header.{sizeBytes, widthSaid, sizeWidth}
 use Rattle.obu.specs.declared.ordering.Ordered.{Ordered}
 use Rattle.obu.specs.declared.ordering.Ordered.the-variants as ordered
-use Rattle.obu.specs.Order.{kindOfNumber, kindNumber, orderRefusal, orderedSays}
-use Rattle.obu.proofs.Headers.{judged-first, judged-number}
+use Rattle.obu.specs.Order.{kindOfNumber, kindNumber, numberSaid, orderRefusal, orderedSays}
 use Rattle.unit.specs.Unit.{mostObus, mostObuBytes, atStartCode, payloads, obusIn, sum, tsobuRefusal, droppedIn}
-use Rattle.unit.specs.Parts.{kindIn, figures, tsobuFigures, tsobuSays, legalFigures, endsFrom, EndsOf, payloadCounts, Judges}
-use Rattle.unit.specs.Parts.{wholeCounts}
+use Rattle.unit.specs.Answer.{readSays}
+use Rattle.unit.specs.Parts.{kindIn, endsFrom, EndsOf, payloadCounts, Judges, wholeCounts}
 use Rattle.unit.specs.declared.reading.Counts.{Counts}
 use Rattle.unit.specs.declared.reading.UnitRead.the-variants as read
 use Rattle.unit.specs.declared.reading.Ends.{Ends}
-use Rattle.unit.specs.declared.reading.Figures.{Figures}
-use Rattle.unit.specs.declared.reading.TsObu.{TsObu}
-use Rattle.unit.specs.declared.reading.TsObu.the-variants as tsobu
+use Rattle.unit.specs.declared.reading.Payloads.{Payloads}
+use Rattle.unit.specs.declared.tsobu.Figures.{Figures}
+use Rattle.unit.proofs.TsObus.{Passes}
 use Rattle.unit.proofs.Places.{Place, nextCode, payloadAt, payload-length, next-fits, next-place, payloads-from, payloads-end}
 use Rattle.unit.proofs.Places.{place-code}
 
@@ -114,68 +109,6 @@ ending-done {s} {at} {count} {code} j h =
       at = λ e. sym (append-nil (take count at)) ∙ ap (λ (l : List ℕ). take count at ++ l) (sym (ends-end s code h)) ∙ j .filled;
     }
 
--- ---- one payload
--- the first bytes, unescaped into the front of an array
-pub first-bytes : (u z first : Bytes) (n : ℕ) → n ≡ length (take (length z) u) → first ≡ over (take (length z) u) z
-    → (n ≤ length first) × (take n first ≡ take (length z) u)
-first-bytes u z first n e f =
-    let w = take (length z) u in
-    (omega (arith, ap length f, length-append w (drop (length w) z)), ap (take n) f ∙ take-at w (drop (length w) z) n (sym e))
-
--- the first bytes and the length decide as the whole OBU does
-pub judged-short : (u first : Bytes) (n k : ℕ) → mostJudged ≤ k → first ≡ take k u → n ≡ length u → judged first n ≡ judged u (length u)
-judged-short u first n k h e f = ap₂ judged e f ∙ judged-first k u (length u) h
-
-refusal-stays : {A : Type 0} {v : Verdict Header} {number place : ℕ} (w : Verdict A) → refused number place ≡ v
-    → refused number place ≡ ((v >> passed (tt {0})) >> w)
-unfolding _>>_
-refusal-stays w e = rw (← e)
-
-value-goes : {A : Type 0} {v : Verdict Header} {h : Header} {w x : Verdict A} → passed h ≡ v → x ≡ w → x ≡ ((v >> passed (tt {0})) >> w)
-unfolding _>>_
-value-goes e f = rw (← e) f
-
-pub figures-refused : (payload : Bytes) (q : Obu) (r : Refused) → obuSays q ≡ judged (unescape payload) (length (unescape payload))
-    → q ≡ obu.Refused r
-    → refusedBy r ≡ legalFigures payload
-unfolding legalFigures
-figures-refused payload q r e k = refusal-stays (passed (figures payload)) (sym (ap obuSays k) ∙ e)
-
-pub figures-passed : (payload : Bytes) (q : Obu) (h : Header) (d : ℕ) → obuSays q ≡ judged (unescape payload) (length (unescape payload))
-    → q ≡ obu.Passed h → d ≡ dropped payload
-    → (n : ℕ) → n ≡ kindNumber h → passed (record { kind = n; dropped = d }) ≡ legalFigures payload
-unfolding legalFigures
-figures-passed payload q h d e k f n g =
-    let j : passed h ≡ judged (unescape payload) (length (unescape payload)) = sym (ap obuSays k) ∙ e in
-    let t : n ≡ kindIn payload = g ∙ sym (judged-number (unescape payload) (length (unescape payload)) h (sym j)) in
-    value-goes j (λ i. passed (record { kind = t i; dropped = f i }))
-
-pub tsobu-empty : (payload : Bytes) → length payload ≡ 0 → refused 3 0 ≡ tsobuFigures payload
-unfolding tsobuFigures tsobuRefusal given pick _>>_
-tsobu-empty payload e = rw (eq-eqb (length payload) 0 e)
-
-pub tsobu-illegal : (payload : Bytes) → (length payload ≡ 0 → ⊥) → legal payload ≡ false → refused 10 0 ≡ tsobuFigures payload
-unfolding tsobuFigures tsobuRefusal given pick _>>_
-tsobu-illegal payload h e = rw (ne-eqb (length payload) 0 h, e)
-
-pub tsobu-legal : (payload : Bytes) → (length payload ≡ 0 → ⊥) → legal payload ≡ true → legalFigures payload ≡ tsobuFigures payload
-unfolding tsobuFigures tsobuRefusal legalFigures given pick _>>_
-tsobu-legal payload h e = rw (ne-eqb (length payload) 0 h, e)
-
--- one payload's answer, as a refusal or a pass
-pub tsobu-refused : (payload : Bytes) (q : TsObu) (r : Refused) → tsobuSays q ≡ tsobuFigures payload → q ≡ tsobu.Refused r
-    → tsobuRefusal payload ≡ refusedBy r
-unfolding tsobuFigures
-tsobu-refused payload q r e k =
-    then-refused (tsobuRefusal payload) (figures payload) (numberOf (r .why)) (r .place) (sym e ∙ ap tsobuSays k)
-
-pub tsobu-passed : (payload : Bytes) (q : TsObu) (f : Figures) → tsobuSays q ≡ tsobuFigures payload → q ≡ tsobu.Passed f
-    → (tsobuRefusal payload ≡ passed tt) × (f ≡ figures payload)
-unfolding tsobuFigures
-tsobu-passed payload q f e k =
-    let h = passed-after (tsobuRefusal payload) (passed (figures payload)) f (sym e ∙ ap tsobuSays k) in
-    (h .0, sym (passed-same (figures payload) f (h .1)))
-
 -- ---- one payload after the other: `k` of them stand before `code`, and their ends are known
 pub record Passing (s : Bytes) (at : List ℕ) (code k : ℕ) : Type 0 where
   pub place : Place s code
@@ -234,60 +167,91 @@ passing-none {s} {at} {code} {k} j h = empty (payloads (drop code s)) (omega (ar
     empty [] e = refl
     empty (b ∷ l) e = absurd (omega arith)
 
+-- ---- what is noted of each payload in an array
+pub record Noted (f : Bytes → ℕ) (s : Bytes) (noted : List ℕ) (code k : ℕ) : Type 0 where
+  pub long : length noted ≡ 64
+  pub front : take k noted ++ map f (payloads (drop code s)) ≡ map f (payloads s)
+
+noted-start : (f : Bytes → ℕ) (s : Bytes) (noted : List ℕ) → length noted ≡ 64 → Noted f s noted 0 0
+noted-start f s noted l = record { long = l; front = refl }
+
+noted-step : (f : Bytes → ℕ) (s : Bytes) {at noted : List ℕ} {code k : ℕ} → Noted f s noted code k → Passing s at code k
+    → k < length (payloads s) → k < 64 → (n : ℕ) → n ≡ f (payloadAt s code) → Noted f s (set noted k n) (nextCode s code) (k + 1)
+noted-step f s {at} {noted} {code} {k} j p h small n e =
+    let rest = payloads (drop (nextCode s code) s) in
+    record {
+      long = length-set noted k n ∙ j .long;
+      front =
+          ap (λ (l : List ℕ). l ++ map f rest)
+          (ap (λ (m : ℕ). take m (set noted k n)) (add-one k) ∙ take-suc-set noted k n (omega (arith, j .long)))
+          ∙ append-snoc (take k noted) n (map f rest)
+          ∙ ap (λ (t : ℕ). take k noted ++ (t ∷ map f rest)) e
+          ∙ ap (λ (l : List Bytes). take k noted ++ map f l) (sym (passing-payloads p h))
+          ∙ j .front;
+    }
+
+noted-done : (f : Bytes → ℕ) (s : Bytes) {noted : List ℕ} {code k : ℕ} → Noted f s noted code k → payloads (drop code s) ≡ []
+    → length (payloads s) ≡ k → take (length (payloads s)) noted ≡ map f (payloads s)
+noted-done f s {noted} {code} {k} j z m =
+    ap (λ (x : ℕ). take x noted) m ∙ sym (append-nil (take k noted)) ∙ ap (λ (l : List Bytes). take k noted ++ map f l) (sym z)
+    ∙ j .front
+
 -- ---- the payloads of a unit, judged in turn: `k` of them passed
-pub record Judging (s : Bytes) (at kinds : List ℕ) (bytes drops code k : ℕ) : Type 0 where
+-- how many bytes the size of a payload's OBU takes
+abbrev pub widthIn : Bytes → ℕ
+widthIn payload = sizeWidth (unescape payload)
+
+widths-in : (ps : List Bytes) → map widthIn ps ≡ map sizeWidth (map unescape ps)
+widths-in [] = refl
+widths-in (p ∷ ps) = ap (λ (l : List ℕ). widthIn p ∷ l) (widths-in ps)
+
+pub record Judging (s : Bytes) (at kinds widths : List ℕ) (bytes drops code k : ℕ) : Type 0 where
   pub passing : Passing s at code k
-  pub long : length kinds ≡ 64
   pub small : bytes + drops ≤ code
   pub passed-so-far : inTurn tsobuRefusal 0 (payloads s) ≡ inTurn tsobuRefusal k (payloads (drop code s))
   pub sum-bytes : bytes + sum (map length (map unescape (payloads (drop code s)))) ≡ sum (map length (obusIn s))
   pub sum-dropped : drops + sum (map dropped (payloads (drop code s))) ≡ droppedIn s
-  pub noted : take k kinds ++ map kindIn (payloads (drop code s)) ≡ map kindIn (payloads s)
+  pub kinds-noted : Noted kindIn s kinds code k
+  pub widths-noted : Noted widthIn s widths code k
 
-pub judging-start : (s : Bytes) (e : Ends) (kinds : List ℕ) → length kinds ≡ 64 → atStartCode s ≡ true → EndsOf s e → e .more ≡ false
-    → Judging s (e .at) kinds 0 0 0 0
-judging-start s e kinds l c o m =
+pub judging-start : (s : Bytes) (e : Ends) (kinds widths : List ℕ) → length kinds ≡ 64 → length widths ≡ 64 → atStartCode s ≡ true
+    → EndsOf s e → e .more ≡ false → Judging s (e .at) kinds widths 0 0 0 0
+judging-start s e kinds widths l m c o n =
     record {
-      passing = passing-start s (e .at) c (ap (λ (n : ℕ). take n (e .at)) (sym (o .count m)) ∙ o .at m);
-      long = l;
+      passing = passing-start s (e .at) c (ap (λ (x : ℕ). take x (e .at)) (sym (o .count n)) ∙ o .at n);
       small = omega arith;
       passed-so-far = refl;
       sum-bytes = omega arith;
       sum-dropped = omega arith;
-      noted = refl;
+      kinds-noted = noted-start kindIn s kinds l;
+      widths-noted = noted-start widthIn s widths m;
     }
 
-module _ {s : Bytes} {at kinds : List ℕ} {bytes drops code k : ℕ} (j : Judging s at kinds bytes drops code k)
+module _ {s : Bytes} {at kinds widths : List ℕ} {bytes drops code k : ℕ} (j : Judging s at kinds widths bytes drops code k)
     (h : k < length (payloads s)) where
-  pub judging-step : (f : Figures) → tsobuRefusal (payloadAt s code) ≡ passed tt → f ≡ figures (payloadAt s code) → k < 64
-      → Judging s at (set kinds k (f .kind)) (bytes + (nextCode s code - (code + 3) - f .dropped)) (drops + f .dropped) (nextCode s code)
-      (k + 1)
+  pub judging-step : (f : Figures) → Passes (payloadAt s code) f → k < 64
+      → (kind width : ℕ) → kind ≡ kindNumber (f .header) → width ≡ sizeBytes (f .header .size)
+      → Judging s at (set kinds k kind) (set widths k width) (bytes + (nextCode s code - (code + 3) - f .dropped)) (drops + f .dropped)
+      (nextCode s code) (k + 1)
   unfolding sum endsFrom
-  judging-step f p e small =
+  judging-step f p few kind width e g =
       let q = passing-payloads (j .passing) h in
       let pay = payloadAt s code in
       let rest = payloads (drop (nextCode s code) s) in
-      let dr : f .dropped ≡ dropped pay = ap (λ (x : Figures). x .dropped) e in
+      let dr : f .dropped ≡ dropped pay = p .dropped-is in
       let len = payload-length s code in
       let both = given-or-dropped pay in
-      let room : k < length kinds = omega (arith, j .long) in
       record {
         passing = passing-step (j .passing) h;
-        long = length-set kinds k (f .kind) ∙ j .long;
         small = omega (arith, j .small);
         passed-so-far =
-            j .passed-so-far ∙ ap (inTurn tsobuRefusal k) q ∙ turn-passed tsobuRefusal k pay rest p
+            j .passed-so-far ∙ ap (inTurn tsobuRefusal k) q ∙ turn-passed tsobuRefusal k pay rest (p .tries)
             ∙ ap (λ (i : ℕ). inTurn tsobuRefusal i rest) (sym (add-one k));
         sum-bytes =
             omega (arith, j .sum-bytes, ap (λ (l : List Bytes). sum (map length (map unescape l))) q);
         sum-dropped = omega (arith, j .sum-dropped, ap (λ (l : List Bytes). sum (map dropped l)) q);
-        noted =
-            ap (λ (l : List ℕ). l ++ map kindIn rest)
-            (ap (λ (m : ℕ). take m (set kinds k (f .kind))) (add-one k) ∙ take-suc-set kinds k (f .kind) room)
-            ∙ append-snoc (take k kinds) (f .kind) (map kindIn rest)
-            ∙ ap (λ (t : ℕ). take k kinds ++ (t ∷ map kindIn rest)) (ap (λ (x : Figures). x .kind) e)
-            ∙ ap (λ (l : List Bytes). take k kinds ++ map kindIn l) (sym q)
-            ∙ j .noted;
+        kinds-noted = noted-step kindIn s (j .kinds-noted) (j .passing) h few kind (e ∙ sym (ap numberSaid (p .header)));
+        widths-noted = noted-step widthIn s (j .widths-noted) (j .passing) h few width (g ∙ sym (ap widthSaid (p .header)));
       }
 
   -- the first payload that is left is refused
@@ -300,31 +264,34 @@ module _ {s : Bytes} {at kinds : List ℕ} {bytes drops code k : ℕ} (j : Judgi
       stops _ t
 
 -- all passed
-module _ {s : Bytes} {at kinds : List ℕ} {bytes drops code k : ℕ} (j : Judging s at kinds bytes drops code k)
+module _ {s : Bytes} {at kinds widths : List ℕ} {bytes drops code k : ℕ} (j : Judging s at kinds widths bytes drops code k)
     (h : length (payloads s) ≤ k) where
   pub judging-done : (count : ℕ) → count ≡ length (payloads s)
-      → Judges s (record { found = read.Obus (record { obus = count; bytes = bytes; dropped = drops }); kinds = kinds })
+      → Judges s (record {
+        found = read.Obus (record { obus = count; bytes = bytes; dropped = drops });
+        kinds = kinds;
+        widths = widths;
+      })
   unfolding payloadCounts sum inTurn
   judging-done count n =
       let z = passing-none (j .passing) h in
       let m : length (payloads s) ≡ k = omega (arith, j .passing .counted, ap length z) in
-      let b : bytes ≡ sum (map length (obusIn s)) = omega
-      (arith, j .sum-bytes, ap (λ (l : List Bytes). sum (map length (map unescape l))) z) in
+      let b : bytes ≡ sum (map length (obusIn s)) =
+      omega (arith, j .sum-bytes, ap (λ (l : List Bytes). sum (map length (map unescape l))) z) in
       let d : drops ≡ droppedIn s = omega (arith, j .sum-dropped, ap (λ (l : List Bytes). sum (map dropped l)) z) in
       record {
         found = follows (j .passed-so-far ∙ ap (inTurn tsobuRefusal k) z) (λ i. passed (record { obus = n i; bytes = b i; dropped = d i }));
-        kinds = λ e.
-            ap (λ (x : ℕ). take x kinds) m ∙ sym (append-nil (take k kinds)) ∙ ap (λ (l : List Bytes). take k kinds ++ map kindIn l) (sym z)
-            ∙ j .noted;
+        kinds = λ e. noted-done kindIn s (j .kinds-noted) z m;
+        widths = λ e. noted-done widthIn s (j .widths-noted) z m ∙ widths-in (payloads s);
       }
 
--- where a payload was refused, nothing is asked of the kinds
-pub refused-judges : {s : Bytes} (kinds : List ℕ) {why : Refusal} {k : ℕ} → refused (numberOf why) k ≡ payloadCounts s
-    → Judges s (record { found = read.Refused (record { why = why; place = k }); kinds = kinds })
+-- where a payload was refused, nothing is asked of what was noted
+pub refused-judges : {s : Bytes} (p : Payloads) {number place : ℕ} → readSays (p .found) ≡ refused number place
+    → refused number place ≡ payloadCounts s → Judges s p
 unfolding payloadCounts
-refused-judges {s} kinds {why} {k} e =
-    let r = then-refused (inTurn tsobuRefusal 0 (payloads s)) _ (numberOf why) k (sym e) in
-    record { found = e; kinds = λ p. let z : _≡_ {A = ℕ} 0 1 = cc in absurd (omega arith) }
+refused-judges {s} p {number} {place} f e =
+    let r = then-refused (inTurn tsobuRefusal 0 (payloads s)) _ number place (sym e) in
+    record { found = f ∙ e; kinds = λ t. never (sym r ∙ t); widths = λ t. never (sym r ∙ t) }
 
 -- ---- the payloads passed
 module _ (counts : Counts) (kinds : List ℕ) where

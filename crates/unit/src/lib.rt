@@ -2,6 +2,7 @@
 mod codes;
 mod reader;
 mod reading;
+mod tsobu;
 mod walking;
 mod writing;
 
@@ -11,6 +12,9 @@ pub use reading::Counts;
 pub use reading::UnitRead;
 pub use reading::check;
 pub use reading::read;
+pub use tsobu::Figures;
+pub use tsobu::TsObu;
+pub use tsobu::judge_payload;
 pub use walking::Part;
 pub use walking::Started;
 pub use walking::Step;

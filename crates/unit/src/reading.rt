@@ -5,16 +5,19 @@ ghost use mathlib.Core.List.{map, flatten};
 ghost use Rattle.lists.specs.Lists.{over};
 ghost use Prim.Native.Nat.{_≤_};
 ghost use lib.ListN.{length, take};
-ghost use Rattle.refusal.specs.Verdict.{leaves};
-ghost use Rattle.emulation.specs.Payload.{dropped as Payload·dropped};
+ghost use Rattle.refusal.specs.Verdict.{refused, leaves};
+ghost use Rattle.refusal.specs.Number.{numberOf};
+ghost use Rattle.obu.specs.Header.{sizeWidth};
 ghost use Rattle.unit.specs.Unit.{atStartCode, payloads, obusIn};
-ghost use Rattle.unit.specs.Answer.{checking, reading, readSays};
-ghost use Rattle.unit.specs.Parts.{tsobuSays, tsobuFigures, legalFigures, EndsOf, Judges, wholeCounts};
-ghost use Rattle.unit.specs.Parts.{JudgedUnit, endsFrom};
+ghost use Rattle.unit.specs.Answer.{checking, tooShort, readingWidths, readSays};
+ghost use Rattle.unit.specs.Parts.{EndsOf, Judges, wholeCounts, JudgedUnit, endsFrom};
 use crate::codes::code_at;
 use crate::codes::find;
+use crate::tsobu::TsObu;
+use crate::tsobu::judge_payload;
 use emulation::unescape_prefix;
-use obu::JUDGED_BYTES;
+use obu::kind_number;
+use obu::size_bytes;
 use refusal::Refusal;
 use refusal::Refused;
 
@@ -44,27 +47,18 @@ struct Ends {
     at: [usize; 64],
 }
 
-// The number of an OBU's kind, and the bytes dropped from its payload.
-struct Figures {
-    kind: u8,
-    dropped: usize,
-}
-
-enum TsObu {
-    Passed(Figures),
-    Refused(Refused),
-}
-
-// What the payloads of a unit were found to be, with the numbers of the OBUs' kinds.
+// What the payloads of a unit were found to be, with the numbers of the OBUs' kinds and the widths of their sizes.
 struct Payloads {
     found: UnitRead,
     kinds: [u8; 64],
+    widths: [usize; 64],
 }
 
-// A unit's answer, with the places where its payloads end.
+// A unit's answer, with the places where its payloads end and the widths of the OBUs' sizes.
 struct Judged {
     answer: UnitRead,
     ends: [usize; 64],
+    widths: [usize; 64],
 }
 
 // Where the payloads of a unit end.
@@ -94,41 +88,14 @@ fn payload_ends(unit: &[u8]) -> Ends
     }
 }
 
-// A legal payload that is not empty, of which so many bytes are dropped: 4, 5, 6, 42.
-fn judge_obu(payload: &[u8], dropped: usize) -> TsObu
-    requires { ⌜ dropped ≡ Payload·dropped (now payload) ⌝ }
-    ensures { λ r. ⌜ tsobuSays r ≡ legalFigures (now (payload .entry)) ⌝ }
+// The refusal of the payload with this index.
+fn stopped(why: Refusal, index: usize) -> Payloads
+    ensures { λ r. ⌜ readSays (r .found) ≡ refused (numberOf why) index ⌝ }
 {
-    let length = payload.len() - dropped;
-    let mut first = [0u8; JUDGED_BYTES];
-    let n = unescape_prefix(payload, &mut first);
-    let judged = obu::judge(&first[..n], length);
-    match judged {
-        obu::Judged::Refused(refused) => TsObu::Refused(refused),
-        obu::Judged::Passed(header) => TsObu::Passed(Figures {
-            kind: obu::kind_number(header),
-            dropped: dropped,
-        }),
-    }
-}
-
-// One payload: 3, 10, 4, 5, 6, 42.
-fn judge_payload(payload: &[u8]) -> TsObu
-    ensures { λ r. ⌜ tsobuSays r ≡ tsobuFigures (now (payload .entry)) ⌝ }
-{
-    if payload.len() == 0 {
-        return TsObu::Refused(Refused {
-            why: Refusal::EMPTY_OBU,
-            place: 0,
-        });
-    }
-    let judged = emulation::judge(payload);
-    match judged {
-        emulation::Judged::Illegal(_) => TsObu::Refused(Refused {
-            why: Refusal::ILLEGAL_PAYLOAD,
-            place: 0,
-        }),
-        emulation::Judged::Legal(dropped) => judge_obu(payload, dropped),
+    Payloads {
+        found: UnitRead::Refused(Refused { why, place: index }),
+        kinds: [0u8; 64],
+        widths: [0usize; 64],
     }
 }
 
@@ -140,6 +107,7 @@ fn judge_payloads(unit: &[u8], ends: Ends) -> Payloads
     let count = ends.count;
     let at = ends.at;
     let mut kinds = [0u8; 64];
+    let mut widths = [0usize; 64];
     let mut bytes: usize = 0;
     let mut dropped: usize = 0;
     let mut code: usize = 0;
@@ -151,11 +119,13 @@ fn judge_payloads(unit: &[u8], ends: Ends) -> Payloads
         match judged {
             TsObu::Refused(refused) => {
                 let why = refused.why;
-                let found = UnitRead::Refused(Refused { why, place: k });
-                return Payloads { found, kinds };
+                return stopped(why, k);
             }
             TsObu::Passed(figures) => {
-                kinds[k] = figures.kind;
+                let header = figures.header;
+                let size = header.size;
+                kinds[k] = kind_number(header);
+                widths[k] = size_bytes(size);
                 bytes += end - start - figures.dropped;
                 dropped += figures.dropped;
                 code = end;
@@ -168,7 +138,11 @@ fn judge_payloads(unit: &[u8], ends: Ends) -> Payloads
         bytes,
         dropped,
     });
-    Payloads { found, kinds }
+    Payloads {
+        found,
+        kinds,
+        widths,
+    }
 }
 
 fn refusal(why: Refusal) -> UnitRead
@@ -193,25 +167,37 @@ fn judge_whole(counts: Counts, kinds: [u8; 64]) -> UnitRead
     }
 }
 
-// The verdict on a unit, and where its payloads end: 2 for the carried length; 9; 1; each payload; 2 for the OBUs' sum;
-// 7.
+// The verdict on a unit, where its payloads end, and the widths of its OBUs' sizes: 2 for the carried length; 9; 1;
+// each payload; 2 for the OBUs' sum; 7.
 fn judge_unit(unit: &[u8]) -> Judged
     ensures { λ r. ⌜ JudgedUnit (now (unit .entry)) r ⌝ }
 {
     let none = [0usize; 64];
     if MOST_CARRIED < unit.len() {
         let answer = refusal(Refusal::LENGTH);
-        return Judged { answer, ends: none };
+        return Judged {
+            answer,
+            ends: none,
+            widths: none,
+        };
     }
     if !code_at(unit, 0) {
         let answer = refusal(Refusal::NO_START_CODE);
-        return Judged { answer, ends: none };
+        return Judged {
+            answer,
+            ends: none,
+            widths: none,
+        };
     }
     let ends = payload_ends(unit);
     let at = ends.at;
     if ends.more {
         let answer = refusal(Refusal::OBU_COUNT);
-        return Judged { answer, ends: none };
+        return Judged {
+            answer,
+            ends: none,
+            widths: none,
+        };
     }
     let payloads = judge_payloads(unit, ends);
     let found = payloads.found;
@@ -219,11 +205,17 @@ fn judge_unit(unit: &[u8]) -> Judged
         return Judged {
             answer: found,
             ends: none,
+            widths: none,
         };
     };
     let kinds = payloads.kinds;
+    let widths = payloads.widths;
     let answer = judge_whole(counts, kinds);
-    Judged { answer, ends: at }
+    Judged {
+        answer,
+        ends: at,
+        widths, // of the sizes
+    }
 }
 
 // The figures of a unit that reading accepts, or the refusal.
@@ -257,26 +249,54 @@ fn copy_obus(unit: &[u8], count: usize, ends: [usize; 64], out: &mut [u8], lens:
     }
 }
 
-// The OBUs of a unit over the front of out, and their lengths over the front of lens; 8 comes last.
-pub fn read(unit: &[u8], out: &mut [u8], lens: &mut [usize]) -> UnitRead
+// So many of the widths over the front of out.
+fn copy_widths(widths: [usize; 64], count: usize, out: &mut [usize])
+    requires { ⌜ (count ≤ 64) × (count ≤ length (now out)) ⌝ }
+    ensures { λ _. ⌜ now (out .exit) ≡ over (take count widths) (now (out .entry)) ⌝ }
+{
+    let mut i: usize = 0;
+    while i < count {
+        out[i] = widths[i];
+        i += 1;
+    }
+}
+
+// Outputs of so many bytes, lengths and widths are too short for a unit with these counts.
+fn no_room(counts: Counts, bytes: usize, lengths: usize, widths: usize) -> bool
+    ensures { λ r. ⌜ r ≡ tooShort counts bytes lengths widths ⌝ }
+{
+    if bytes < counts.bytes {
+        return true;
+    }
+    if lengths < counts.obus {
+        return true;
+    }
+    widths < counts.obus
+}
+
+// The OBUs of a unit over the front of out, their lengths over the front of lens, and how many bytes the size of each
+// takes, 0 where no size is present, over the front of widths; 8 comes last.
+pub fn read(unit: &[u8], out: &mut [u8], lens: &mut [usize], widths: &mut [usize]) -> UnitRead
     ensures { λ r. ⌜ readSays r
-        ≡ reading (now (unit .entry)) (length (now (out .entry))) (length (now (lens .entry))) ⌝ }
+        ≡ readingWidths (now (unit .entry)) (length (now (out .entry))) (length (now (lens .entry)))
+        (length (now (widths .entry))) ⌝ }
     ensures { λ r. ⌜ now (out .exit) ≡ leaves (readSays r) (flatten (obusIn (now (unit .entry)))) (now (out .entry)) ⌝ }
     ensures { λ r. ⌜ now (lens .exit)
         ≡ leaves (readSays r) (map length (obusIn (now (unit .entry)))) (now (lens .entry)) ⌝ }
+    ensures { λ r. ⌜ now (widths .exit)
+        ≡ leaves (readSays r) (map sizeWidth (obusIn (now (unit .entry)))) (now (widths .entry)) ⌝ }
 {
     let judged = judge_unit(unit);
     let answer = judged.answer;
     let UnitRead::Obus(counts) = answer else {
         return answer;
     };
-    if out.len() < counts.bytes {
-        return refusal(Refusal::NO_ROOM);
-    }
-    if lens.len() < counts.obus {
+    if no_room(counts, out.len(), lens.len(), widths.len()) {
         return refusal(Refusal::NO_ROOM);
     }
     let ends = judged.ends;
     copy_obus(unit, counts.obus, ends, out, lens);
+    let found = judged.widths;
+    copy_widths(found, counts.obus, widths);
     UnitRead::Obus(counts)
 }

@@ -20,31 +20,43 @@ pub const SUITE: Definition = Definition {
             "refused 7",
             "refused 9",
             "refused 10",
+            "refused 42",
             "65,536 bytes",
             "65,537 bytes",
             "bytes removed",
+            "width 0",
+            "width 1",
+            "width 2",
+            "width 3",
+            "width 4",
+            "width 5",
+            "width 6",
+            "width 7",
+            "width 8",
         ])
     },
     run,
 };
 
-/// The text by the library: the figures of reading, each OBU's type by its first byte, and its
-/// dropped bytes as payload length minus OBU length.
+/// The text by the library: the figures of reading, each OBU's type by its first byte, its dropped
+/// bytes as payload length minus OBU length, and its width as reading gives it.
 fn by_library(input: &[u8]) -> String {
     let mut bytes = vec![0; input.len()];
     let mut lengths = [0; 64];
-    let read = av1ts::unit::read_unit(input, &mut bytes, &mut lengths);
+    let mut widths = [0; 64];
+    let read = av1ts::unit::read_unit_widths(input, &mut bytes, &mut lengths, &mut widths);
     if read.number != 0 {
         return format!("refused {} {}\n", read.number, read.place);
     }
     let mut text = format!("obus {} removed {}\n", read.count, read.dropped);
     let mut step = av1ts::walk::walk_start(input);
     let mut obu_at = 0;
-    for (index, &length) in lengths.iter().enumerate().take(read.count as usize) {
+    for index in 0..read.count as usize {
+        let (length, width) = (lengths[index], widths[index]);
         step = av1ts::walk::walk_step(input, step.next_at as usize);
         let obu_type = bytes.get(obu_at).map_or(0, |&byte| byte / 8 % 16);
         let removed = step.length.wrapping_sub(length as u64);
-        text += &format!("{index} type {obu_type} size {length} removed {removed}\n");
+        text += &format!("{index} type {obu_type} size {length} removed {removed} width {width}\n");
         obu_at += length;
     }
     text
@@ -64,6 +76,9 @@ fn one(suite: &mut Suite, input: &[u8], more: &[&str]) {
     if text.starts_with("obus") && !text.lines().next().unwrap_or("").ends_with("removed 0") {
         labels.push("bytes removed");
     }
+    for line in text.lines().skip(1) {
+        labels.extend(line.find("width").map(|at| &line[at..]));
+    }
     let other = by_library(input);
     suite.case(&labels, text == other, || {
         format!(
@@ -77,11 +92,19 @@ fn run(suite: &mut Suite) {
     let worked: &[(&[u8], &str)] = &[
         (
             &[0, 0, 1, 0x12, 0, 0, 0, 1, 0x30, 0xAA, 0, 0],
-            "obus 2 removed 0\n0 type 2 size 2 removed 0\n1 type 6 size 4 removed 0\n",
+            "obus 2 removed 0\n\
+             0 type 2 size 2 removed 0 width 1\n\
+             1 type 6 size 4 removed 0 width 0\n",
         ),
         (
             &[0, 0, 1, 0x30, 0, 0, 3],
-            "obus 1 removed 1\n0 type 6 size 3 removed 1\n",
+            "obus 1 removed 1\n0 type 6 size 3 removed 1 width 0\n",
+        ),
+        (
+            &[0, 0, 1, 0x12, 0x80, 0, 0, 0, 1, 0x36, 0, 0, 3],
+            "obus 2 removed 1\n\
+             0 type 2 size 3 removed 0 width 2\n\
+             1 type 6 size 3 removed 1 width 1\n",
         ),
         (&[0, 0, 1, 0, 0, 1, 0x30], "refused 3 0\n"),
         (&[0, 0, 1, 0x12, 0], "refused 7 1\n"),

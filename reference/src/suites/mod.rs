@@ -66,6 +66,7 @@ const UNITS: &[&Definition] = &[
     &unit_order::SUITE,
     &unit_headers::SUITE,
     &unit::content::SUITE,
+    &unit::widths::SUITE,
     &unit_exhaustive::SUITE,
     &walk::SUITE,
     &walk::late::SUITE,

@@ -2,7 +2,7 @@
 
 use super::leb128::{form, shortest};
 use crate::kit::{Definition, Suite, hex, labels};
-use reference::obu::{self, Kind};
+use reference::obu::{self, Checked, Kind};
 use std::collections::HashMap;
 
 pub const SUITE: Definition = Definition {
@@ -74,8 +74,8 @@ pub fn strings(alphabet: &[u8], len: usize) -> Vec<Vec<u8>> {
 }
 
 /// Every OBU of `len` bytes that can be put together with header, extension and content bytes of
-/// the alphabet, and its kind.
-fn constructed(alphabet: &[u8], len: usize) -> HashMap<Vec<u8>, Kind> {
+/// the alphabet, and what it was put together from: its kind and the width of its size.
+fn constructed(alphabet: &[u8], len: usize) -> HashMap<Vec<u8>, Checked> {
     let mut all = HashMap::new();
     for content_len in 0..len {
         let contents = strings(alphabet, content_len);
@@ -111,7 +111,8 @@ fn constructed(alphabet: &[u8], len: usize) -> HashMap<Vec<u8>, Kind> {
                             obu::FRAME_HEADER if content[0] / 128 == 1 => Kind::ShownAgain,
                             _ => Kind::Type(obu_type),
                         };
-                        all.insert(build(obu_type, low, extension, width, content), kind);
+                        let obu = build(obu_type, low, extension, width, content);
+                        all.insert(obu, Checked { kind, width });
                     }
                 }
             }
@@ -126,17 +127,17 @@ fn compare(suite: &mut Suite, alphabet: &[u8], len: usize) {
         let got = obu::check(&string, 5);
         let label = match &got {
             Err(refusal) => refusal.condition,
-            Ok(Kind::ShownAgain) => "accepted: shown again",
+            Ok(checked) if checked.kind == Kind::ShownAgain => "accepted: shown again",
             Ok(_) => "accepted",
         };
         let passed = match &got {
             Err(refusal) => !accepted.contains_key(&string) && refusal.place == 5,
-            Ok(kind) => accepted.get(&string) == Some(kind),
+            Ok(checked) => accepted.get(&string) == Some(checked),
         };
         suite.case(&[label], passed, || format!("{got:?} {}", hex(&string)));
     }
-    for (string, kind) in accepted {
-        let passed = obu::check(&string, 0) == Ok(kind);
+    for (string, checked) in accepted {
+        let passed = obu::check(&string, 0) == Ok(checked);
         suite.case(&["put together"], passed, || hex(&string));
     }
 }

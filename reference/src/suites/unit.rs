@@ -1,6 +1,7 @@
 //! Calls on access units, each compared with the reference, and units to call them with.
 
 pub mod content;
+pub mod widths;
 
 use super::leb128::shortest;
 use super::obu::build;
@@ -51,6 +52,7 @@ pub struct Caller {
     given_lengths: Given<usize>,
     lent: Lent<u8>,
     lent_lengths: Lent<usize>,
+    lent_widths: Lent<usize>,
 }
 
 /// The figures of an accepted unit.

@@ -50,7 +50,8 @@ fn features(list: &List) -> Vec<&'static str> {
     if list.concat().len() == unit::MOST_BYTES {
         labels.push("1,048,576 bytes in all");
     }
-    if obu::check(&list[list.len() - 1], 0) == Ok(ShownAgain) {
+    let last = obu::check(&list[list.len() - 1], 0);
+    if last.is_ok_and(|checked| checked.kind == ShownAgain) {
         labels.push("shown-again frame");
     }
     for obu in list {

@@ -19,6 +19,16 @@ unsafe extern "C" {
         lengths: *mut usize,
         n: usize,
     ) -> Answer;
+    fn av1ts_read_unit_widths(
+        unit: *const u8,
+        len: usize,
+        out: *mut u8,
+        out_len: usize,
+        lengths: *mut usize,
+        lengths_len: usize,
+        widths: *mut usize,
+        widths_len: usize,
+    ) -> Answer;
     fn av1ts_check_unit(unit: *const u8, len: usize) -> Answer;
 }
 
@@ -51,6 +61,29 @@ pub fn read_unit(unit: &[u8], out: &mut [u8], lengths: &mut [usize]) -> Answer {
             out.len(),
             lengths.as_mut_ptr(),
             lengths.len(),
+        )
+    }
+}
+
+/// The same, and how many bytes the size of each OBU takes to the front of `widths`, 0 where it has
+/// none.
+pub fn read_unit_widths(
+    unit: &[u8],
+    out: &mut [u8],
+    lengths: &mut [usize],
+    widths: &mut [usize],
+) -> Answer {
+    // SAFETY: the slices are valid for their lengths and none overlaps another.
+    unsafe {
+        av1ts_read_unit_widths(
+            unit.as_ptr(),
+            unit.len(),
+            out.as_mut_ptr(),
+            out.len(),
+            lengths.as_mut_ptr(),
+            lengths.len(),
+            widths.as_mut_ptr(),
+            widths.len(),
         )
     }
 }

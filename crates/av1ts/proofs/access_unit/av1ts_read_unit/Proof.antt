@@ -1,10 +1,15 @@
--- `unit::read` answers by the definition, and leaves the outputs as it says.
+-- `unit::read` answers by the definition and leaves the outputs as it says; no accepted unit has more than 64 widths, for which there is
+-- room.
 use borrow.Author.Needs.{needs}
 use mathlib.Core.Path.{ap, _∙_}
 use Rattle.refusal.proofs.Verdicts.{leaves-as}
+use Rattle.unit.proofs.Checking.{with-64}
 use Rattle.av1ts.specs.Answers.{unitAnswer}
 use Rattle.av1ts.proofs.access_unit.av1ts_read_unit.Statement.{statement}
 use Rattle.av1ts.proofs.access_unit.av1ts_read_unit.Tie as tie
+
+slice-aggregate-read : tie.Need-slice-aggregate-read
+slice-aggregate-read c = search needs
 
 read-requires : tie.Need-read-requires
 read-requires c κs = search needs
@@ -20,9 +25,10 @@ same-length-2 c = search needs
 
 returns : tie.Need-returns
 returns c =
-    let e = c .before .before .before .before .before .read .ensures in
-    (c .unit-answer .ensures ∙ ap unitAnswer (e .0), (e .1 .0 ∙ leaves-as _ _ (e .0), e .1 .1 ∙ leaves-as _ _ (e .0)))
+    let e = c .before .before .before .before .before .before .read .ensures in
+    let v = e .0 ∙ with-64 _ _ _ in
+    (c .unit-answer .ensures ∙ ap unitAnswer v, (e .1 .0 ∙ leaves-as _ _ v, e .1 .1 .0 ∙ leaves-as _ _ v))
 
 pub av1ts-read-unit-spec : {M : Type 1} → statement M
 av1ts-read-unit-spec =
-    tie.close (tie.spec read-requires unit-answer-requires same-length same-length-2 returns)
+    tie.close (tie.spec slice-aggregate-read read-requires unit-answer-requires same-length same-length-2 returns)

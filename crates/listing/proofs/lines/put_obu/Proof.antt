@@ -1,9 +1,7 @@
 -- Each piece of the line stands where the one before it ends.
 use borrow.Author.Needs.{needs}
 use native.Mathlib.Omega.{arith}
-use mathlib.Core.List.{append-assoc}
-use Rattle.listing.specs.Listing.{obuLine}
-use Rattle.listing.proofs.Puttings.{puts-then, puts-as}
+use Rattle.listing.proofs.Puttings.{puts-then, puts-as, obu-pieces}
 use Rattle.listing.proofs.lines.put_obu.Statement.{statement}
 use Rattle.listing.proofs.lines.put_obu.Tie as tie
 
@@ -28,6 +26,12 @@ slice-aggregate-put-named-3 c = search needs
 put-named-requires-3 : tie.Need-put-named-requires-3
 put-named-requires-3 c κs = search needs
 
+slice-aggregate-put-named-4 : tie.Need-slice-aggregate-put-named-4
+slice-aggregate-put-named-4 c = search needs
+
+put-named-requires-4 : tie.Need-put-named-requires-4
+put-named-requires-4 c κs = search needs
+
 slice-aggregate-put-word : tie.Need-slice-aggregate-put-word
 slice-aggregate-put-word c = search needs
 
@@ -38,14 +42,26 @@ same-length : tie.Need-same-length
 same-length c = search needs
 
 returns : tie.Need-returns
-unfolding obuLine
 returns c =
-    let index = c .before .before .before .before .before .before .before .before .before .before .before .before .before .before .before .before .before .before .before .before .before .before .put-decimal .ensures .0 in
-    let type = c .before .before .before .before .before .before .before .before .before .before .before .before .before .before .before .before .before .put-named .ensures .0 in
-    let size = c .before .before .before .before .before .before .before .before .before .before .before .before .put-named2 .ensures .0 in
-    let removed = c .before .before .before .before .before .before .before .put-named3 .ensures .0 in
+    let fourth = c .before .before .before .before .before .before .before in
+    let third = fourth .before .before .before .before .before in
+    let second = third .before .before .before .before .before in
+    let first = second .before .before .before .before .before in
+    let index = first .before .before .before .before .before in
+    let room = index .before .before .before .pre in
     let last = c .before .before .put-word .ensures in
-    (puts-as (simp append-assoc) (puts-then (omega arith) (puts-then (omega arith) (puts-then (omega arith) (puts-then (omega arith) index type) size) removed) last), omega (arith, last .ends))
+    let at0 = index .put-decimal .ensures in
+    let at1 = first .put-named .ensures in
+    let at2 = second .put-named2 .ensures in
+    let at3 = third .put-named3 .ensures in
+    let at4 = fourth .put-named4 .ensures in
+    let line1 = puts-then (omega (arith, room)) (at0 .0) (at1 .0) in
+    let line2 = puts-then (omega (arith, room)) line1 (at2 .0) in
+    let line3 = puts-then (omega (arith, room)) line2 (at3 .0) in
+    let line4 = puts-then (omega (arith, room)) line3 (at4 .0) in (
+      puts-as (obu-pieces _ _ _ _ _) (puts-then (omega (arith, room)) line4 last),
+      omega (arith, last .ends, at0 .1, at1 .1, at2 .1, at3 .1, at4 .1),
+    )
 
 pub put-obu-spec : {M : Type 1} → statement M
 put-obu-spec =
@@ -58,6 +74,8 @@ put-obu-spec =
     put-named-requires-2
     slice-aggregate-put-named-3
     put-named-requires-3
+    slice-aggregate-put-named-4
+    put-named-requires-4
     slice-aggregate-put-word
     put-word-requires
     same-length

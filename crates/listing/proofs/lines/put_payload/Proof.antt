@@ -1,14 +1,30 @@
--- What is judged legal drops the bytes that the line says, and the rest of the payload's length is the OBU's.
+-- The verdict on the payload has what the line says: the type, the bytes dropped, the width of the size; the rest of the payload's length
+-- is the OBU's. A payload that is refused has no line.
 use borrow.Author.Needs.{needs}
 use native.Mathlib.Omega.{arith}
-use Rattle.lists.proofs.Tests.{clash}
-use Rattle.emulation.proofs.Answers.{judged-legal, judged-illegal, left-after}
-use Rattle.listing.proofs.Puttings.{puts-as, payload-line}
+use mathlib.Core.Path.{_≡_, sym, ap, _∙_}
+use Prim.Native.Nat.{_-_}
+use lib.ListN.{length}
+use Rattle.refusal.specs.Verdict.{passed}
+use Rattle.emulation.specs.Payload.{unescape}
+use Rattle.emulation.proofs.Steps.{given-or-dropped}
+use Rattle.unit.specs.Answer.{tsobuFigures, tsobuSays}
+use Rattle.unit.proofs.TsObus.{Passes, tsobu-passed}
+use Rattle.listing.proofs.Puttings.{puts-nothing, puts-as, payload-line, no-line}
 use Rattle.listing.proofs.lines.put_payload.Statement.{statement}
 use Rattle.listing.proofs.lines.put_payload.Tie as tie
 
-judge-requires : tie.Need-judge-requires
-judge-requires c κs = search needs
+-- a payload that passed
+says : (c : tie.After-known-told)
+    → tsobuFigures (c .before .before .before .before .before .before .args .payload .now) ≡ passed (c .before .judged .given .0 .0)
+says c = sym (c .before .before .before .judge-payload .ensures) ∙ ap tsobuSays (c .before .judged .given .1)
+
+passes : (c : tie.After-known-told)
+    → Passes (c .before .before .before .before .before .before .args .payload .now) (c .before .judged .given .0 .0)
+passes c = tsobu-passed _ _ _ (c .before .before .before .judge-payload .ensures) (c .before .judged .given .1)
+
+judge-payload-requires : tie.Need-judge-payload-requires
+judge-payload-requires c κs = search needs
 
 enum-known-judged : tie.Need-enum-known-judged
 enum-known-judged c = search needs
@@ -19,18 +35,19 @@ enum-told c = search needs
 returns : tie.Need-returns
 returns c =
     let start = c .before .before .before .before .before in
-    clash (start .pre .0) (judged-illegal (start .args .payload .now) _ _ (c .before .before .judge .ensures) (c .enum-told .given .1))
-
-obu-type-requires : tie.Need-obu-type-requires
-obu-type-requires c κs = search needs
+    let refusal = sym (c .before .before .judge-payload .ensures) ∙ ap tsobuSays (c .enum-told .given .1) in
+    (puts-as (no-line (start .args .index) _ _ _ refusal) (puts-nothing _ _), omega arith)
 
 cast-put-obu : tie.Need-cast-put-obu
 cast-put-obu c = search needs
 
 sub-put-obu : tie.Need-sub-put-obu
 sub-put-obu c =
-    let start = c .before .before .before .before .before .before .before .before in
-    omega (arith, left-after (start .args .payload .now) _ _ (c .before .before .before .before .before .judge .ensures) (c .before .before .before .judged .given .1) .0)
+    let told = c .before .before .before in
+    omega (arith, passes told .dropped-is, given-or-dropped (told .before .before .before .before .before .before .args .payload .now))
+
+size-bytes-requires : tie.Need-size-bytes-requires
+size-bytes-requires c κs = search needs
 
 put-obu-requires : tie.Need-put-obu-requires
 put-obu-requires c κs = search needs
@@ -40,24 +57,25 @@ same-length c = search needs
 
 returns-2 : tie.Need-returns-2
 returns-2 c =
-    let start = c .before .before .before .before .before .before .before .before .before .before .before in
+    let told = c .before .before .before .before .before .before .before in
+    let start = told .before .before .before .before .before .before in
     let p = start .args .payload .now in
-    let says = c .before .before .before .before .before .before .before .before .judge .ensures in
-    let legal = c .before .before .before .before .before .before .judged .given .1 in
+    let size : length p - told .before .judged .given .0 .0 .dropped ≡ length (unescape p) =
+    omega (arith, passes told .dropped-is, given-or-dropped p) in
     let put = c .before .before .put-obu .ensures in
-    (puts-as (payload-line _ p (c .before .before .before .obu-type .ensures) (left-after p _ _ says legal .1) (judged-legal p _ _ says legal .1)) (put .0), put .1)
+    (puts-as (payload-line (start .args .index) p _ (says told) size (c .before .before .before .size-bytes .ensures)) (put .0), put .1)
 
 pub put-payload-spec : {M : Type 1} → statement M
 put-payload-spec =
     tie.close
     (tie.spec
-    judge-requires
+    judge-payload-requires
     enum-known-judged
     enum-told
     returns
-    obu-type-requires
     cast-put-obu
     sub-put-obu
+    size-bytes-requires
     put-obu-requires
     same-length
     returns-2)

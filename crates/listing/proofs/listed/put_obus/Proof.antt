@@ -2,7 +2,7 @@
 -- lines of the steps so far are put. A turn lends the reader to `step`; where that hands out a payload, its line is put, and what is left
 -- of the unit is less; any other step ends the walk, and all lines are put. All that the proof knows of the three callees is that they meet
 -- their contracts (`Called.antt`). Assumes nothing.
-use mathlib.Core.Path.{_≡_, refl, sym, ap, subst, _∙_}
+use mathlib.Core.Path.{_≡_, refl, sym, ap, subst}
 use mathlib.Core.WellFounded.{WellFounded, InvImage·accessible}
 use native.Mathlib.Omega.{arith}
 use Prim.Native.Nat.{ℕ, _+_, _-_, _≤_, _<_, _^_}
@@ -54,7 +54,6 @@ use denote.Triple.Walked.{says, needs, Stays, stay-slice, stay-none, stay-none-s
 use denote.Triple.Walked.{Walks, onExit, ends-at, walked, walk-meets}
 use denote.Exit.{yes}
 use Rattle.lists.specs.Lists.{Bytes}
-use Rattle.emulation.specs.Payload.{legal}
 use Rattle.unit.specs.Unit.{payloads}
 use Rattle.unit.specs.Walk.{placeAfter, fresh, stepOf, handedBy, behind, stepSays}
 use Rattle.unit.specs.declared.reader.Handed.{Handed}
@@ -75,7 +74,7 @@ use Rattle.unit.proofs.reader.Walk.step.Met as step-thm
 use Rattle.listing.specs.Listing.{payloadLine, payloadLines}
 use Rattle.listing.specs.Parts.{Puts, Accepts, lineRoom, obusRoom}
 use Rattle.listing.proofs.Puttings.{puts-as}
-use Rattle.listing.proofs.Walked.{part-legal, part-onward, Listing, listing-start, listing-index, listing-room, listing-step}
+use Rattle.listing.proofs.Walked.{part-onward, Listing, listing-start, listing-index, listing-room, listing-step}
 use Rattle.listing.proofs.Walked.{listing-end, listing-bound}
 use Rattle.listing.proofs.Called as called
 use Rattle.listing.proofs.Called.{held, New, Stepping, Put}
@@ -346,7 +345,7 @@ module _ {M : Type 1} (𝓤 : URA M) (H : Heap 𝓤) (A : Atoms 𝓤) (W : Given
             (some (λ (ν : ℕ). some (λ (δ : GName).
             raw (Put 𝓤 H A at-mem run .pre (to-put st x ν δ)) ⊛ ‵ (LentAgain u8 κ (ν ∷ []) q γ b o δ (st .text))))))
             (called.put-in 𝓤 H A at-mem run κ κ′ q q′ b o γ (st .text) (st .end) (st .index) x (val x) W (end-fits st) (omega (arith, few))
-            (ap legal part ∙ part-legal (now s) (st .place) p found, listing-room (st .so-far) p found roomy)) $
+            (listing-room (st .so-far) p found roomy)) $
             await ! tt $ pick ! (λ ν. pick ! (λ δ. split ! $
             -- [what `put_payload` asks; what is kept of the text; _4; what the reader owns; the unit; _12; …]
             calls-at ! fm (Put 𝓤 H A at-mem run) known-put (to-put st x ν δ)

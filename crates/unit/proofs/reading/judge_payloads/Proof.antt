@@ -6,23 +6,25 @@ use Prim.Native.Nat.{ℕ, _+_, _-_, _≤_, _<_}
 use mathlib.Core.Path.{_≡_, refl, sym, ap, subst, _∙_}
 use borrow.Author.Tests.{ltb-false}
 use lib.ListN.{length, take, drop, getD, set}
-use Rattle.refusal.specs.Verdict.{passed}
 use Rattle.emulation.proofs.Steps.{given-or-dropped}
-use Rattle.unit.specs.Unit.{mostObus, payloads, tsobuRefusal}
-use Rattle.unit.specs.Parts.{figures, tsobuFigures, tsobuSays}
-use Rattle.unit.specs.declared.reading.Figures.{Figures}
-use Rattle.unit.specs.declared.reading.TsObu.the-variants as TsObu
+use Rattle.unit.specs.Unit.{mostObus, payloads}
+use Rattle.unit.specs.Answer.{tsobuFigures, tsobuSays}
+use Rattle.unit.specs.declared.tsobu.Figures.{Figures}
+use Rattle.unit.specs.declared.tsobu.TsObu.the-variants as TsObu
 use Rattle.unit.proofs.Places.{nextCode, payloadAt, payload-length, next-fits}
 use Rattle.unit.proofs.Readings.{Judging, passing-code, passing-end, judging-start, judging-step, judging-refused, judging-done}
-use Rattle.unit.proofs.Readings.{refused-judges, tsobu-refused, tsobu-passed}
+use Rattle.unit.proofs.Readings.{refused-judges}
+use Rattle.unit.proofs.TsObus.{Passes, tsobu-refused, tsobu-passed}
 use Rattle.unit.proofs.reading.judge_payloads.Statement.{statement}
 use Rattle.unit.proofs.reading.judge_payloads.Tie as tie
 
 abbrev Inv-loop : tie.InvT-loop
-Inv-loop unit count at kinds₀ bytes₀ dropped₀ code₀ k₀ kinds bytes dropped code k = Judging unit at kinds bytes dropped code k
+Inv-loop unit count at kinds₀ widths₀ bytes₀ dropped₀ code₀ k₀ kinds widths bytes dropped code k =
+    Judging unit at kinds widths bytes dropped code k
 
 abbrev μ-loop : tie.MeasureT-loop
-μ-loop unit count at kinds₀ bytes₀ dropped₀ code₀ k₀ kinds bytes dropped code k = count - k
+μ-loop unit count at kinds₀ widths₀ bytes₀ dropped₀ code₀ k₀ kinds widths bytes dropped code k =
+    count - k
 
 -- ---- in a turn
 left : (c : tie.In-loop Inv-loop μ-loop) → c .before .loop .k < length (payloads (c .before .before .before .before .args .unit .now))
@@ -58,9 +60,7 @@ said c =
 
 -- a payload that passed
 fine : (c : tie.After-judge-payload Inv-loop μ-loop) (f : Figures) → c .judge-payload .result ≡ TsObu.Passed f
-    → let i = c .before .before in
-    let p = payloadAt (i .before .before .before .before .args .unit .now) (i .before .loop .code) in
-    (tsobuRefusal p ≡ passed tt) × (f ≡ figures p)
+    → let i = c .before .before in Passes (payloadAt (i .before .before .before .before .args .unit .now) (i .before .loop .code)) f
 fine c f e = tsobu-passed _ _ f (said c) e
 
 -- the bytes dropped are fewer than the payload's
@@ -72,11 +72,11 @@ fewer c f e =
     let i = c .before .before in
     let s = i .before .before .before .before .args .unit .now in
     let code = i .before .loop .code in
-    omega (arith, ap (λ (x : Figures). x .dropped) (fine c f e .1), given-or-dropped (payloadAt s code), payload-length s code)
+    omega (arith, fine c f e .dropped-is, given-or-dropped (payloadAt s code), payload-length s code)
 
 loop-holds : tie.Need-loop-holds Inv-loop μ-loop
 loop-holds c = let start = c .before .before in
-    judging-start (start .args .unit .now) (start .args .ends) _ refl (start .pre .0) (start .pre .1) (start .pre .2)
+    judging-start (start .args .unit .now) (start .args .ends) _ _ refl refl (start .pre .0) (start .pre .1) (start .pre .2)
 
 add-start : tie.Need-add-start Inv-loop μ-loop
 add-start c = omega (arith, fits c)
@@ -102,64 +102,80 @@ judge-payload-requires c κs = search needs
 enum-known-judged : tie.Need-enum-known-judged Inv-loop μ-loop
 enum-known-judged c = search needs
 
+stopped-requires : tie.Need-stopped-requires Inv-loop μ-loop
+stopped-requires c κs = search needs
+
 returns : tie.Need-returns Inv-loop μ-loop
 returns c =
-    let i = c .before .before .before .before .before .before in
-    let r = tsobu-refused _ _ _ (said (c .before .before .before .before)) (c .before .before .judged .given .1) in
-    refused-judges _ (judging-refused (i .before .loop .inv) (left i) (c .before .before .judged .given .0 .0) r)
+    let i = c .before .before .before .before .before .before .before in
+    let r = tsobu-refused _ _ _ (said (c .before .before .before .before .before)) (c .before .before .before .judged .given .1) in
+    refused-judges _ (c .stopped .ensures)
+    (judging-refused (i .before .loop .inv) (left i) (c .before .before .before .judged .given .0 .0) r)
 
 enum-known-judged-2 : tie.Need-enum-known-judged-2 Inv-loop μ-loop
 enum-known-judged-2 c = search needs
 
+kind-number-requires : tie.Need-kind-number-requires Inv-loop μ-loop
+kind-number-requires c κs = search needs
+
 array-write-kinds : tie.Need-array-write-kinds Inv-loop μ-loop
-array-write-kinds c = few (c .before .before .before .before .before)
+array-write-kinds c = few (c .before .before .before .before .before .before .before)
+
+size-bytes-requires : tie.Need-size-bytes-requires Inv-loop μ-loop
+size-bytes-requires c κs = search needs
+
+mul-widths : tie.Need-mul-widths Inv-loop μ-loop
+mul-widths c = omega (arith, few (c .before .before .before .before .before .before .before .before))
+
+array-write-widths : tie.Need-array-write-widths Inv-loop μ-loop
+array-write-widths c = few (c .before .before .before .before .before .before .before .before)
 
 sub-bytes : tie.Need-sub-bytes Inv-loop μ-loop
-sub-bytes c = omega (arith, end-is (c .before .before .before .before .before))
+sub-bytes c = omega (arith, end-is (c .before .before .before .before .before .before .before .before))
 
 sub-bytes-2 : tie.Need-sub-bytes-2 Inv-loop μ-loop
 sub-bytes-2 c =
-    omega (
-      arith,
-      end-is (c .before .before .before .before .before .before),
-      fewer (c .before .before .before .before) _
-          (c .before .before .judged2 .given .1),
-    )
+    let less = fewer (c .before .before .before .before .before .before .before) _
+    (c .before .before .before .before .before .judged2 .given .1) in
+    omega (arith, end-is (c .before .before .before .before .before .before .before .before .before), less)
 
 add-bytes : tie.Need-add-bytes Inv-loop μ-loop
 add-bytes c =
-    let i = c .before .before .before .before .before .before in
+    let i = c .before .before .before .before .before .before .before .before .before in
     omega (arith, end-is i, fits i, i .before .loop .inv .small)
 
 add-dropped : tie.Need-add-dropped Inv-loop μ-loop
 add-dropped c =
-    let i = c .before .before .before .before .before .before .before in
-    omega (
-      arith,
-      fits i,
-      i .before .loop .inv .small,
-      fewer (c .before .before .before .before .before) _
-          (c .before .before .before .judged2 .given .1),
-    )
+    let i = c .before .before .before .before .before .before .before .before .before .before in
+    let less = fewer (c .before .before .before .before .before .before .before .before) _
+    (c .before .before .before .before .before .before .judged2 .given .1) in
+    omega (arith, fits i, i .before .loop .inv .small, less)
 
 add-k : tie.Need-add-k Inv-loop μ-loop
-add-k c = omega (arith, few (c .before .before .before .before .before .before .before))
+add-k c = omega (arith, few (c .before .before .before .before .before .before .before .before .before .before))
 
 loop-less : tie.Need-loop-less Inv-loop μ-loop
-loop-less c = let i = c .before .before .before .before .before .before .before in omega (arith, i .loop-test .taken)
+loop-less c =
+    let i = c .before .before .before .before .before .before .before .before .before .before in
+    omega (arith, i .loop-test .taken)
 
 loop-again : tie.Need-loop-again Inv-loop μ-loop
 loop-again c =
-    let i = c .before .before .before .before .before .before .before in
-    let s = i .before .before .before .before .args .unit .now in
-    let f = c .before .before .before .judged2 .given .0 .0 in
-    let ok = fine (c .before .before .before .before .before) f (c .before .before .before .judged2 .given .1) in
+    let i = c .before .before .before .before .before .before .before .before .before .before in
+    let at = i .before .loop in
+    let start = i .before .before .before .before in
+    let f = c .before .before .before .before .before .before .judged2 .given .0 .0 in
+    let ok = fine (c .before .before .before .before .before .before .before .before) f
+    (c .before .before .before .before .before .before .judged2 .given .1) in
     subst
-    (λ (e : ℕ). Judging s (i .before .before .before .before .args .ends .at) (set (i .before .loop .kinds) (i .before .loop .k) (f .kind))
-    (i .before .loop .bytes + (e - (i .before .loop .code + 3) - f .dropped)) (i .before .loop .dropped + f .dropped) e
-    (i .before .loop .k + 1))
+    (λ (e : ℕ). Judging (start .args .unit .now) (start .args .ends .at)
+    (set (at .kinds) (at .k) (c .before .before .before .kind-number .result))
+    (set (at .widths) (at .k) (c .before .before .size-bytes .result)) (at .bytes + (e - (at .code + 3) - f .dropped))
+    (at .dropped + f .dropped) e
+    (at .k + 1))
     (sym (end-is i))
-    (judging-step (i .before .loop .inv) (left i) f (ok .0) (ok .1) (few i))
+    (judging-step (at .inv) (left i) f ok (few i) _ _ (c .before .before .before .kind-number .ensures)
+    (c .before .before .size-bytes .ensures))
 
 returns-2 : tie.Need-returns-2 Inv-loop μ-loop
 returns-2 c =
@@ -182,9 +198,14 @@ judge-payloads-spec =
     part-judge-payload-end
     judge-payload-requires
     enum-known-judged
+    stopped-requires
     returns
     enum-known-judged-2
+    kind-number-requires
     array-write-kinds
+    size-bytes-requires
+    mul-widths
+    array-write-widths
     sub-bytes
     sub-bytes-2
     add-bytes

@@ -16,7 +16,7 @@ refusal-requires : tie.Need-refusal-requires
 refusal-requires c κs = search needs
 
 returns : tie.Need-returns
-returns c = answer-refused _ _ _ 2 0 (ap readSays (c .refusal .ensures)) (check-long _ (c .before .if1 .taken))
+returns c = answer-refused _ _ _ _ 2 0 (ap readSays (c .refusal .ensures)) (check-long _ (c .before .if1 .taken))
 
 code-at-requires : tie.Need-code-at-requires
 code-at-requires c κs = search needs
@@ -26,7 +26,7 @@ refusal-requires-2 c κs = search needs
 
 returns-2 : tie.Need-returns-2
 returns-2 c =
-    answer-refused _ _ _ 9 0 (ap readSays (c .refusal2 .ensures))
+    answer-refused _ _ _ _ 9 0 (ap readSays (c .refusal2 .ensures))
     (check-headless _ (c .before .before .before .if1 .left)
     (sym (c .before .before .code-at .ensures) ∙ not-true _ (c .before .if2 .taken)))
 
@@ -38,7 +38,7 @@ refusal-requires-3 c κs = search needs
 
 returns-3 : tie.Need-returns-3
 returns-3 c =
-    answer-refused _ _ _ 1 0 (ap readSays (c .refusal3 .ensures))
+    answer-refused _ _ _ _ 1 0 (ap readSays (c .refusal3 .ensures))
     (check-many _ (c .before .before .before .before .before .before .if1 .left)
     (sym (c .before .before .before .before .before .code-at .ensures) ∙ not-false _ (c .before .before .before .before .if2 .left))
     (sym (c .before .if3 .taken) ∙ c .before .before .before .payload-ends .ensures .more))
@@ -61,7 +61,7 @@ returns-4 : tie.Need-returns-4
 returns-4 c =
     let k = ap readSays (c .enum-told .given .1) in
     let ends = c .before .before .before .before .before .payload-ends .ensures in
-    answer-refused _ _ _ _ _ k
+    answer-refused _ _ _ _ _ _ k
     (check-refused _ (c .before .before .before .before .before .before .before .before .if1 .left)
     (sym (c .before .before .before .before .before .before .before .code-at .ensures)
     ∙ not-false _ (c .before .before .before .before .before .before .if2 .left))
@@ -69,28 +69,35 @@ returns-4 c =
 
 judge-whole-requires : tie.Need-judge-whole-requires
 judge-whole-requires c κs =
-    let s = c .before .before .before .before .before .before .before .before .before .before .before .before .args .unit .now in
-    let k = ap readSays (c .before .before .found .given .1) in
-    let ends = c .before .before .before .before .before .before .before .payload-ends .ensures in
-    let n = counts-obus s _ (sym k ∙ c .before .before .before .before .judge-payloads .ensures .found) in
-    omega (arith, n, ltb-false mostObus (length (payloads s)) (sym (ends .more) ∙ c .before .before .before .before .before .if3 .left))
+    let s = c .before .before .before .before .before .before .before .before .before .before .before .before .before .args .unit .now in
+    let k = ap readSays (c .before .before .before .found .given .1) in
+    let ends = c .before .before .before .before .before .before .before .before .payload-ends .ensures in
+    let n = counts-obus s _ (sym k ∙ c .before .before .before .before .before .judge-payloads .ensures .found) in
+    omega (
+      arith,
+      n,
+      ltb-false mostObus (length (payloads s))
+          (sym (ends .more) ∙ c .before .before .before .before .before .before .if3 .left),
+    )
 
 returns-5 : tie.Need-returns-5
 returns-5 c =
-    let k = ap readSays (c .before .before .before .found .given .1) in
-    let ends = c .before .before .before .before .before .before .before .before .payload-ends .ensures in
-    let some-more = c .before .before .before .before .before .before .if3 .left in
-    let judged = c .before .before .before .before .before .judge-payloads .ensures in
-    let h = c .before .before .before .before .before .before .before .before .before .before .before .if1 .left in
-    let e = sym (c .before .before .before .before .before .before .before .before .before .before .code-at .ensures)
-    ∙ not-false _ (c .before .before .before .before .before .before .before .before .before .if2 .left) in
+    let k = ap readSays (c .before .before .before .before .found .given .1) in
+    let ends = c .before .before .before .before .before .before .before .before .before .payload-ends .ensures in
+    let some-more = c .before .before .before .before .before .before .before .if3 .left in
+    let judged = c .before .before .before .before .before .before .judge-payloads .ensures in
+    let h = c .before .before .before .before .before .before .before .before .before .before .before .before .if1 .left in
+    let e = sym (c .before .before .before .before .before .before .before .before .before .before .before .code-at .ensures)
+    ∙ not-false _ (c .before .before .before .before .before .before .before .before .before .before .if2 .left) in
     let m = sym some-more ∙ ends .more in
     let found = sym k ∙ judged .found in
-    answer-whole _ _ _ _ _ (c .judge-whole .ensures)
-    (check-whole _ h e m _ _ found (judged .kinds (counts-are _ h e m _ found .0)))
+    let all = counts-are _ h e m _ found .0 in
+    answer-whole _ _ _ _ _ _ (c .judge-whole .ensures)
+    (check-whole _ h e m _ _ found (judged .kinds all))
     (counts-obus _ _ found)
-    (ap (λ (n : ℕ). take n (c .before .before .before .before .before .before .before .before .payload-ends .result .at))
+    (ap (λ (n : ℕ). take n (c .before .before .before .before .before .before .before .before .before .payload-ends .result .at))
     (sym (ends .count some-more)) ∙ ends .at some-more)
+    (judged .widths all)
 
 pub judge-unit-spec : {M : Type 1} → statement M
 judge-unit-spec =

@@ -1,13 +1,30 @@
 -- The unit is judged, then the rooms are tried; an accepted unit that has room is copied whole.
 use borrow.Author.Needs.{needs}
 use native.Mathlib.Omega.{arith}
-use mathlib.Core.Path.{sym, ap, _∙_}
-use Rattle.refusal.specs.Verdict.{leaves}
+use mathlib.Core.Path.{_≡_, sym, ap, _∙_}
+use mathlib.Core.List.{List}
+use Prim.Native.Nat.{ℕ, _≤_}
+use lib.ListN.{length}
+use Rattle.lists.specs.Lists.{over}
+use Rattle.refusal.specs.Verdict.{passed, leaves}
 use Rattle.refusal.proofs.Verdicts.{refused-leaves}
-use Rattle.unit.specs.Answer.{readSays}
-use Rattle.unit.proofs.Checking.{checked, reading-refused, short-of-bytes, short-of-lengths, reading-fits}
+use Rattle.unit.specs.Answer.{checking, readSays}
+use Rattle.unit.proofs.Checking.{checked, reading-refused, reading-short, reading-fits, rooms}
 use Rattle.unit.proofs.reading.read.Statement.{statement}
 use Rattle.unit.proofs.reading.read.Tie as tie
+
+-- an accepted unit
+accepted : (c : tie.After-known-told)
+    → checking (c .before .before .before .before .before .before .before .before .args .unit .now)
+    ≡ passed (c .before .answer .given .0 .0)
+accepted c = sym (c .before .before .before .judge-unit .ensures .answer) ∙ ap readSays (c .before .answer .given .1)
+
+-- the rooms, where they are not too short
+room : (c : tie.Else1)
+    → let counts = c .before .before .before .answer .given .0 .0 in
+    let args = c .before .before .before .before .before .before .before .before .before .before .args in
+    (counts .bytes ≤ length (args .out .now)) × (counts .obus ≤ length (args .lens .now)) × (counts .obus ≤ length (args .widths .now))
+room c = rooms (c .before .before .before .answer .given .0 .0) _ _ _ (sym (c .before .no-room .ensures) ∙ c .if1 .left)
 
 judge-unit-requires : tie.Need-judge-unit-requires
 judge-unit-requires c κs = search needs
@@ -22,8 +39,11 @@ returns : tie.Need-returns
 unfolding leaves
 returns c =
     let k = ap readSays (c .enum-told .given .1) in
-    let r = reading-refused _ _ _ _ _ (sym (c .before .before .judge-unit .ensures .answer) ∙ k) in
-    (k ∙ r, (refused-leaves _ _ k, refused-leaves _ _ k))
+    let r = reading-refused _ _ _ _ _ _ (sym (c .before .before .judge-unit .ensures .answer) ∙ k) in
+    (k ∙ r, (refused-leaves _ _ k, (refused-leaves _ _ k, refused-leaves _ _ k)))
+
+no-room-requires : tie.Need-no-room-requires
+no-room-requires c κs = search needs
 
 refusal-requires : tie.Need-refusal-requires
 refusal-requires c κs = search needs
@@ -31,28 +51,24 @@ refusal-requires c κs = search needs
 returns-2 : tie.Need-returns-2
 unfolding leaves
 returns-2 c =
-    let k = sym (c .before .before .before .before .before .before .judge-unit .ensures .answer)
-    ∙ ap readSays (c .before .before .before .before .answer .given .1) in
     let e = ap readSays (c .refusal .ensures) in
-    (e ∙ short-of-bytes _ _ _ _ k (c .before .if1 .taken), (refused-leaves _ _ e, refused-leaves _ _ e))
-
-refusal-requires-2 : tie.Need-refusal-requires-2
-refusal-requires-2 c κs = search needs
-
-returns-3 : tie.Need-returns-3
-unfolding leaves
-returns-3 c =
-    let k = sym (c .before .before .before .before .before .before .before .before .judge-unit .ensures .answer)
-    ∙ ap readSays (c .before .before .before .before .before .before .answer .given .1) in
-    let e = ap readSays (c .refusal2 .ensures) in
-    (e ∙ short-of-lengths _ _ _ _ k (c .before .if2 .taken), (refused-leaves _ _ e, refused-leaves _ _ e))
+    let short = sym (c .before .before .no-room .ensures) ∙ c .before .if1 .taken in (
+      e ∙ reading-short _ _ _ _ _ (accepted (c .before .before .before)) short,
+      (refused-leaves _ _ e, (refused-leaves _ _ e, refused-leaves _ _ e)),
+    )
 
 copy-obus-requires : tie.Need-copy-obus-requires
 copy-obus-requires c κs =
-    let k = sym (c .before .before .before .before .before .before .before .before .before .before .judge-unit .ensures .answer)
-    ∙ ap readSays (c .before .before .before .before .before .before .before .before .answer .given .1) in
+    let told = c .before .before .before .before .before in
+    let k = accepted told in
     let a = checked _ _ k in
-    ((a .headed, a .obus, a .few, c .before .before .before .before .before .before .before .before .before .before .judge-unit .ensures .ends _ k), (omega (arith, a .bytes), omega arith))
+    let r = room (c .before .before .before) in
+    ((a .headed, a .obus, a .few, told .before .before .before .judge-unit .ensures .ends _ k), (omega (arith, a .bytes, r .0), r .1))
+
+copy-widths-requires : tie.Need-copy-widths-requires
+copy-widths-requires c κs =
+    let fit = c .before .before .before .before .before .before .before .before .before .before in
+    (checked _ _ (accepted (fit .before .before)) .few, room fit .2)
 
 same-length : tie.Need-same-length
 same-length c = search needs
@@ -60,14 +76,21 @@ same-length c = search needs
 same-length-2 : tie.Need-same-length-2
 same-length-2 c = search needs
 
-returns-4 : tie.Need-returns-4
+same-length-3 : tie.Need-same-length-3
+same-length-3 c = search needs
+
+returns-3 : tie.Need-returns-3
 unfolding leaves
-returns-4 c =
-    let k = sym (c .before .before .before .before .before .before .before .before .before .before .before .before .before .before .before .judge-unit .ensures .answer) ∙ ap readSays (c .before .before .before .before .before .before .before .before .before .before .before .before .before .answer .given .1) in (
-      reading-fits _ _ _ _ k (c .before .before .before .before .before .before .before .before .before .before .if1 .left)
-          (c .before .before .before .before .before .before .before .before .if2 .left),
-      (c .before .before .before .before .copy-obus .ensures .0, c .before .before .before .before .copy-obus .ensures .1),
-    )
+returns-3 c =
+    let copied = c .before .before .before .before .before .before .before .before .before in
+    let fit = copied .before .before .before .before in
+    let told = fit .before .before in
+    let k = accepted told in
+    let room = sym (fit .before .no-room .ensures) ∙ fit .if1 .left in
+    let obus = copied .copy-obus .ensures in
+    let widths = told .before .before .before .judge-unit .ensures .widths _ k in
+    let out = told .before .before .before .before .before .before .before .before .args .widths .now in
+    (reading-fits _ _ _ _ _ k room, (obus .0, (obus .1, c .before .before .copy-widths .ensures ∙ ap (λ (w : List ℕ). over w out) widths)))
 
 pub read-spec : {M : Type 1} → statement M
 read-spec =
@@ -77,11 +100,12 @@ read-spec =
     enum-known-answer
     enum-told
     returns
+    no-room-requires
     refusal-requires
     returns-2
-    refusal-requires-2
-    returns-3
     copy-obus-requires
+    copy-widths-requires
     same-length
     same-length-2
-    returns-4)
+    same-length-3
+    returns-3)

@@ -6,9 +6,9 @@ use lib.ListN.{length, replicate}
 use Rattle.lists.specs.Lists.{Bytes}
 use Rattle.emulation.specs.Payload.{unescape}
 use Rattle.emulation.proofs.Steps.{given-or-dropped}
-use Rattle.unit.proofs.Readings.{first-bytes, judged-short, figures-refused, figures-passed}
-use Rattle.unit.proofs.reading.judge_obu.Statement.{statement}
-use Rattle.unit.proofs.reading.judge_obu.Tie as tie
+use Rattle.unit.proofs.TsObus.{first-bytes, judged-short, figures-refused, figures-passed}
+use Rattle.unit.proofs.tsobu.judge_obu.Statement.{statement}
+use Rattle.unit.proofs.tsobu.judge_obu.Tie as tie
 
 -- the array, as it is made
 abbrev zeros : Bytes
@@ -52,20 +52,17 @@ returns c =
     let j = c .before .before .before .judge .ensures
     ∙ judged-short (unescape p) _ _ 11 (omega arith) (first-bytes (unescape p) zeros _ _ (e .0) (e .1) .1)
     (omega (arith, start .pre, given-or-dropped p)) in
-    figures-refused p _ _ j (c .before .judged .given .1)
-
-kind-number-requires : tie.Need-kind-number-requires
-kind-number-requires c κs = search needs
+    figures-refused p _ j _ (c .before .judged .given .1)
 
 returns-2 : tie.Need-returns-2
 returns-2 c =
-    let start = c .before .before .before .before .before .before .before .before .before .before in
+    let start = c .before .before .before .before .before .before .before .before .before in
     let p = start .args .payload .now in
-    let e = c .before .before .before .before .before .before .before .unescape-prefix .ensures in
-    let j = c .before .before .before .before .judge .ensures
+    let e = c .before .before .before .before .before .before .unescape-prefix .ensures in
+    let j = c .before .before .before .judge .ensures
     ∙ judged-short (unescape p) _ _ 11 (omega arith) (first-bytes (unescape p) zeros _ _ (e .0) (e .1) .1)
     (omega (arith, start .pre, given-or-dropped p)) in
-    figures-passed p _ _ _ j (c .before .before .judged2 .given .1) (start .pre) _ (c .kind-number .ensures)
+    figures-passed p _ j _ _ (c .before .judged2 .given .1) (start .pre)
 
 pub judge-obu-spec : {M : Type 1} → statement M
 judge-obu-spec =
@@ -79,6 +76,5 @@ judge-obu-spec =
     judge-requires
     enum-known-judged
     enum-known-judged-2
-    kind-number-requires
     returns
     returns-2)

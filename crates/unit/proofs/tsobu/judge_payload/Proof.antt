@@ -2,9 +2,9 @@
 use borrow.Author.Needs.{needs}
 use mathlib.Core.Path.{_∙_}
 use Rattle.emulation.proofs.Answers.{judged-legal, judged-illegal}
-use Rattle.unit.proofs.Readings.{tsobu-empty, tsobu-illegal, tsobu-legal}
-use Rattle.unit.proofs.reading.judge_payload.Statement.{statement}
-use Rattle.unit.proofs.reading.judge_payload.Tie as tie
+use Rattle.unit.proofs.TsObus.{tsobu-empty, tsobu-illegal, tsobu-legal}
+use Rattle.unit.proofs.tsobu.judge_payload.Statement.{statement}
+use Rattle.unit.proofs.tsobu.judge_payload.Tie as tie
 
 returns : tie.Need-returns
 returns c = tsobu-empty _ (c .if1 .taken)
