@@ -5,7 +5,7 @@ ghost use mathlib.Core.List.{[], _∷_};
 ghost use Prim.Native.Nat.{_+_, _≤_, _<_};
 ghost use lib.ListN.{length, take, drop};
 ghost use lib.Seq.{paste};
-ghost use Rattle.lists.specs.Lists.{Bytes, over};
+ghost use Rattle.lists.specs.Lists.{Bytes};
 ghost use Rattle.emulation.specs.Parts.{block, Copied, Writes};
 use crate::blocks::BLOCK;
 use crate::blocks::clean;
@@ -78,16 +78,4 @@ pub(crate) fn copy_rest(s: &[u8], i: usize, out: &mut [u8], n: usize) -> usize
         place += 1;
     }
     count
-}
-
-// The bytes of s, over the front of out.
-pub(crate) fn copy(s: &[u8], out: &mut [u8])
-    requires { ⌜ length (now s) ≤ length (now out) ⌝ }
-    ensures { λ _. ⌜ now (out .exit) ≡ over (now (s .entry)) (now (out .entry)) ⌝ }
-{
-    let mut i: usize = 0;
-    while i < s.len() {
-        out[i] = s[i];
-        i += 1;
-    }
 }

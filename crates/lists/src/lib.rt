@@ -4,6 +4,13 @@ ghost use lib.ListN.{take, drop};
 ghost use Rattle.lists.specs.Lists.{same};
 ghost use Rattle.lists.specs.Bytes.{byte};
 
+mod outputs;
+
+pub use outputs::clear;
+pub use outputs::clear_lengths;
+pub use outputs::clear_numbers;
+pub use outputs::copy;
+
 // The byte at a place, 0 behind the end.
 pub fn byte_at(s: &[u8], i: usize) -> u8
     ensures { λ r. ⌜ r ≡ byte (now (s .entry)) i ⌝ }

@@ -1,8 +1,6 @@
 // Writing the content.
 ghost use mathlib.Core.Path.{_≡_};
-ghost use Prim.Native.Nat.{_≤_};
 ghost use lib.ListN.{length};
-ghost use Rattle.lists.specs.Lists.{over};
 ghost use Rattle.refusal.specs.Verdict.{leaves};
 ghost use Rattle.mastering.specs.Content.{contentOf};
 ghost use Rattle.mastering.specs.Steps.{numbersFrom, writing, writtenSays};
@@ -10,6 +8,7 @@ use crate::numbers::Numbers;
 use crate::steps::Steps;
 use crate::steps::numbers_from;
 use crate::steps::steps_past;
+use lists::copy;
 use refusal::Refusal;
 use refusal::Refused;
 
@@ -56,18 +55,6 @@ fn content_of(n: Numbers) -> [u8; 26]
     ]
 }
 
-// The content, which has room, over the front of out.
-fn put(content: &[u8], out: &mut [u8])
-    requires { ⌜ length (now content) ≤ length (now out) ⌝ }
-    ensures { λ _. ⌜ now (out .exit) ≡ over (now (content .entry)) (now (out .entry)) ⌝ }
-{
-    let mut i: usize = 0;
-    while i < content.len() {
-        out[i] = content[i];
-        i += 1;
-    }
-}
-
 // The content that is nearest to these numbers, over the front of out; 49, then 8.
 pub fn write(steps: Steps, out: &mut [u8]) -> Written
     ensures { λ r. ⌜ writtenSays r ≡ writing steps (length (now (out .entry))) ⌝ }
@@ -86,6 +73,6 @@ pub fn write(steps: Steps, out: &mut [u8]) -> Written
         });
     }
     let content = content_of(numbers_from(steps));
-    put(&content, out);
+    copy(&content, out);
     Written::Bytes(CONTENT)
 }

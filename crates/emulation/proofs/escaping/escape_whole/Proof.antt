@@ -5,6 +5,7 @@ use mathlib.Core.Path.{sym, ap, _∙_}
 use lib.ListN.{length}
 use lib.Seq.{take-all}
 use Rattle.lists.specs.Lists.{Bytes, over}
+use Rattle.lists.proofs.Writing.{fits}
 use Rattle.emulation.specs.Payload.{escape}
 use Rattle.emulation.proofs.Inserting.{uninserted}
 use Rattle.emulation.proofs.escaping.escape_whole.Statement.{statement}
@@ -19,7 +20,11 @@ same-length c = search needs
 returns : tie.Need-returns
 returns c =
     let start = c .before .before .before .before .before .before .before in
-    c .before .before .copy .ensures ∙ ap (λ (w : Bytes). over w (start .args .out .now)) (sym (uninserted (start .args .obu .now) (sym (start .pre .0) ∙ c .before .before .before .before .if1 .taken)))
+    let obu = start .args .obu .now in
+    let o = start .args .out .now in
+    let whole = uninserted obu (sym (start .pre .0) ∙ c .before .before .before .before .if1 .taken) in
+    c .before .before .copy .ensures ∙ fits o obu (omega (arith, ap length whole, start .pre .0, start .pre .1))
+    ∙ ap (λ (w : Bytes). over w o) (sym whole)
 
 escape-prefix-requires : tie.Need-escape-prefix-requires
 escape-prefix-requires c κs = search needs

@@ -5,14 +5,14 @@ use mathlib.Core.Path.{sym, ap, _∙_}
 use lib.ListN.{length}
 use lib.Seq.{take-all}
 use Rattle.lists.specs.Lists.{Bytes, over}
+use Rattle.lists.proofs.Writing.{fits}
 use Rattle.emulation.specs.Payload.{unescape}
-use Rattle.emulation.proofs.Steps.{given-or-dropped}
 use Rattle.emulation.proofs.Judging.{undropped}
 use Rattle.emulation.proofs.unescaping.unescape_whole.Statement.{statement}
 use Rattle.emulation.proofs.unescaping.unescape_whole.Tie as tie
 
 copy-requires : tie.Need-copy-requires
-copy-requires c κs = omega (arith, c .before .before .before .before .pre .0, c .before .before .before .before .pre .1, given-or-dropped (c .before .before .before .before .args .payload .now))
+copy-requires c κs = search needs
 
 same-length : tie.Need-same-length
 same-length c = search needs
@@ -20,7 +20,11 @@ same-length c = search needs
 returns : tie.Need-returns
 returns c =
     let start = c .before .before .before .before .before .before .before in
-    c .before .before .copy .ensures ∙ ap (λ (w : Bytes). over w (start .args .out .now)) (sym (undropped (start .args .payload .now) (sym (start .pre .0) ∙ c .before .before .before .before .if1 .taken)))
+    let payload = start .args .payload .now in
+    let o = start .args .out .now in
+    let whole = undropped payload (sym (start .pre .0) ∙ c .before .before .before .before .if1 .taken) in
+    c .before .before .copy .ensures ∙ fits o payload (omega (arith, ap length whole, start .pre .1))
+    ∙ ap (λ (w : Bytes). over w o) (sym whole)
 
 unescape-prefix-requires : tie.Need-unescape-prefix-requires
 unescape-prefix-requires c κs = search needs

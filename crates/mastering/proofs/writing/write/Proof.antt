@@ -4,7 +4,9 @@ use Prim.Native.Nat.{ℕ}
 use mathlib.Core.Path.{refl, sym, ap, _∙_}
 use mathlib.Core.List.{List, flatten}
 use borrow.Author.Tests.{lt-ltb, le-ltb}
+use lib.ListN.{length, take}
 use Rattle.lists.specs.Lists.{over}
+use Rattle.lists.proofs.Writing.{fits}
 use Rattle.refusal.specs.Verdict.{leaves}
 use Rattle.refusal.proofs.Verdicts.{refuse, pass-on}
 use Rattle.mastering.specs.Content.{bytes2, bytes4, contentOf}
@@ -31,11 +33,11 @@ numbers-from-requires c κs = sym (c .before .before .steps-past .ensures) ∙ c
 content-of-requires : tie.Need-content-of-requires
 content-of-requires c κs = search needs
 
-slice-aggregate-put : tie.Need-slice-aggregate-put
-slice-aggregate-put c = search needs
+slice-aggregate-copy : tie.Need-slice-aggregate-copy
+slice-aggregate-copy c = search needs
 
-put-requires : tie.Need-put-requires
-put-requires c κs = search needs
+copy-requires : tie.Need-copy-requires
+copy-requires c κs = search needs
 
 same-length : tie.Need-same-length
 same-length c = search needs
@@ -49,7 +51,7 @@ returns-3 c =
     let out = at .before .before .before .before .args .out .now in
     let content = made .content-of .ensures ∙ ap contentOf (made .before .numbers-from .ensures) in (
       pass-on 49 within (pass-on 8 (le-ltb _ _ (at .if2 .left)) refl),
-      c .before .before .put .ensures ∙ ap (λ (l : List ℕ). over l out) content,
+      c .before .before .copy .ensures ∙ ap (λ (l : List ℕ). over (take (length out) l) out) content ∙ fits out (contentOf _) (at .if2 .left),
     )
 
 pub write-spec : {M : Type 1} → statement M
@@ -61,7 +63,7 @@ write-spec =
     returns-2
     numbers-from-requires
     content-of-requires
-    slice-aggregate-put
-    put-requires
+    slice-aggregate-copy
+    copy-requires
     same-length
     returns-3)
