@@ -73,6 +73,8 @@ impl Refusal {
     pub const UNIT_COUNT: Refusal = Refusal { number: 34 };
 
     // The requests of document 02.
+    pub const CUT_SHORT: Refusal = Refusal { number: 43 };
+
     pub const ARRIVAL_TIME: Refusal = Refusal { number: 46 };
 
     pub const REPLAY_BOUNDS: Refusal = Refusal { number: 47 };
