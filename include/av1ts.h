@@ -55,6 +55,18 @@ av1ts_answer av1ts_read_unit_widths(const uint8_t *unit, size_t unit_len, uint8_
 /* The same verdict and figures with no output: all refusals of reading but 8. */
 av1ts_answer av1ts_check_unit(const uint8_t *unit, size_t unit_len);
 
+/* What salvaging a unit gave. bytes: the bytes written; tsobus: the tsOBUs of the unit; kept: how many of them were kept; leading: the bytes dropped before the
+ * first start code (all of them, where there is none). accepted 1: av1ts_check_unit accepts what was written; 0: it refuses it. */
+typedef struct {
+    uint64_t number, place, bytes, tsobus, kept, leading, accepted;
+} av1ts_salvaged;
+
+/* The good OBUs of a damaged unit, in order, each in the form that av1ts_write_unit gives it, from the front of out; and from the front of marks a byte for each
+ * tsOBU of the unit: 0 it was kept, 1 it was kept and a closing 03 removed, otherwise the number it was dropped with, the first of 3, 10, 4, 5, 6, 42, and 2 for an
+ * OBU of more than 1,048,576 bytes. What is written is never longer than the unit; of an accepted unit nothing is dropped.
+ * Refuses: 2 more than 1,573,056 bytes; 1 more than 64 tsOBUs; 8 an output is too short (bytes or marks). A refusal leaves both outputs. */
+av1ts_salvaged av1ts_salvage(const uint8_t *unit, size_t unit_len, uint8_t *out, size_t out_len, uint8_t *marks, size_t marks_len);
+
 /* A walk over a carried unit hands out one payload at a time. Its state is a place in the unit: it starts at 0, and each step says the place of the
  * next one. */
 typedef struct {

@@ -15,6 +15,7 @@ pub mod pes;
 pub mod refusal;
 pub mod replay;
 pub mod report;
+pub mod salvage;
 pub mod section;
 pub mod segment;
 pub mod unit;

@@ -1,7 +1,7 @@
 //! The differential suites: the library, through its binding, against the second implementation.
 //!
 //! With names of suites on the command line only those run. With `--self` in front, the suites of
-//! descriptors and segments run with the second implementation in both roles.
+//! descriptors, salvaging and segments run with the second implementation in both roles.
 
 mod kit;
 mod suites;

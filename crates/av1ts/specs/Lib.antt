@@ -1,4 +1,5 @@
 pub mod Answers
 pub mod Rewriting
+pub mod Salvaging
 pub mod Replaying
 pub mod Metadata

@@ -53,7 +53,7 @@ pub data Closings : List Bytes → List Bytes → Type 0 where
   plain : (obu : Bytes) {l ps : List Bytes} → Closings l ps → Closings (obu ∷ l) (escape obu ∷ ps)
   closing : (obu : Bytes) {l ps : List Bytes} → endsIn00 (escape obu) ≡ true → Closings l ps → Closings (obu ∷ l) ((escape obu ++ (3 ∷ [])) ∷ ps)
 
-closing-ends : (p obu : Bytes) → unescape p ≡ obu → p ≡ escape obu ++ (3 ∷ []) → endsIn00 (escape obu) ≡ true
+pub closing-ends : (p obu : Bytes) → unescape p ≡ obu → p ≡ escape obu ++ (3 ∷ []) → endsIn00 (escape obu) ≡ true
 closing-ends p obu u e =
     case (endsIn00 (escape obu))
     (λ t. t)

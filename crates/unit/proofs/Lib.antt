@@ -3,6 +3,7 @@ pub mod Closings
 pub mod Lengths
 pub mod Acceptance
 pub mod Theorem
+pub mod Accepted
 pub mod Places
 pub mod Steps
 pub mod Walks

@@ -72,7 +72,7 @@ pub obu-some : (b : Bytes) → obuRefusal b ≡ passed tt → 1 ≤ length b
 obu-some [] e = absurd (empty-refused e)
 obu-some (x ∷ b) e = omega arith
 
-tsobu-fine : (b : Bytes) → obuRefusal b ≡ passed tt → tsobuRefusal (escape b) ≡ passed tt
+pub tsobu-fine : (b : Bytes) → obuRefusal b ≡ passed tt → tsobuRefusal (escape b) ≡ passed tt
 unfolding tsobuRefusal
 tsobu-fine b e =
     let n = obu-some b e in
@@ -107,7 +107,7 @@ pub accepts-carried : (l : List Bytes) → Accepted l → AcceptsAs (carried l) 
 accepts-carried l a = read-by (carried l) (carried-reads l a) ∙ ap passed (obus-carried l)
 
 -- ---- what an accepted string is
-tsobu-legal : (p : Bytes) → tsobuRefusal p ≡ passed tt → legal p ≡ true
+pub tsobu-legal : (p : Bytes) → tsobuRefusal p ≡ passed tt → legal p ≡ true
 unfolding tsobuRefusal
 tsobu-legal p e =
     let h = passed-after _ _ tt (passed-after _ _ tt e .1) in

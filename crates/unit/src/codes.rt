@@ -1,8 +1,8 @@
 // Start codes.
 ghost use mathlib.Core.Path.{_≡_};
-ghost use Prim.Native.Nat.{_+_, _≤_};
+ghost use Prim.Native.Nat.{_≤_};
 ghost use lib.ListN.{length, drop};
-ghost use Rattle.unit.specs.Unit.{atStartCode, split};
+ghost use Rattle.unit.specs.Unit.{atStartCode, codeFrom};
 
 // A start code stands at i.
 pub(crate) fn code_at(s: &[u8], i: usize) -> bool
@@ -21,10 +21,9 @@ pub(crate) fn code_at(s: &[u8], i: usize) -> bool
     s[i + 2] == 1
 }
 
-// Where the first start code from `from` on stands, or the length.
-pub(crate) fn find(s: &[u8], from: usize) -> usize
-    requires { ⌜ from ≤ length (now s) ⌝ }
-    ensures { λ r. ⌜ r ≡ from + length (split (drop from (now (s .entry))) .before) ⌝ }
+// Where the first start code from `from` on stands, or the length; behind the end, `from` itself.
+pub fn find(s: &[u8], from: usize) -> usize
+    ensures { λ r. ⌜ r ≡ codeFrom (now (s .entry)) from ⌝ }
 {
     let mut i = from;
     while i < s.len() {

@@ -6,6 +6,7 @@ mod tsobu;
 mod walking;
 mod writing;
 
+pub use codes::find;
 pub use reader::Handed;
 pub use reader::Walk;
 pub use reading::Counts;

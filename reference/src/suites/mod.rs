@@ -17,6 +17,7 @@ mod payload_limits;
 mod payload_random;
 mod payload_worked;
 mod replay;
+mod salvage;
 mod segment;
 mod segment_clock;
 mod segment_closing;
@@ -88,6 +89,14 @@ const REPLAY: &[&Definition] = &[
     &replay::states::SUITE,
 ];
 
+const SALVAGE: &[&Definition] = &[
+    &salvage::marks::SUITE,
+    &salvage::damaged::SUITE,
+    &salvage::leading::SUITE,
+    &salvage::limits::SUITE,
+    &salvage::rooms::SUITE,
+];
+
 const SEGMENTS: &[&Definition] = &[
     &segment_valid::SUITE,
     &segment_refusals::SUITE,
@@ -112,6 +121,7 @@ pub fn all(itself: bool) -> Vec<&'static Definition> {
         all.extend(MASTERING);
     }
     all.extend(DESCRIPTORS);
+    all.extend(SALVAGE);
     all.extend(SEGMENTS);
     all
 }

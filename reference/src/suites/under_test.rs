@@ -1,11 +1,13 @@
-//! The functions under test of descriptors and segments: the library's, or the reference's own.
+//! The functions under test of descriptors, segments and salvaging: the library's, or the reference's
+//! own.
 
 use av1ts::Answer;
 use av1ts::descriptor::{Descriptor, Rewritten};
+use av1ts::salvage::Salvaged;
 use av1ts::segment::Segment;
 use reference::refusal::Refusal;
 use reference::segment::{Accepted, Rooms};
-use reference::{descriptor, segment};
+use reference::{descriptor, salvage, segment, unit};
 use std::sync::atomic::{AtomicBool, Ordering};
 
 static ITSELF: AtomicBool = AtomicBool::new(false);
@@ -83,6 +85,47 @@ pub fn check_segment(
         }
     }
     segment_answer(&verdict)
+}
+
+pub fn salvage(input: &[u8], out: &mut [u8], marks: &mut [u8]) -> Salvaged {
+    if library() {
+        return av1ts::salvage::salvage(input, out, marks);
+    }
+    let salvaged = salvage::salvage(input, out.len(), marks.len());
+    if let Ok(salvaged) = &salvaged {
+        out[..salvaged.bytes.len()].copy_from_slice(&salvaged.bytes);
+        for (at, mark) in salvaged.marks.iter().enumerate() {
+            marks[at] = mark.number();
+        }
+    }
+    salvaged_answer(&salvaged)
+}
+
+/// Whether reading accepts a unit.
+pub fn reading_accepts(carried: &[u8]) -> bool {
+    if library() {
+        return av1ts::unit::check_unit(carried).number == 0;
+    }
+    unit::accept(carried).is_ok()
+}
+
+/// What the C interface answers to salvaging.
+pub fn salvaged_answer(salvaged: &Result<salvage::Salvaged, Refusal>) -> Salvaged {
+    match salvaged {
+        Err(refusal) => Salvaged {
+            number: refusal.number,
+            place: refusal.place,
+            ..Salvaged::default()
+        },
+        Ok(salvaged) => Salvaged {
+            bytes: salvaged.bytes.len() as u64,
+            tsobus: salvaged.marks.len() as u64,
+            kept: salvaged.kept() as u64,
+            leading: salvaged.leading as u64,
+            accepted: u64::from(salvaged.accepted),
+            ..Salvaged::default()
+        },
+    }
 }
 
 /// What the C interface answers to the reading of a descriptor.

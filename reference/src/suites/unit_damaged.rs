@@ -41,7 +41,7 @@ pub const SUITE: Definition = Definition {
 };
 
 /// Damages bytes in one way and names it.
-fn damage(random: &mut Random, bytes: &mut Vec<u8>) -> &'static str {
+pub fn damage(random: &mut Random, bytes: &mut Vec<u8>) -> &'static str {
     if bytes.is_empty() {
         bytes.push(random.next() as u8);
         return "bytes put in";

@@ -8,6 +8,7 @@ pub mod descriptor;
 pub mod mastering;
 pub mod payload;
 pub mod replay;
+pub mod salvage;
 pub mod segment;
 pub mod unit;
 pub mod walk;

@@ -1,7 +1,7 @@
 -- No start code stands before i: what comes before the next one is the bytes passed, then what comes before it from i on.
 use borrow.Author.Needs.{needs}
 use native.Mathlib.Omega.{arith}
-use Prim.Native.Nat.{_+_, _-_, _≤_}
+use Prim.Native.Nat.{_+_, _-_}
 use mathlib.Core.Path.{_≡_, sym, _∙_}
 use lib.ListN.{length, drop}
 use Rattle.unit.proofs.Places.{before, before-code, before-byte, before-end}
@@ -9,7 +9,7 @@ use Rattle.unit.proofs.codes.find.Statement.{statement}
 use Rattle.unit.proofs.codes.find.Tie as tie
 
 abbrev Inv-loop : tie.InvT-loop
-Inv-loop s from i₀ i = (i ≤ length s) × (i + before (drop i s) ≡ from + before (drop from s))
+Inv-loop s from i₀ i = i + before (drop i s) ≡ from + before (drop from s)
 
 abbrev μ-loop : tie.MeasureT-loop
 μ-loop s from i₀ i = length s - i

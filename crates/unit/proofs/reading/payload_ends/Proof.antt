@@ -1,4 +1,5 @@
 -- One payload a turn: the ends noted, then those of the payloads from the next start code on, are those of all.
+use borrow.Author.Needs.{needs}
 use native.Mathlib.Omega.{arith}
 use Prim.Native.Nat.{_-_}
 use mathlib.Core.Path.{refl}
@@ -29,9 +30,7 @@ add-find c =
     )
 
 find-requires : tie.Need-find-requires Inv-loop μ-loop
-find-requires c κs =
-    code-fits (c .before .before .before .before .args .unit .now) (c .before .before .loop .code)
-    (ending-code (c .before .before .loop .inv) (c .before .loop-test .taken))
+find-requires c κs = search needs
 
 mul-at : tie.Need-mul-at Inv-loop μ-loop
 mul-at c = omega arith

@@ -17,7 +17,7 @@ add-start : tie.Need-add-start
 add-start c = omega (arith, code-fits (c .before .args .unit .now) (c .before .args .at) (c .before .pre))
 
 find-requires : tie.Need-find-requires
-find-requires c κs = code-fits (c .before .args .unit .now) (c .before .args .at) (c .before .pre)
+find-requires c κs = search needs
 
 refused-requires : tie.Need-refused-requires
 refused-requires c κs =
