@@ -7,7 +7,7 @@ use Rattle.lists.specs.Bytes.{byte}
 use Rattle.refusal.specs.Verdict.{Verdict, passed, refused}
 use Rattle.emulation.specs.declared.unescaping.Counts.{Counts as UnescapedCounts}
 use Rattle.unit.specs.declared.reading.Counts.{Counts as UnitCounts}
-use Rattle.unit.specs.Walk.{Found, payload, end}
+use Rattle.tsobu.specs.Walk.{Found, payload, end}
 use Rattle.descriptor.specs.declared.fields.Fields.{Fields}
 use Rattle.descriptor.specs.declared.fields.Delay.{Delay}
 use Rattle.descriptor.specs.declared.fields.Delay.the-variants.{Absent, Present}

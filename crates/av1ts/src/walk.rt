@@ -1,9 +1,9 @@
 // The walk over a carried unit, a step a call.
 ghost use mathlib.Core.Path.{_≡_};
-ghost use Rattle.unit.specs.Walk.{starting, stepping};
+ghost use Rattle.tsobu.specs.Walk.{starting, stepping};
 ghost use Rattle.av1ts.specs.Answers.{startAnswer, stepAnswer};
-use unit::Started;
-use unit::Step;
+use tsobu::Started;
+use tsobu::Step;
 
 // end 1: the walk has come to the end. Otherwise, with number 0, a payload: where it begins, its length, and the place
 // of the next step.
@@ -21,7 +21,7 @@ pub struct WalkStep {
 pub extern "C" fn av1ts_walk_start(unit: &[u8]) -> WalkStep
     ensures { λ r. ⌜ r ≡ startAnswer (starting (now (unit .entry))) ⌝ }
 {
-    let started = unit::start(unit);
+    let started = tsobu::start(unit);
     match started {
         Started::At(at) => WalkStep {
             number: 0,
@@ -50,7 +50,7 @@ pub extern "C" fn av1ts_walk_start(unit: &[u8]) -> WalkStep
 pub extern "C" fn av1ts_walk_step(unit: &[u8], at: usize) -> WalkStep
     ensures { λ r. ⌜ r ≡ stepAnswer at (stepping (now (unit .entry)) at) ⌝ }
 {
-    let step = unit::step_at(unit, at);
+    let step = tsobu::step_at(unit, at);
     match step {
         Step::Payload(part) => WalkStep {
             number: 0,

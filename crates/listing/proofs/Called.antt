@@ -37,16 +37,16 @@ use denote.Triple.Spec.{tripleOf}
 use denote.Triple.Clauses.{ensured, lasts}
 use denote.Triple.Walked.{says}
 use Rattle.lists.specs.Lists.{Bytes}
-use Rattle.unit.specs.Walk.{fresh, stepOf, handedBy, behind, stepSays}
-use Rattle.unit.specs.declared.reader.Handed.{Handed}
-use Rattle.unit.specs.declared.reader.Walk.{Walk}
-use Rattle.unit.proofs.Held.{Own, handed-val, part-out}
-use Rattle.unit.proofs.reader.Handed as G
-use Rattle.unit.proofs.reader.Handed.Laws as G′
-use Rattle.unit.proofs.reader.Walk as T
-use Rattle.unit.proofs.reader.Walk.Laws as T′
-use Rattle.unit.proofs.reader.Walk.new as new
-use Rattle.unit.proofs.reader.Walk.step as step
+use Rattle.tsobu.specs.Walk.{fresh, stepOf, handedBy, behind, stepSays}
+use Rattle.tsobu.specs.declared.reader.Handed.{Handed}
+use Rattle.tsobu.specs.declared.reader.Walk.{Walk}
+use Rattle.tsobu.proofs.Held.{Own, handed-val, part-out}
+use Rattle.tsobu.proofs.reader.Handed as G
+use Rattle.tsobu.proofs.reader.Handed.Laws as G′
+use Rattle.tsobu.proofs.reader.Walk as T
+use Rattle.tsobu.proofs.reader.Walk.Laws as T′
+use Rattle.tsobu.proofs.reader.Walk.new as new
+use Rattle.tsobu.proofs.reader.Walk.step as step
 use Rattle.listing.specs.Listing.{payloadLine}
 use Rattle.listing.specs.Parts.{Puts, lineRoom}
 use Rattle.listing.proofs.lines.put_payload as put

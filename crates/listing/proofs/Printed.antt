@@ -7,8 +7,11 @@ use Rattle.emulation.specs.Payload.{above3, forbidden, legal, unescape, dropped
 use Rattle.obu.specs.Leb128.{leb128, lebWithin, lowFirst, inRange}
 use Rattle.obu.specs.Header.{fixedBytes, sizeOf, headerWith, sizedHeader, headerOf, judged}
 use Rattle.obu.specs.Order.{kindOfNumber, afterFrame, atFrame, beforeFrame, orderRefusal}
-use Rattle.unit.specs.Unit.{atStartCode, split, sum, tsobuRefusal, readUnit}
-use Rattle.unit.specs.Answer.{checking, tsobuFigures}
+use Rattle.tsobu.specs.StartCodes.{atStartCode, split}
+use Rattle.unit.specs.Unit.{sum, readUnit}
+use Rattle.tsobu.specs.TsObu.{tsobuRefusal}
+use Rattle.unit.specs.Answer.{checking}
+use Rattle.tsobu.specs.TsObu.{tsobuFigures}
 use Rattle.listing.specs.Text.{ascii, placesFrom, decimal}
 use Rattle.listing.specs.Listing.{headerLine, obuLine, payloadLines, judgingListed, listText}
 

@@ -11,8 +11,8 @@ use Rattle.lists.specs.Lists.{Bytes, placed}
 use Rattle.refusal.specs.Verdict.{passed, refused}
 use Rattle.emulation.specs.Payload.{unescape}
 use Rattle.obu.specs.Header.{sizeBytes}
-use Rattle.unit.specs.Answer.{tsobuFigures}
-use Rattle.unit.specs.declared.tsobu.Figures.{Figures}
+use Rattle.tsobu.specs.TsObu.{tsobuFigures}
+use Rattle.tsobu.specs.declared.judging.Figures.{Figures}
 use Rattle.listing.specs.Text.{ascii, decimal}
 use Rattle.listing.specs.Listing.{obuLine, lineSaid, payloadLine}
 use Rattle.listing.specs.Parts.{Puts}

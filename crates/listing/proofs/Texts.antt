@@ -8,7 +8,7 @@ use lib.ListN.{length, take}
 use Rattle.lists.specs.Lists.{Bytes}
 use Rattle.refusal.specs.Verdict.{Verdict, passed, refused}
 use Rattle.refusal.proofs.Verdicts.{refuse, pass-on, passed-after, passed-same, given-passed}
-use Rattle.unit.specs.Unit.{payloads}
+use Rattle.tsobu.specs.StartCodes.{payloads}
 use Rattle.unit.specs.Answer.{checking}
 use Rattle.unit.specs.declared.reading.Counts.{Counts}
 use Rattle.listing.specs.Listing.{refusalLine, headerLine, payloadLines, mostListed, judgingListed, textSaying, listText, listing, listedSays}

@@ -8,15 +8,16 @@ use lib.ListN.{length, take, drop}
 use Rattle.lists.specs.Lists.{Bytes}
 use Rattle.refusal.specs.Verdict.{passed}
 use Rattle.refusal.proofs.Verdicts.{never, passed-then}
-use Rattle.unit.specs.Unit.{payloads, readUnit, AcceptsAs}
+use Rattle.tsobu.specs.StartCodes.{payloads}
+use Rattle.unit.specs.Unit.{readUnit, AcceptsAs}
 use Rattle.unit.specs.Answer.{checking}
-use Rattle.unit.specs.Walk.{stepping, payload, goesTo, placeAfter, handedOut, stepSays, HandsOut, none, first, Walks}
-use Rattle.unit.specs.declared.walking.Part.{Part}
-use Rattle.unit.specs.declared.walking.Step.{Step}
-use Rattle.unit.specs.declared.walking.Step.the-variants as step
+use Rattle.tsobu.specs.Walk.{stepping, payload, goesTo, placeAfter, handedOut, stepSays, HandsOut, none, first, Walks}
+use Rattle.tsobu.specs.declared.walking.Part.{Part}
+use Rattle.tsobu.specs.declared.walking.Step.{Step}
+use Rattle.tsobu.specs.declared.walking.Step.the-variants as step
 use Rattle.unit.proofs.Acceptance.{reads}
 use Rattle.unit.proofs.AsReading.{accepted-walks}
-use Rattle.unit.proofs.Steps.{not-end, gives}
+use Rattle.tsobu.proofs.Steps.{not-end, gives}
 use Rattle.listing.specs.Listing.{payloadLine, payloadLines}
 use Rattle.listing.specs.Parts.{Puts, Accepts, lineRoom, obusRoom}
 use Rattle.listing.proofs.Puttings.{puts-nothing, puts-then, puts-as}

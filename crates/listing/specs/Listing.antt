@@ -9,9 +9,10 @@ use Rattle.refusal.specs.Verdict.{Verdict, passed, refused, _>>_, given}
 use Rattle.refusal.specs.Number.{refusedBy}
 use Rattle.emulation.specs.Payload.{unescape}
 use Rattle.obu.specs.Header.{sizeBytes}
-use Rattle.unit.specs.Unit.{payloads}
-use Rattle.unit.specs.Answer.{checking, tsobuFigures}
-use Rattle.unit.specs.declared.tsobu.Figures.{Figures}
+use Rattle.tsobu.specs.StartCodes.{payloads}
+use Rattle.unit.specs.Answer.{checking}
+use Rattle.tsobu.specs.TsObu.{tsobuFigures}
+use Rattle.tsobu.specs.declared.judging.Figures.{Figures}
 use Rattle.unit.specs.declared.reading.Counts.{Counts}
 use Rattle.listing.specs.Text.{ascii, decimal}
 use Rattle.listing.specs.declared.listed.Listed.{Listed}

@@ -9,8 +9,8 @@ use crate::text::put_named;
 use crate::text::put_word;
 use obu::size_bytes;
 use refusal::Refused;
-use unit::TsObu;
-use unit::judge_payload;
+use tsobu::TsObu;
+use tsobu::judge_payload;
 
 // A refusal's number and place, at the front.
 pub(crate) fn put_refusal(text: &mut [u8], refused: Refused) -> usize

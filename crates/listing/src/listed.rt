@@ -3,7 +3,7 @@ ghost use Prim.Native.Nat.{_+_, _≤_};
 ghost use mathlib.Core.Path.{_≡_};
 ghost use lib.ListN.{length};
 ghost use Rattle.refusal.specs.Verdict.{leaves};
-ghost use Rattle.unit.specs.Unit.{payloads};
+ghost use Rattle.tsobu.specs.StartCodes.{payloads};
 ghost use Rattle.listing.specs.Listing.{payloadLines, listText, mostText, listing, listedSays};
 ghost use Rattle.listing.specs.Parts.{Puts, Accepts, obusRoom};
 use crate::lines::put_header;
@@ -12,9 +12,9 @@ use crate::lines::put_refusal;
 use crate::text::put_word;
 use refusal::Refusal;
 use refusal::Refused;
-use unit::Step;
+use tsobu::Step;
+use tsobu::Walk;
 use unit::UnitRead;
-use unit::Walk;
 
 // The most bytes of a unit that is listed.
 const MOST_LISTED: usize = 65536;

@@ -20,15 +20,17 @@ use Rattle.emulation.specs.Payload.{unescape, escape}
 use Rattle.emulation.proofs.Steps.{given-or-dropped}
 use Rattle.obu.specs.Header.{headerOf, obuRefusal}
 use Rattle.obu.specs.Order.{kindNumber, numberSaid}
-use Rattle.unit.specs.Unit.{mostObuBytes, payloads, sum, tsobuRefusal, carried}
-use Rattle.unit.specs.Answer.{tsobuFigures, tsobuSays}
-use Rattle.unit.specs.declared.tsobu.Figures.{Figures}
-use Rattle.unit.specs.declared.tsobu.TsObu.{TsObu}
-use Rattle.unit.specs.declared.tsobu.TsObu.the-variants as tsobu
+use Rattle.unit.specs.Unit.{mostObuBytes, sum, carried}
+use Rattle.tsobu.specs.StartCodes.{payloads}
+use Rattle.tsobu.specs.TsObu.{tsobuRefusal}
+use Rattle.tsobu.specs.TsObu.{tsobuFigures, tsobuSays}
+use Rattle.tsobu.specs.declared.judging.Figures.{Figures}
+use Rattle.tsobu.specs.declared.judging.TsObu.{TsObu}
+use Rattle.tsobu.specs.declared.judging.TsObu.the-variants as tsobu
 use Rattle.unit.proofs.Writings.{code-over}
 use Rattle.unit.proofs.Theorem.{tsobu-legal}
 use Rattle.unit.proofs.Accepted.{tsobu-obu}
-use Rattle.unit.proofs.TsObus.{Passes, tsobu-refused, tsobu-passed}
+use Rattle.tsobu.proofs.TsObus.{Passes, tsobu-refused, tsobu-passed}
 use Rattle.salvage.specs.Salvage.{salvageRefusal, passes, keeps, salvaged, closes, markBy, mark}
 use Rattle.salvage.specs.declared.One.{One}
 use Rattle.salvage.specs.Parts.{form, forms, keptOf, kindsOf, bytesOf, OneOf}

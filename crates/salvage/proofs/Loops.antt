@@ -13,9 +13,10 @@ use lib.Seq.{take-set-le, take-suc-set, append-snoc}
 use Rattle.lists.specs.Lists.{Bytes, those, over}
 use Rattle.lists.proofs.Parts.{tail-lent, tail-placed}
 use Rattle.lists.proofs.Writing.{Part, start, counted, put-all, done}
-use Rattle.unit.specs.Unit.{mostObus, atStartCode, payloads, sum}
-use Rattle.unit.proofs.Places.{Place, nextCode, payloadAt, payload-length, code-fits, next-fits}
-use Rattle.unit.proofs.Places.{next-place, payloads-from, payloads-end, place-code}
+use Rattle.unit.specs.Unit.{mostObus, sum}
+use Rattle.tsobu.specs.StartCodes.{atStartCode, payloads}
+use Rattle.tsobu.proofs.Places.{Place, nextCode, payloadAt, payload-length, code-fits, next-fits}
+use Rattle.tsobu.proofs.Places.{next-place, payloads-from, payloads-end, place-code}
 use Rattle.salvage.specs.Salvage.{mark}
 use Rattle.salvage.specs.declared.One.{One}
 use Rattle.salvage.specs.Parts.{form, forms, keptOf, kindsOf, bytesOf, OneOf, MeasuredOf}

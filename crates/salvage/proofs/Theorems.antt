@@ -24,8 +24,11 @@ use Rattle.obu.specs.Leb128.{leb128}
 use Rattle.obu.specs.Header.{fixedBytes, sizeSaid, sizeOf, sizedHeader, headerOf, judged, obuRefusal}
 use Rattle.obu.specs.declared.leb128.Leb.{Leb}
 use Rattle.obu.specs.declared.leb128.Leb.the-variants.{Number, Bad}
-use Rattle.unit.specs.Unit.{mostObuBytes, Split, split, payloads, sum, tsobuRefusal, readUnit, carried}
-use Rattle.unit.proofs.Splits.{joined, split-whole, split-carried, at-code}
+use Rattle.unit.specs.Unit.{mostObuBytes, sum, readUnit, carried}
+use Rattle.tsobu.specs.StartCodes.{Split, split, payloads}
+use Rattle.tsobu.specs.TsObu.{tsobuRefusal}
+use Rattle.tsobu.proofs.Splits.{joined, split-whole, at-code}
+use Rattle.unit.proofs.Carried.{split-carried}
 use Rattle.unit.proofs.Acceptance.{reads}
 use Rattle.unit.proofs.Theorem.{accepts-carried, obus-carried, tsobu-fine, tsobu-legal, unescape-all}
 use Rattle.unit.proofs.Accepted.{accepted-list, carried-accepted, tsobu-obu}

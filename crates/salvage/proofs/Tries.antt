@@ -11,8 +11,9 @@ use lib.ListN.{length, take, drop, length-append}
 use Rattle.lists.specs.Lists.{Bytes, those, over}
 use Rattle.refusal.specs.Verdict.{Verdict, passed, refused, leaves}
 use Rattle.refusal.proofs.Verdicts.{refuse, pass-on, refused-leaves}
-use Rattle.unit.specs.Unit.{mostObus, mostCarried, atStartCode, payloads, readUnit, carried}
-use Rattle.unit.proofs.Places.{before, before-ends, before-rest}
+use Rattle.unit.specs.Unit.{mostObus, mostCarried, readUnit, carried}
+use Rattle.tsobu.specs.StartCodes.{atStartCode, payloads}
+use Rattle.tsobu.proofs.Places.{before, before-ends, before-rest}
 use Rattle.salvage.specs.Salvage.{passes, kept, salvaged, mark, marks, leading, accepted, figures, salvaging}
 use Rattle.salvage.specs.declared.Figures.{Figures}
 use Rattle.salvage.specs.declared.Measured.{Measured}

@@ -10,7 +10,8 @@ use Rattle.lists.specs.Lists.{Bytes, pick, those}
 use Rattle.emulation.specs.Payload.{unescape, escape}
 use Rattle.obu.specs.Header.{headerOf}
 use Rattle.obu.specs.Order.{numberSaid, kindOfNumber, orderRefusal}
-use Rattle.unit.specs.Unit.{mostObus, mostObuBytes, atStartCode, payloads, sum}
+use Rattle.unit.specs.Unit.{mostObus, mostObuBytes, sum}
+use Rattle.tsobu.specs.StartCodes.{atStartCode, payloads}
 use Rattle.salvage.specs.Salvage.{passes, keeps, mark}
 use Rattle.salvage.specs.declared.One.{One}
 use Rattle.salvage.specs.declared.Measured.{Measured}

@@ -9,7 +9,9 @@ use Rattle.lists.specs.Lists.{Bytes, pick, those}
 use Rattle.refusal.specs.Verdict.{Verdict, passed, refused, _>>_, NoValue, given}
 use Rattle.refusal.specs.Number.{refusedBy}
 use Rattle.emulation.specs.Payload.{unescape, marked3}
-use Rattle.unit.specs.Unit.{mostObus, mostObuBytes, mostCarried, split, payloads, tsobuRefusal, readUnit, carried}
+use Rattle.unit.specs.Unit.{mostObus, mostObuBytes, mostCarried, readUnit, carried}
+use Rattle.tsobu.specs.StartCodes.{split, payloads}
+use Rattle.tsobu.specs.TsObu.{tsobuRefusal}
 use Rattle.salvage.specs.declared.Figures.{Figures}
 use Rattle.salvage.specs.declared.Salvaged.{Salvaged}
 use Rattle.salvage.specs.declared.Salvaged.the-variants as answer

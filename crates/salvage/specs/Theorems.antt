@@ -9,7 +9,8 @@ use lib.ListN.{length}
 use Rattle.lists.specs.Lists.{Bytes, all}
 use Rattle.refusal.specs.Verdict.{passed, refused}
 use Rattle.emulation.specs.Payload.{unescape, escape}
-use Rattle.unit.specs.Unit.{payloads, obusIn, AcceptsAs, Accepted, carried}
+use Rattle.tsobu.specs.StartCodes.{payloads}
+use Rattle.unit.specs.Unit.{obusIn, AcceptsAs, Accepted, carried}
 use Rattle.salvage.specs.Salvage.{salvageRefusal, mark, keptPayloads, kept, salvaged, marks, leading, accepted}
 
 -- "Salvaging an accepted unit drops nothing" (each mark says kept, with a closing 03 removed or not), and gives the

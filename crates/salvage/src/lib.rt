@@ -8,14 +8,14 @@ ghost use lib.ListN.{length, take};
 ghost use Rattle.lists.specs.Lists.{over};
 ghost use Rattle.refusal.specs.Verdict.{refused, leaves};
 ghost use Rattle.refusal.specs.Number.{numberOf};
-ghost use Rattle.unit.specs.Unit.{payloads};
+ghost use Rattle.tsobu.specs.StartCodes.{payloads};
 ghost use Rattle.salvage.specs.Salvage.{closes as Salvage·closes, mark as Salvage·mark};
 ghost use Rattle.salvage.specs.Salvage.{marks as Salvage·marks, salvaged, salvaging, salvageSays};
 ghost use Rattle.salvage.specs.Parts.{Begins, form, forms, OneOf, MeasuredOf, acceptable};
 use obu::Ordered;
 use refusal::Refusal;
 use refusal::Refused;
-use unit::TsObu;
+use tsobu::TsObu;
 
 // The most bytes of a carried unit, the most tsOBUs, and the most bytes of an OBU and of the OBUs of a unit together.
 const MOST_CARRIED: usize = 1573056;
@@ -82,7 +82,7 @@ fn closes(payload: &[u8]) -> bool
 fn judge_one(payload: &[u8]) -> One
     ensures { λ r. ⌜ OneOf (now (payload .entry)) r ⌝ }
 {
-    let judged = unit::judge_payload(payload);
+    let judged = tsobu::judge_payload(payload);
     match judged {
         TsObu::Refused(refused) => {
             let why = refused.why;
@@ -183,7 +183,7 @@ fn measure(body: &[u8]) -> Measured
             };
         }
         let start = code + 3;
-        let end = unit::find(body, start);
+        let end = tsobu::find(body, start);
         let one = judge_one(&body[start..end]);
         marks[count] = one.mark;
         count += 1;
@@ -213,7 +213,7 @@ fn write_kept(body: &[u8], out: &mut [u8])
     let mut code: usize = 0;
     while code < body.len() {
         let start = code + 3;
-        let end = unit::find(body, start);
+        let end = tsobu::find(body, start);
         n += write_one(&body[start..end], &mut out[n..]);
         code = end; // written
     }
@@ -271,7 +271,7 @@ pub fn salvage(unit: &[u8], out: &mut [u8], marks: &mut [u8]) -> Salvaged
     if MOST_CARRIED < unit.len() {
         return refuse(Refusal::LENGTH);
     }
-    let leading = unit::find(unit, 0);
+    let leading = tsobu::find(unit, 0);
     let body = lists::rest(unit, leading);
     let measured = measure(body);
     if measured.more {

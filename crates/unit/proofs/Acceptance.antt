@@ -13,7 +13,9 @@ use Rattle.refusal.specs.Verdict.{passed}
 use Rattle.refusal.proofs.Verdicts.{pass-on, follows, passed-after, passed-same, given-passed, All, turns-passed, all-turns}
 use Rattle.obu.specs.Header.{obuRefusal}
 use Rattle.obu.specs.Order.{kindOf, orderRefusal}
-use Rattle.unit.specs.Unit.{mostObus, mostObuBytes, mostCarried, atStartCode, payloads, obusIn, sum, tsobuRefusal, readUnit, AcceptsAs, obusOf, writeRefusal, Accepted}
+use Rattle.unit.specs.Unit.{mostObus, mostObuBytes, mostCarried, obusIn, sum, readUnit, AcceptsAs, obusOf, writeRefusal, Accepted}
+use Rattle.tsobu.specs.StartCodes.{atStartCode, payloads}
+use Rattle.tsobu.specs.TsObu.{tsobuRefusal}
 use Rattle.unit.proofs.Lengths.{cut-lengths, cut-bytes}
 
 -- ---- reading

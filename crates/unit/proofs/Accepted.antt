@@ -14,10 +14,11 @@ use Rattle.refusal.proofs.Verdicts.{pass-on, follows, passed-after, all-turns, 
 use Rattle.emulation.specs.Payload.{unescape}
 use Rattle.obu.specs.Header.{obuRefusal}
 use Rattle.obu.specs.Order.{kindOf, orderRefusal}
-use Rattle.unit.specs.Unit.{mostObus, mostObuBytes, atStartCode, payloads, sum, tsobuRefusal, AcceptsAs, obusOf}
-use Rattle.unit.specs.Unit.{writeRefusal, Accepted, carried}
+use Rattle.unit.specs.Unit.{mostObus, mostObuBytes, sum, AcceptsAs, obusOf, writeRefusal, Accepted, carried}
+use Rattle.tsobu.specs.StartCodes.{atStartCode, payloads}
+use Rattle.tsobu.specs.TsObu.{tsobuRefusal}
 use Rattle.unit.proofs.Lengths.{obus-of, sum-lengths}
-use Rattle.unit.proofs.Splits.{joined, from-code}
+use Rattle.tsobu.proofs.Splits.{joined, from-code}
 use Rattle.unit.proofs.Acceptance.{reads}
 use Rattle.unit.proofs.Theorem.{Fits, obus-carried}
 

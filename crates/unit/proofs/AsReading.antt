@@ -25,13 +25,18 @@ use Rattle.obu.specs.Leb128.{leb128}
 use Rattle.obu.specs.Header.{fixedBytes, sizeSaid, sizeOf, sizedHeader, headerOf, judged, obuRefusal}
 use Rattle.obu.specs.Order.{Kind, OrderMeans, orderRefusal}
 use Rattle.obu.proofs.Meaning.{order-means}
-use Rattle.unit.specs.Unit.{atStartCode, payloads, tsobuRefusal, readUnit, AcceptsAs}
+use Rattle.tsobu.specs.StartCodes.{atStartCode, payloads}
+use Rattle.tsobu.specs.TsObu.{tsobuRefusal}
+use Rattle.unit.specs.Unit.{readUnit, AcceptsAs}
 use Rattle.unit.specs.Answer.{checking, reading}
-use Rattle.unit.specs.Walk.{payloadFrom, obuIndex, stepping, HandsOut, WalkSays, Walks}
+use denote.Ref.{RefT, now}
+use Rattle.tsobu.specs.Walk.{end, fresh, ReaderSays, ReaderWalks}
+use Rattle.tsobu.proofs.ByReader.{reader-says}
+use Rattle.tsobu.specs.Walk.{payloadFrom, obuIndex, stepping, HandsOut, WalkSays, Walks}
 use Rattle.unit.proofs.Acceptance.{reads}
-use Rattle.unit.proofs.Places.{payloadAt, payload-is, payloads-from, code-fits}
-use Rattle.unit.proofs.Steps.{step-empty, step-illegal, step-code, WalkNumber}
-use Rattle.unit.proofs.Walks.{Fine, place-more, walk-front, walk-from, refused-place}
+use Rattle.tsobu.proofs.Places.{payloadAt, payload-is, payloads-from, code-fits}
+use Rattle.tsobu.proofs.Steps.{step-empty, step-illegal, step-code, WalkNumber}
+use Rattle.tsobu.proofs.Walks.{Fine, place-more, walk-front, walk-from, refused-place}
 
 -- ---- a unit that reading accepts
 fine : (p : Bytes) → tsobuRefusal p ≡ passed tt → Fine p
@@ -161,3 +166,20 @@ module _ (number : ℕ) (w : WalkNumber number) where
       read-refused unit k
       (bind-refused number k (readUnit unit) _ (λ obus. tt)
       (bind-refused number k (checking unit) _ (λ counts. try 8 _ _ refl refl tt) e))
+
+-- ---- the same by a reader
+-- the steps of a fresh reader over an accepted unit hand out all payloads and come to the end
+pub reader-accepted : (unit : RefT Bytes) (l : List Bytes) → AcceptsAs (now unit) l → ReaderWalks (fresh unit) (payloads (now unit))
+reader-accepted unit l a = reader-says unit (payloads (now unit)) (passed end) (accepted-walks (now unit) l a)
+
+-- where reading refuses with 3 or 10 at OBU k, a fresh reader hands out the first k payloads and then refuses with that number and place
+module _ (number : ℕ) (n : WalkNumber number) (unit : RefT Bytes) where
+  pub reader-read-refused : (k : ℕ) → readUnit (now unit) ≡ refused number k
+      → (k < length (payloads (now unit))) × ReaderSays (fresh unit) (take k (payloads (now unit))) (refused number k)
+  reader-read-refused k e = let r = read-refused number n (now unit) k e in (r .0, reader-says unit _ _ (r .1))
+
+  pub reader-reading-refused : (bytes lengths k : ℕ) → reading (now unit) bytes lengths ≡ refused number k
+      → (k < length (payloads (now unit))) × ReaderSays (fresh unit) (take k (payloads (now unit))) (refused number k)
+  reader-reading-refused bytes lengths k e =
+      let r = reading-refused number n (now unit) bytes lengths k e in
+      (r .0, reader-says unit _ _ (r .1))

@@ -14,7 +14,9 @@ use Rattle.refusal.proofs.Verdicts.{refuse, pass-on, follows, stops, then-bind,
 use Rattle.emulation.specs.Payload.{unescape}
 use Rattle.obu.specs.Header.{sizeWidth}
 use Rattle.obu.specs.Order.{Kind, kindOf, kindOfNumber, orderRefusal}
-use Rattle.unit.specs.Unit.{mostCarried, mostObus, mostObuBytes, atStartCode, payloads, obusIn, sum, tsobuRefusal, readUnit}
+use Rattle.unit.specs.Unit.{mostCarried, mostObus, mostObuBytes, obusIn, sum, readUnit}
+use Rattle.tsobu.specs.StartCodes.{atStartCode, payloads}
+use Rattle.tsobu.specs.TsObu.{tsobuRefusal}
 use Rattle.unit.specs.Unit.{droppedIn}
 use Rattle.unit.specs.Answer.{checking, reading, tooShort, readingWidths, readSays}
 use Rattle.unit.specs.Parts.{kindIn, endsFrom, payloadCounts, wholeCounts, JudgedUnit}

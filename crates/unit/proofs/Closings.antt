@@ -14,7 +14,7 @@ use Rattle.emulation.specs.Payload.{legal, unescape, escape, marked3}
 use Rattle.emulation.specs.Parts.{marked}
 use Rattle.emulation.proofs.Steps.{unescape-marked, unescape-plain}
 use Rattle.emulation.proofs.Theorems.{unescape-escape, legal-unescape}
-use Rattle.unit.proofs.Splits.{joined}
+use Rattle.tsobu.proofs.Splits.{joined}
 
 -- the bytes end in 00 00
 unfoldable pub endsIn00 : Bytes → Bool

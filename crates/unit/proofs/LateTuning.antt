@@ -18,13 +18,15 @@ use Rattle.refusal.proofs.Verdicts.{All, pass-on}
 use Rattle.emulation.specs.Payload.{escape}
 use Rattle.emulation.proofs.Theorems.{escape-legal, escape-longer}
 use Rattle.obu.specs.Header.{obuRefusal}
-use Rattle.unit.specs.Unit.{startCode3, atStartCode, Split, split, payloads, Accepted, carried}
-use Rattle.unit.specs.Walk.{starting, end, Walks, fresh, ReaderWalks}
+use Rattle.tsobu.specs.StartCodes.{startCode3, atStartCode, Split, split, payloads}
+use Rattle.unit.specs.Unit.{Accepted, carried}
+use Rattle.tsobu.specs.Walk.{starting, end, Walks, fresh, ReaderWalks}
 use Rattle.unit.specs.LateTuning.{Sent, sentFrom, heard, WalkGives, TunesIn, LateTuning}
-use Rattle.unit.proofs.Splits.{code-is, split-code, split-byte, second-no, third-no, starts, start-codes, split-carried}
-use Rattle.unit.proofs.Places.{before, before-ends, before-rest, code-fits}
-use Rattle.unit.proofs.Walks.{Fine, walk-from, walk-payloads}
-use Rattle.unit.proofs.ByReader.{reader-says, reader-payloads}
+use Rattle.tsobu.proofs.Splits.{code-is, split-code, split-byte, second-no, third-no, starts, start-codes}
+use Rattle.unit.proofs.Carried.{split-carried}
+use Rattle.tsobu.proofs.Places.{before, before-ends, before-rest, code-fits}
+use Rattle.tsobu.proofs.Walks.{Fine, walk-from, walk-payloads}
+use Rattle.tsobu.proofs.ByReader.{reader-says, reader-payloads}
 use Rattle.unit.proofs.Theorem.{fits, obu-some}
 
 -- ---- payloads with the places of their start codes

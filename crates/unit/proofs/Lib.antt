@@ -1,16 +1,10 @@
-pub mod Splits
+pub mod Carried
 pub mod Closings
 pub mod Lengths
 pub mod Acceptance
 pub mod Theorem
 pub mod Accepted
-pub mod Places
-pub mod Steps
-pub mod Walks
 pub mod AsReading
-pub mod ByReader
-pub mod Held
-pub mod TsObus
 pub mod Readings
 pub mod Checking
 pub mod Rests

@@ -24,17 +24,19 @@ use Rattle.obu.specs.Header.{sizeBytes, widthSaid, sizeWidth}
 use Rattle.obu.specs.declared.ordering.Ordered.{Ordered}
 use Rattle.obu.specs.declared.ordering.Ordered.the-variants as ordered
 use Rattle.obu.specs.Order.{kindOfNumber, kindNumber, numberSaid, orderRefusal, orderedSays}
-use Rattle.unit.specs.Unit.{mostObus, mostObuBytes, atStartCode, payloads, obusIn, sum, tsobuRefusal, droppedIn}
+use Rattle.unit.specs.Unit.{mostObus, mostObuBytes, obusIn, sum, droppedIn}
+use Rattle.tsobu.specs.StartCodes.{atStartCode, payloads}
+use Rattle.tsobu.specs.TsObu.{tsobuRefusal}
 use Rattle.unit.specs.Answer.{readSays}
 use Rattle.unit.specs.Parts.{kindIn, endsFrom, EndsOf, payloadCounts, Judges, wholeCounts}
 use Rattle.unit.specs.declared.reading.Counts.{Counts}
 use Rattle.unit.specs.declared.reading.UnitRead.the-variants as read
 use Rattle.unit.specs.declared.reading.Ends.{Ends}
 use Rattle.unit.specs.declared.reading.Payloads.{Payloads}
-use Rattle.unit.specs.declared.tsobu.Figures.{Figures}
-use Rattle.unit.proofs.TsObus.{Passes}
-use Rattle.unit.proofs.Places.{Place, nextCode, payloadAt, payload-length, next-fits, next-place, payloads-from, payloads-end}
-use Rattle.unit.proofs.Places.{place-code}
+use Rattle.tsobu.specs.declared.judging.Figures.{Figures}
+use Rattle.tsobu.proofs.TsObus.{Passes}
+use Rattle.tsobu.proofs.Places.{Place, nextCode, payloadAt, payload-length, next-fits, next-place, payloads-from, payloads-end}
+use Rattle.tsobu.proofs.Places.{place-code}
 
 -- ---- where payloads end
 pub ends-from : (s : Bytes) (code : ℕ) → atStartCode (drop code s) ≡ true

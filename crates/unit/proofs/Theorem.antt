@@ -18,10 +18,13 @@ use Rattle.emulation.specs.Payload.{legal, unescape, escape}
 use Rattle.emulation.proofs.Theorems.{unescape-escape, escape-legal, escape-length, escape-longer, inserted-bound}
 use Rattle.obu.specs.Header.{obuRefusal, judged, headerOf}
 use Rattle.obu.specs.Order.{kindOf, orderRefusal}
-use Rattle.unit.specs.Unit.{mostObus, mostObuBytes, mostCarried, atStartCode, Split, payloads, obusIn, sum, tsobuRefusal, AcceptsAs, obusOf, writeRefusal, Accepted, carried, writeUnit}
+use Rattle.unit.specs.Unit.{mostObus, mostObuBytes, mostCarried, obusIn, sum, AcceptsAs, obusOf, writeRefusal, Accepted, carried, writeUnit}
+use Rattle.tsobu.specs.StartCodes.{atStartCode, Split, payloads}
+use Rattle.tsobu.specs.TsObu.{tsobuRefusal}
 use Rattle.unit.specs.Demand3.{Demand3, Demand3Lent}
 use Rattle.unit.proofs.Lengths.{obus-of, sum-lengths}
-use Rattle.unit.proofs.Splits.{joined, from-code, split-carried, carried-joined}
+use Rattle.tsobu.proofs.Splits.{joined, from-code}
+use Rattle.unit.proofs.Carried.{split-carried, carried-joined}
 use Rattle.unit.proofs.Closings.{Closings, closings, shortest}
 use Rattle.unit.proofs.Acceptance.{Reads, reads, read-by, writes, accepted-lent}
 

@@ -9,8 +9,9 @@ use denote.Ref.{RefT, now}
 use Rattle.lists.specs.Lists.{Bytes, those}
 use Rattle.refusal.specs.Verdict.{passed}
 use Rattle.emulation.specs.Payload.{escape}
-use Rattle.unit.specs.Unit.{startCodes, Accepted, carried}
-use Rattle.unit.specs.Walk.{starting, Walks, fresh, ReaderWalks}
+use Rattle.tsobu.specs.StartCodes.{startCodes}
+use Rattle.unit.specs.Unit.{Accepted, carried}
+use Rattle.tsobu.specs.Walk.{starting, Walks, fresh, ReaderWalks}
 
 -- a tsOBU of the writer's string: where its start code begins, and its payload
 pub record Sent : Type 0 where

@@ -1,6 +1,5 @@
 pub mod Unit
 pub mod Demand3
 pub mod Answer
-pub mod Walk
 pub mod LateTuning
 pub mod Parts

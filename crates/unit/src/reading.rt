@@ -8,18 +8,19 @@ ghost use lib.ListN.{length, take};
 ghost use Rattle.refusal.specs.Verdict.{refused, leaves};
 ghost use Rattle.refusal.specs.Number.{numberOf};
 ghost use Rattle.obu.specs.Header.{sizeWidth};
-ghost use Rattle.unit.specs.Unit.{atStartCode, payloads, obusIn};
+ghost use Rattle.tsobu.specs.StartCodes.{atStartCode, payloads};
+ghost use Rattle.unit.specs.Unit.{obusIn};
 ghost use Rattle.unit.specs.Answer.{checking, tooShort, readingWidths, readSays};
 ghost use Rattle.unit.specs.Parts.{EndsOf, Judges, wholeCounts, JudgedUnit, endsFrom};
-use crate::codes::code_at;
-use crate::codes::find;
-use crate::tsobu::TsObu;
-use crate::tsobu::judge_payload;
 use emulation::unescape_prefix;
 use obu::kind_number;
 use obu::size_bytes;
 use refusal::Refusal;
 use refusal::Refused;
+use tsobu::TsObu;
+use tsobu::at_start_code;
+use tsobu::find;
+use tsobu::judge_payload;
 
 // The most bytes of a carried unit, the most OBUs and the most bytes of its OBUs.
 const MOST_CARRIED: usize = 1573056;
@@ -181,7 +182,7 @@ fn judge_unit(unit: &[u8]) -> Judged
             widths: none,
         };
     }
-    if !code_at(unit, 0) {
+    if !at_start_code(unit) {
         let answer = refusal(Refusal::NO_START_CODE);
         return Judged {
             answer,

@@ -3,7 +3,7 @@ use borrow.Author.Needs.{needs}
 use Prim.Native.Nat.{ℕ}
 use mathlib.Core.Path.{sym, ap, _∙_}
 use Rattle.refusal.specs.Verdict.{refused}
-use Rattle.unit.specs.Walk.{stepSays}
+use Rattle.tsobu.specs.Walk.{stepSays}
 use Rattle.av1ts.specs.Answers.{stepAnswer}
 use Rattle.av1ts.proofs.walk.av1ts_walk_step.Statement.{statement}
 use Rattle.av1ts.proofs.walk.av1ts_walk_step.Tie as tie

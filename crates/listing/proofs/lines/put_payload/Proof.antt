@@ -8,8 +8,8 @@ use lib.ListN.{length}
 use Rattle.refusal.specs.Verdict.{passed}
 use Rattle.emulation.specs.Payload.{unescape}
 use Rattle.emulation.proofs.Steps.{given-or-dropped}
-use Rattle.unit.specs.Answer.{tsobuFigures, tsobuSays}
-use Rattle.unit.proofs.TsObus.{Passes, tsobu-passed}
+use Rattle.tsobu.specs.TsObu.{tsobuFigures, tsobuSays}
+use Rattle.tsobu.proofs.TsObus.{Passes, tsobu-passed}
 use Rattle.listing.proofs.Puttings.{puts-nothing, puts-as, payload-line, no-line}
 use Rattle.listing.proofs.lines.put_payload.Statement.{statement}
 use Rattle.listing.proofs.lines.put_payload.Tie as tie

@@ -54,23 +54,23 @@ use denote.Triple.Walked.{says, needs, Stays, stay-slice, stay-none, stay-none-s
 use denote.Triple.Walked.{Walks, onExit, ends-at, walked, walk-meets}
 use denote.Exit.{yes}
 use Rattle.lists.specs.Lists.{Bytes}
-use Rattle.unit.specs.Unit.{payloads}
-use Rattle.unit.specs.Walk.{placeAfter, fresh, stepOf, handedBy, behind, stepSays}
-use Rattle.unit.specs.declared.reader.Handed.{Handed}
-use Rattle.unit.specs.declared.reader.Walk.{Walk}
-use Rattle.unit.specs.declared.walking.Part.{Part}
-use Rattle.unit.specs.declared.walking.Step.{Step}
-use Rattle.unit.specs.declared.walking.Step.the-variants as variants
-use Rattle.unit.proofs.Held.{Own, handed-val}
-use Rattle.unit.proofs.reader.Handed as G
-use Rattle.unit.proofs.reader.Handed.Laws as G′
-use Rattle.unit.proofs.reader.Walk as T
-use Rattle.unit.proofs.reader.Walk.Laws as T′
-use Rattle.unit.proofs.walking.Step as S
-use Rattle.unit.proofs.reader.Walk.new.Symbol as new
-use Rattle.unit.proofs.reader.Walk.new.Met as new-thm
-use Rattle.unit.proofs.reader.Walk.step.Symbol as step
-use Rattle.unit.proofs.reader.Walk.step.Met as step-thm
+use Rattle.tsobu.specs.StartCodes.{payloads}
+use Rattle.tsobu.specs.Walk.{placeAfter, fresh, stepOf, handedBy, behind, stepSays}
+use Rattle.tsobu.specs.declared.reader.Handed.{Handed}
+use Rattle.tsobu.specs.declared.reader.Walk.{Walk}
+use Rattle.tsobu.specs.declared.walking.Part.{Part}
+use Rattle.tsobu.specs.declared.walking.Step.{Step}
+use Rattle.tsobu.specs.declared.walking.Step.the-variants as variants
+use Rattle.tsobu.proofs.Held.{Own, handed-val}
+use Rattle.tsobu.proofs.reader.Handed as G
+use Rattle.tsobu.proofs.reader.Handed.Laws as G′
+use Rattle.tsobu.proofs.reader.Walk as T
+use Rattle.tsobu.proofs.reader.Walk.Laws as T′
+use Rattle.tsobu.proofs.walking.Step as S
+use Rattle.tsobu.proofs.reader.Walk.new.Symbol as new
+use Rattle.tsobu.proofs.reader.Walk.new.Met as new-thm
+use Rattle.tsobu.proofs.reader.Walk.step.Symbol as step
+use Rattle.tsobu.proofs.reader.Walk.step.Met as step-thm
 use Rattle.listing.specs.Listing.{payloadLine, payloadLines}
 use Rattle.listing.specs.Parts.{Puts, Accepts, lineRoom, obusRoom}
 use Rattle.listing.proofs.Puttings.{puts-as}
@@ -481,8 +481,8 @@ put-obus-spec 𝓤 H 𝓜 𝓖 𝓡 =
     entered 𝓤 H (tripleOf 𝓤 H (𝓖 .A) put-obus.signature (put-obus.spec 𝓤 H (𝓖 .A) (𝓜 .mem) (𝓡 .run)))
     (tables 𝓤 H 𝓜 𝓡 code.env .C) (tables 𝓤 H 𝓜 𝓡 code.env .Λ) #put-obus code.function (code.unfolded 𝓤 H 𝓜 𝓡)
     (put-obus-meets 𝓤 H (𝓖 .A) (givenOf 𝓤 H 𝓜 𝓖) (𝓜 .mem) (𝓡 .run) (tablesOf 𝓤 H 𝓜 (tables 𝓤 H 𝓜 𝓡 code.env))
-    (cited 𝓤 H (New 𝓤 H (𝓖 .A) (𝓜 .mem) (𝓡 .run)) 𝓜 𝓡 code.env new.name new.routine code.calls-unit·reader·Walk·new (new-thm.met 𝓤 H 𝓜 𝓖 𝓡))
-    (cited 𝓤 H (Stepping 𝓤 H (𝓖 .A) (𝓜 .mem) (𝓡 .run)) 𝓜 𝓡 code.env step.name step.routine code.calls-unit·reader·Walk·step
+    (cited 𝓤 H (New 𝓤 H (𝓖 .A) (𝓜 .mem) (𝓡 .run)) 𝓜 𝓡 code.env new.name new.routine code.calls-tsobu·reader·Walk·new (new-thm.met 𝓤 H 𝓜 𝓖 𝓡))
+    (cited 𝓤 H (Stepping 𝓤 H (𝓖 .A) (𝓜 .mem) (𝓡 .run)) 𝓜 𝓡 code.env step.name step.routine code.calls-tsobu·reader·Walk·step
     (step-thm.met 𝓤 H 𝓜 𝓖 𝓡))
     (cited 𝓤 H (Put 𝓤 H (𝓖 .A) (𝓜 .mem) (𝓡 .run)) 𝓜 𝓡 code.env put.name put.routine code.calls-listing·lines·put-payload
     (put-thm.met 𝓤 H 𝓜 𝓖 𝓡)))

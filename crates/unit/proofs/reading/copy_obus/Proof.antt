@@ -9,8 +9,8 @@ use Rattle.lists.specs.Lists.{Bytes, over, placed}
 use borrow.Rule.Slice.PartMut.{midOf, putMid}
 use Rattle.lists.proofs.Parts.{tail-fits, tail-prefix}
 use Rattle.emulation.specs.Payload.{unescape}
-use Rattle.unit.specs.Unit.{payloads}
-use Rattle.unit.proofs.Places.{nextCode, payloadAt, next-fits}
+use Rattle.tsobu.specs.StartCodes.{payloads}
+use Rattle.tsobu.proofs.Places.{nextCode, payloadAt, next-fits}
 use Rattle.unit.proofs.Readings.{passing-code, passing-end, Copying, copying-start, copying-room, copying-place, copying-step}
 use Rattle.unit.proofs.Readings.{copying-done}
 use Rattle.unit.proofs.reading.copy_obus.Statement.{statement}

@@ -7,14 +7,15 @@ use mathlib.Core.Path.{_≡_, refl, sym, ap, subst, _∙_}
 use borrow.Author.Tests.{ltb-false}
 use lib.ListN.{length, take, drop, getD, set}
 use Rattle.emulation.proofs.Steps.{given-or-dropped}
-use Rattle.unit.specs.Unit.{mostObus, payloads}
-use Rattle.unit.specs.Answer.{tsobuFigures, tsobuSays}
-use Rattle.unit.specs.declared.tsobu.Figures.{Figures}
-use Rattle.unit.specs.declared.tsobu.TsObu.the-variants as TsObu
-use Rattle.unit.proofs.Places.{nextCode, payloadAt, payload-length, next-fits}
+use Rattle.unit.specs.Unit.{mostObus}
+use Rattle.tsobu.specs.StartCodes.{payloads}
+use Rattle.tsobu.specs.TsObu.{tsobuFigures, tsobuSays}
+use Rattle.tsobu.specs.declared.judging.Figures.{Figures}
+use Rattle.tsobu.specs.declared.judging.TsObu.the-variants as TsObu
+use Rattle.tsobu.proofs.Places.{nextCode, payloadAt, payload-length, next-fits}
 use Rattle.unit.proofs.Readings.{Judging, passing-code, passing-end, judging-start, judging-step, judging-refused, judging-done}
 use Rattle.unit.proofs.Readings.{refused-judges}
-use Rattle.unit.proofs.TsObus.{Passes, tsobu-refused, tsobu-passed}
+use Rattle.tsobu.proofs.TsObus.{Passes, tsobu-refused, tsobu-passed}
 use Rattle.unit.proofs.reading.judge_payloads.Statement.{statement}
 use Rattle.unit.proofs.reading.judge_payloads.Tie as tie
 

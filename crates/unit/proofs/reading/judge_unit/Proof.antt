@@ -5,7 +5,8 @@ use Prim.Native.Nat.{ℕ}
 use mathlib.Core.Path.{sym, ap, _∙_}
 use borrow.Author.Tests.{ltb-false, not-true, not-false}
 use lib.ListN.{length, take}
-use Rattle.unit.specs.Unit.{mostObus, payloads}
+use Rattle.unit.specs.Unit.{mostObus}
+use Rattle.tsobu.specs.StartCodes.{payloads}
 use Rattle.unit.specs.Answer.{readSays}
 use Rattle.unit.proofs.Checking.{counts-obus, check-long, check-headless, check-many, check-refused, counts-are, check-whole}
 use Rattle.unit.proofs.Checking.{answer-refused, answer-whole}
@@ -18,8 +19,8 @@ refusal-requires c κs = search needs
 returns : tie.Need-returns
 returns c = answer-refused _ _ _ _ 2 0 (ap readSays (c .refusal .ensures)) (check-long _ (c .before .if1 .taken))
 
-code-at-requires : tie.Need-code-at-requires
-code-at-requires c κs = search needs
+at-start-code-requires : tie.Need-at-start-code-requires
+at-start-code-requires c κs = search needs
 
 refusal-requires-2 : tie.Need-refusal-requires-2
 refusal-requires-2 c κs = search needs
@@ -28,10 +29,10 @@ returns-2 : tie.Need-returns-2
 returns-2 c =
     answer-refused _ _ _ _ 9 0 (ap readSays (c .refusal2 .ensures))
     (check-headless _ (c .before .before .before .if1 .left)
-    (sym (c .before .before .code-at .ensures) ∙ not-true _ (c .before .if2 .taken)))
+    (sym (c .before .before .at-start-code .ensures) ∙ not-true _ (c .before .if2 .taken)))
 
 payload-ends-requires : tie.Need-payload-ends-requires
-payload-ends-requires c κs = sym (c .before .code-at .ensures) ∙ not-false _ (c .if2 .left)
+payload-ends-requires c κs = sym (c .before .at-start-code .ensures) ∙ not-false _ (c .if2 .left)
 
 refusal-requires-3 : tie.Need-refusal-requires-3
 refusal-requires-3 c κs = search needs
@@ -40,12 +41,12 @@ returns-3 : tie.Need-returns-3
 returns-3 c =
     answer-refused _ _ _ _ 1 0 (ap readSays (c .refusal3 .ensures))
     (check-many _ (c .before .before .before .before .before .before .if1 .left)
-    (sym (c .before .before .before .before .before .code-at .ensures) ∙ not-false _ (c .before .before .before .before .if2 .left))
+    (sym (c .before .before .before .before .before .at-start-code .ensures) ∙ not-false _ (c .before .before .before .before .if2 .left))
     (sym (c .before .if3 .taken) ∙ c .before .before .before .payload-ends .ensures .more))
 
 judge-payloads-requires : tie.Need-judge-payloads-requires
 judge-payloads-requires c κs = (
-  sym (c .before .before .before .before .code-at .ensures)
+  sym (c .before .before .before .before .at-start-code .ensures)
       ∙ not-false _ (c .before .before .before .if2 .left),
   c .before .before .payload-ends .ensures,
   c .if3 .left,
@@ -63,7 +64,7 @@ returns-4 c =
     let ends = c .before .before .before .before .before .payload-ends .ensures in
     answer-refused _ _ _ _ _ _ k
     (check-refused _ (c .before .before .before .before .before .before .before .before .if1 .left)
-    (sym (c .before .before .before .before .before .before .before .code-at .ensures)
+    (sym (c .before .before .before .before .before .before .before .at-start-code .ensures)
     ∙ not-false _ (c .before .before .before .before .before .before .if2 .left))
     (sym (c .before .before .before .if3 .left) ∙ ends .more) _ _ (sym k ∙ c .before .before .judge-payloads .ensures .found))
 
@@ -87,7 +88,7 @@ returns-5 c =
     let some-more = c .before .before .before .before .before .before .before .if3 .left in
     let judged = c .before .before .before .before .before .before .judge-payloads .ensures in
     let h = c .before .before .before .before .before .before .before .before .before .before .before .before .if1 .left in
-    let e = sym (c .before .before .before .before .before .before .before .before .before .before .before .code-at .ensures)
+    let e = sym (c .before .before .before .before .before .before .before .before .before .before .before .at-start-code .ensures)
     ∙ not-false _ (c .before .before .before .before .before .before .before .before .before .before .if2 .left) in
     let m = sym some-more ∙ ends .more in
     let found = sym k ∙ judged .found in
@@ -105,7 +106,7 @@ judge-unit-spec =
     (tie.spec
     refusal-requires
     returns
-    code-at-requires
+    at-start-code-requires
     refusal-requires-2
     returns-2
     payload-ends-requires

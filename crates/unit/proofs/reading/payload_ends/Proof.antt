@@ -4,7 +4,7 @@ use native.Mathlib.Omega.{arith}
 use Prim.Native.Nat.{_-_}
 use mathlib.Core.Path.{refl}
 use lib.ListN.{length}
-use Rattle.unit.proofs.Places.{code-fits, next-fits}
+use Rattle.tsobu.proofs.Places.{code-fits, next-fits}
 use Rattle.unit.proofs.Readings.{Ending, ending-start, ending-code, ending-step, ending-past, ending-done}
 use Rattle.unit.proofs.reading.payload_ends.Statement.{statement}
 use Rattle.unit.proofs.reading.payload_ends.Tie as tie

@@ -1,0 +1,7 @@
+pub mod Splits
+pub mod Places
+pub mod Steps
+pub mod Walks
+pub mod ByReader
+pub mod Held
+pub mod TsObus

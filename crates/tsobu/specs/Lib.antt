@@ -1,0 +1,4 @@
+pub mod StartCodes
+pub mod TsObu
+pub mod Walk
+pub mod Parts

@@ -1,0 +1,20 @@
+// Start codes, the verdict on one tsOBU, and the walk over an access unit (document 01, "Payload bytes" and "One access
+// unit").
+mod codes;
+mod judging;
+mod reader;
+mod walking;
+
+pub use codes::at_start_code;
+pub use codes::find;
+pub use judging::Figures;
+pub use judging::TsObu;
+pub use judging::judge_payload;
+pub use reader::Handed;
+pub use reader::Walk;
+pub use walking::Part;
+pub use walking::Started;
+pub use walking::Step;
+pub use walking::payload;
+pub use walking::start;
+pub use walking::step_at;
