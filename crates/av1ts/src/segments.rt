@@ -1,7 +1,8 @@
 // Checking a segment and extracting its access units.
 ghost use mathlib.Core.Path.{_≡_};
 ghost use Rattle.refusal.specs.Number.{numberOf};
-ghost use Rattle.segment.specs.Check.{checkSegment, outputsOf, roomsOf, outputsAfter};
+ghost use Rattle.descriptor.specs.Edition.{current};
+ghost use Rattle.segment_rules.specs.Check.{checkSegment, outputsOf, roomsOf, outputsAfter};
 ghost use Rattle.segment.specs.Answer.{checking};
 ghost use Rattle.av1ts.specs.Answers.{acceptedAnswer, refusedAnswer, segmentAnswer};
 use refusal::Refused;
@@ -67,8 +68,12 @@ pub extern "C" fn av1ts_check_segment(
     lengths: &mut [usize],
     times: &mut [u64],
 ) -> SegmentAnswer
-    ensures { λ r. ⌜ r ≡ segmentAnswer (checking (now (segment .entry)) (roomsOf (outputsOf (now (out .entry)) (now (lengths .entry)) (now (times .entry))))) ⌝ }
-    ensures { λ _. ⌜ outputsOf (now (out .exit)) (now (lengths .exit)) (now (times .exit)) ≡ outputsAfter (checkSegment (now (segment .entry)) (roomsOf (outputsOf (now (out .entry)) (now (lengths .entry)) (now (times .entry))))) (outputsOf (now (out .entry)) (now (lengths .entry)) (now (times .entry))) ⌝ }
+    ensures { λ r. ⌜ r ≡ segmentAnswer (checking current
+        (roomsOf (outputsOf (now (out .entry)) (now (lengths .entry)) (now (times .entry)))) (now (segment .entry))) ⌝ }
+    ensures { λ _. ⌜ outputsOf (now (out .exit)) (now (lengths .exit)) (now (times .exit))
+        ≡ outputsAfter (checkSegment current
+        (roomsOf (outputsOf (now (out .entry)) (now (lengths .entry)) (now (times .entry)))) (now (segment .entry)))
+        (outputsOf (now (out .entry)) (now (lengths .entry)) (now (times .entry))) ⌝ }
 {
     let checked = segment::check(segment, out, lengths, times);
     match checked {

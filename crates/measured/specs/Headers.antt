@@ -1,11 +1,10 @@
 -- One packet's header in a C struct, and the packets of a segment whose headers pass. Assumes nothing.
-use Prim.Native.Nat.{ℕ, zero, suc, _/_}
+use Prim.Native.Nat.{ℕ}
 use mathlib.Core.Bool.{Bool, true, false}
-use mathlib.Core.List.{List, [], _∷_}
-use lib.ListN.{length, take, drop}
+use lib.ListN.{length}
 use Rattle.lists.specs.Lists.{Bytes, those}
 use Rattle.refusal.specs.Verdict.{Verdict, passed, refused}
-use Rattle.packet.specs.Header.{packetLength, headerOf}
+use Rattle.packet.specs.Header.{packets, headerOf}
 use Rattle.packet.specs.declared.header.Clock.{Clock}
 use Rattle.packet.specs.declared.header.Clock.the-variants.{Pcr, None}
 use Rattle.packet.specs.declared.header.Header.{Header}
@@ -67,11 +66,6 @@ accepted (refused number place) = false
 abbrev pub passes : Bytes → Bool
 passes p = accepted (headerOf p)
 
--- the first n packets of a segment
-unfoldable pub packetsOf : ℕ → Bytes → List Bytes
-packetsOf zero s = []
-packetsOf (suc n) s = take packetLength s ∷ packetsOf n (drop packetLength s)
-
 -- how many of its whole packets pass
 abbrev pub headersPassed : Bytes → ℕ
-headersPassed s = length (those passes (packetsOf (length s / packetLength) s))
+headersPassed s = length (those passes (packets s))

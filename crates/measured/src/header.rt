@@ -4,9 +4,8 @@ ghost use Rattle.packet.specs.Header.{headerOf};
 ghost use Rattle.measured.specs.Headers.{fieldsAnswer, headerAnswer, passes, headersPassed};
 use packet::Clock;
 use packet::Header;
+use packet::PACKET_LENGTH;
 use packet::PacketRead;
-
-const PACKET_LENGTH: usize = 188;
 
 // number 0: no refusal. pcr_present 0: pcr is 0.
 #[repr(C)]

@@ -1,48 +1,275 @@
--- The record of a PID, and the sentence over the PID's history: the record of a PID that has just been named follows the empty history (`named-follows`); the
--- check gives 24 exactly where the sentence fails for the history, and else the record that follows the longer one (`check-history`, `check-keeps`). Assumes nothing.
-use Prim.Native.Nat.{ℕ}
-use mathlib.Core.Bool.{true, false, not}
-use mathlib.Core.Path.{_≡_, refl, sym, ap, _∙_}
-use mathlib.Core.List.{List, [], _∷_}
-use Rattle.refusal.specs.Verdict.{passed, refused, _>>_, given}
-use Rattle.refusal.proofs.Verdicts.{refuse, pass-on}
+-- The record of a PID, and the sentence over the PID's packets: the record of a PID that has just been named follows the empty history (`named-follows`); the
+-- check gives 24 exactly where the sentence fails after it (`history-follows`, `check-right`, `check-wrong`), and the record given back follows the longer one (`updated-follows`). Assumes nothing.
+use Prim.Native.Nat.{ℕ, zero, suc, _<_}
+use mathlib.Core.Bool.{Bool, true, false, not, _||_}
+use mathlib.Core.Path.{_≡_, refl, sym, ap, _∙_, subst}
+use mathlib.Core.List.{List, [], _∷_, _++_, map}
+use mathlib.Core.Option.{Option, none, some}
+use native.Mathlib.Omega.{arith}
+use borrow.Author.Tests.{eq-eqb, ne-eqb, eqb-true, eqb-false, not-false}
+use lib.Dec.{eqb}
+use lib.ListN.{length, getD, set}
+use Rattle.lists.specs.Lists.{Bytes, pick}
+use Rattle.refusal.specs.Verdict.{Verdict, passed, refused, _>>=_, given}
+use Rattle.refusal.proofs.Verdicts.{refuse, pass-on, passed-then, passed-same, passed-after, given-passed, All}
+use Rattle.packet.specs.Header.{pid, continuityCounter, fields}
 use Rattle.packet.specs.declared.counter.Counted.{Counted}
 use Rattle.packet.specs.declared.counter.Stream.{Stream}
-use Rattle.packet.specs.Counter.{counterRight, named, updated, follows, check, givenBack, Follows}
+use Rattle.packet.specs.declared.counter.Last.the-variants as last
+use Rattle.packet.specs.declared.counter.Counter.the-variants.{Right}
+use Rattle.packet.specs.declared.counter.Counter.the-variants as answer
+use Rattle.packet.specs.Counter.{StreamRecord, counterRight, named, updated, follows, rightAfter, check, pidsOf, recordOf, checkedIn, historyAfter, history, latest, Follows, counted, due, lastOf, Stands, Checks}
 
 -- ---- the check, from the test
-module _ (s : Stream) (p : Counted) where
-  pub check-right : follows s p ≡ true → check s p ≡ passed (updated s p)
+module _ (r : StreamRecord) (p : Bytes) where
+  pub check-right : follows r p ≡ true → check r p ≡ passed (updated r p)
   unfolding check
   check-right e = sym (pass-on 24 (ap not e) refl)
 
-  pub check-wrong : follows s p ≡ false → check s p ≡ refused 24 0
+  pub check-wrong : follows r p ≡ false → check r p ≡ refused 24 0
   unfolding check
   check-wrong e = sym (refuse 24 _ (ap not e))
 
 -- ---- the record and the history
--- the record says of a packet what the sentence says over the history
-pub history-follows : (s : Stream) (history : List Counted) (p : Counted) → Follows s history → follows s p ≡ counterRight history p
-unfolding counterRight
-history-follows s [] p f = rw f
-history-follows s (last ∷ earlier) p f = rw (f .0, f .1)
-
 -- a PID that has just been named has no history
-pub named-follows : (pid : ℕ) → Follows (named pid) []
-named-follows pid = refl
+pub named-follows : (n : ℕ) → Follows (named n) []
+unfolding latest
+named-follows n = refl
 
--- 24 is given exactly where the sentence fails for the history
-pub check-history : (s : Stream) (history : List Counted) (p : Counted) → Follows s history
-    → check s p ≡ (given 24 (not (counterRight history p)) >> passed (updated s p))
+module _ (r : StreamRecord) (earlier : List Bytes) (p : Bytes) (f : Follows r earlier) where
+  -- the record says of a packet what the sentence says after the history
+  pub history-follows : follows r p ≡ rightAfter earlier p
+  history-follows = ap (λ (o : Option Bytes). counterRight o p) f
+
+  -- the record updated follows the history with the packet
+  pub updated-follows : Follows (updated r p) (p ∷ earlier)
+  unfolding latest
+  updated-follows = refl
+
+-- ---- the records of several PIDs
+-- the first record of a PID
+module _ (n : ℕ) (r : StreamRecord) (records : List StreamRecord) where
+  record-here : eqb (r .pid) n ≡ true → recordOf n (r ∷ records) ≡ some r
+  unfolding recordOf pick
+  record-here e = rw e
+
+  record-behind : eqb (r .pid) n ≡ false → recordOf n (r ∷ records) ≡ recordOf n records
+  unfolding recordOf pick
+  record-behind e = rw e
+
+pub some-not-none : {A : Type 0} (a : A) → _≡_ {A = Option A} (some a) none → ⊥
+some-not-none a e = let z : _≡_ {A = ℕ} 0 1 = cc in absurd (omega arith)
+
+pub some-same : {A : Type 0} (a b : A) → _≡_ {A = Option A} (some a) (some b) → a ≡ b
+some-same a b e = cc
+
+-- the record of PID n after this packet was checked
+abbrev pub recordAfter : ℕ → Bytes → Option StreamRecord → Option StreamRecord
+recordAfter n p none = none
+recordAfter n p (some r) = some (pick (eqb (pid p) n) (updated r p) r)
+
+-- a packet of another PID
+other-after : (n : ℕ) (p : Bytes) (o : Option StreamRecord) → eqb (pid p) n ≡ false → recordAfter n p o ≡ o
+unfolding pick
+other-after n p none e = refl
+other-after n p (some r) e = rw e
+
+-- a check that passed gives back the record updated
+pub check-passed : (r r′ : StreamRecord) (p : Bytes) → check r p ≡ passed r′ → (follows r p ≡ true) × (r′ ≡ updated r p)
 unfolding check
-check-history s history p f = rw (history-follows s history p f)
+check-passed r r′ p e =
+    let k = passed-after (given 24 (not (follows r p))) (passed (updated r p)) r′ e in
+    (not-false _ (given-passed 24 _ (k .0)), sym (passed-same _ r′ (k .1)))
 
--- else the record given back follows the longer history
-pub check-keeps : (s : Stream) (history : List Counted) (p : Counted) → Follows s history → counterRight history p ≡ true
-    → Follows (givenBack s (check s p)) (p ∷ history)
-check-keeps s history p f e = rw (check-right s p (history-follows s history p f ∙ e)) (refl, refl)
+module _ (n : ℕ) (p : Bytes) (r : StreamRecord) (records : List StreamRecord) where
+  -- the first record is of the packet's PID
+  updated-first : eqb (r .pid) (pid p) ≡ true → (c : Bool) → eqb (r .pid) n ≡ c
+      → recordOf n (updated r p ∷ records) ≡ recordAfter n p (recordOf n (r ∷ records))
+  unfolding pick
+  updated-first hp true hn =
+      let e : eqb (pid p) n ≡ true = eq-eqb (pid p) n (sym (eqb-true (r .pid) (pid p) hp) ∙ eqb-true (r .pid) n hn) in
+      record-here n (updated r p) records hn ∙ sym (ap (λ (o : Option StreamRecord). recordAfter n p o) (record-here n r records hn) ∙ rw e)
+  updated-first hp false hn =
+      let e : eqb (pid p) n ≡ false = ne-eqb (pid p) n (λ k. eqb-false (r .pid) n hn (eqb-true (r .pid) (pid p) hp ∙ k)) in
+      record-behind n (updated r p) records hn
+      ∙ sym (ap (λ (o : Option StreamRecord). recordAfter n p o) (record-behind n r records hn) ∙ other-after n p (recordOf n records) e)
 
--- and where the packet is refused, the record given back is the one handed in
-pub refused-keeps : (s : Stream) (history : List Counted) (p : Counted) → Follows s history → counterRight history p ≡ false
-    → Follows (givenBack s (check s p)) history
-refused-keeps s history p f e = rw (check-wrong s p (history-follows s history p f ∙ e)) f
+  -- it is of another, and those behind it are as they should be
+  updated-behind : eqb (r .pid) (pid p) ≡ false → (after : List StreamRecord) → recordOf n after ≡ recordAfter n p (recordOf n records)
+      → (c : Bool) → eqb (r .pid) n ≡ c → recordOf n (r ∷ after) ≡ recordAfter n p (recordOf n (r ∷ records))
+  unfolding pick
+  updated-behind hp after k true hn =
+      let e : eqb (pid p) n ≡ false = ne-eqb (pid p) n (λ (z : pid p ≡ n). eqb-false (r .pid) (pid p) hp (eqb-true (r .pid) n hn ∙ sym z)) in
+      record-here n r after hn ∙ sym (ap (λ (o : Option StreamRecord). recordAfter n p o) (record-here n r records hn) ∙ rw e)
+  updated-behind hp after k false hn =
+      record-behind n r after hn ∙ k ∙ sym (ap (λ (o : Option StreamRecord). recordAfter n p o) (record-behind n r records hn))
+
+-- a packet's check updates the record of its PID, and no other
+pub checked-record : (n : ℕ) (p : Bytes) (records after : List StreamRecord) → checkedIn records p ≡ passed after
+    → recordOf n after ≡ recordAfter n p (recordOf n records)
+unfolding checkedIn pick recordOf
+checked-record n p [] after e = ap (recordOf n) (sym (passed-same [] after e))
+checked-record n p (r ∷ records) after e = go (λ t k. checked-record n p records t k) (eqb (r .pid) (pid p)) refl e
+  where
+    go : ((t : List StreamRecord) → checkedIn records p ≡ passed t → recordOf n t ≡ recordAfter n p (recordOf n records))
+        → (b : Bool) → eqb (r .pid) (pid p) ≡ b
+        → pick b (check r p >>= λ r′. passed (r′ ∷ records)) (checkedIn records p >>= λ records′. passed (r ∷ records′)) ≡ passed after
+        → recordOf n after ≡ recordAfter n p (recordOf n (r ∷ records))
+    go more true hb k =
+        let q = passed-then (check r p) (λ r′. passed (r′ ∷ records)) after k in
+        let u = check-passed r (q .0) p (q .1) in
+        ap (recordOf n) (sym (passed-same (q .0 ∷ records) after (q .2)) ∙ ap (λ (t : StreamRecord). t ∷ records) (u .1))
+        ∙ updated-first n p r records hb (eqb (r .pid) n) refl
+    go more false hb k =
+        let q = passed-then (checkedIn records p) (λ records′. passed (r ∷ records′)) after k in
+        ap (recordOf n) (sym (passed-same (r ∷ q .0) after (q .2)))
+        ∙ updated-behind n p r records hb (q .0) (more (q .0) (q .1)) (eqb (r .pid) n) refl
+
+-- and names no PID
+pub checked-pids : (p : Bytes) (records after : List StreamRecord) → checkedIn records p ≡ passed after → pidsOf after ≡ pidsOf records
+unfolding checkedIn pick
+checked-pids p [] after e = ap pidsOf (sym (passed-same [] after e))
+checked-pids p (r ∷ records) after e = go (λ t k. checked-pids p records t k) (eqb (r .pid) (pid p)) e
+  where
+    go : ((t : List StreamRecord) → checkedIn records p ≡ passed t → pidsOf t ≡ pidsOf records) → (b : Bool)
+        → pick b (check r p >>= λ r′. passed (r′ ∷ records)) (checkedIn records p >>= λ records′. passed (r ∷ records′)) ≡ passed after
+        → pidsOf after ≡ pidsOf (r ∷ records)
+    go more true k =
+        let q = passed-then (check r p) (λ r′. passed (r′ ∷ records)) after k in
+        ap pidsOf (sym (passed-same (q .0 ∷ records) after (q .2))) ∙ ap (λ (t : StreamRecord). t .pid ∷ pidsOf records) (check-passed r (q .0) p (q .1) .1)
+    go more false k =
+        let q = passed-then (checkedIn records p) (λ records′. passed (r ∷ records′)) after k in
+        ap pidsOf (sym (passed-same (r ∷ q .0) after (q .2))) ∙ ap (λ (l : List ℕ). r .pid ∷ l) (more (q .0) (q .1))
+
+-- a PID that none of the records has
+pub no-record : (n : ℕ) (records : List StreamRecord) → All (λ m. eqb m n ≡ false) (pidsOf records) → recordOf n records ≡ none
+unfolding recordOf pick
+no-record n [] h = refl
+no-record n (r ∷ records) h = rw (h .0) (no-record n records (h .1))
+
+-- on a PID that has no record there is nothing to check
+pub unrecorded : (p : Bytes) (records : List StreamRecord) → recordOf (pid p) records ≡ none → checkedIn records p ≡ passed records
+unfolding checkedIn pick recordOf _>>=_
+unrecorded p [] e = refl
+unrecorded p (r ∷ records) e = go (λ k. unrecorded p records k) (eqb (r .pid) (pid p)) e
+  where
+    go : (recordOf (pid p) records ≡ none → checkedIn records p ≡ passed records) → (b : Bool) → pick b (some r) (recordOf (pid p) records) ≡ none
+        → pick b (check r p >>= λ r′. passed (r′ ∷ records)) (checkedIn records p >>= λ records′. passed (r ∷ records′)) ≡ passed (r ∷ records)
+    go more true k = absurd (some-not-none r k)
+    go more false k = rw (more k)
+
+-- 24 is given exactly where the counter is wrong after the PID's last packet
+pub wrong-refused : (p : Bytes) (r : StreamRecord) (records : List StreamRecord) → recordOf (pid p) records ≡ some r → follows r p ≡ false
+    → checkedIn records p ≡ refused 24 0
+unfolding checkedIn pick recordOf _>>=_
+wrong-refused p r [] e w = absurd (some-not-none r (sym e))
+wrong-refused p r (s ∷ records) e w = go (λ k. wrong-refused p r records k w) (eqb (s .pid) (pid p)) e
+  where
+    go : (recordOf (pid p) records ≡ some r → checkedIn records p ≡ refused 24 0) → (b : Bool) → pick b (some s) (recordOf (pid p) records) ≡ some r
+        → pick b (check s p >>= λ r′. passed (r′ ∷ records)) (checkedIn records p >>= λ records′. passed (s ∷ records′)) ≡ refused 24 0
+    go more true k = rw (some-same s r k, check-wrong r p w)
+    go more false k = rw (more k)
+
+pub right-passes : (p : Bytes) (r : StreamRecord) (records : List StreamRecord) → recordOf (pid p) records ≡ some r → follows r p ≡ true
+    → (after : List StreamRecord) × (checkedIn records p ≡ passed after)
+unfolding checkedIn pick recordOf _>>=_
+right-passes p r [] e w = absurd (some-not-none r (sym e))
+right-passes p r (s ∷ records) e w = go (λ k. right-passes p r records k w) (eqb (s .pid) (pid p)) e
+  where
+    go : (recordOf (pid p) records ≡ some r → (after : List StreamRecord) × (checkedIn records p ≡ passed after)) → (b : Bool)
+        → pick b (some s) (recordOf (pid p) records) ≡ some r → (after : List StreamRecord)
+        × (pick b (check s p >>= λ r′. passed (r′ ∷ records)) (checkedIn records p >>= λ records′. passed (s ∷ records′)) ≡ passed after)
+    go more true k = (updated r p ∷ records, rw (some-same s r k, check-right r p w))
+    go more false k = let q = more k in (s ∷ q .0, rw (q .1))
+
+-- the check by the record in a slot, which is the first of the packet's PID
+pub checked-at : (p : Bytes) (records : List StreamRecord) (k : ℕ) (d : StreamRecord) → k < length records → getD records k d .pid ≡ pid p
+    → ((j : ℕ) → j < k → getD records j d .pid ≡ pid p → ⊥)
+    → checkedIn records p ≡ (check (getD records k d) p >>= λ r. passed (set records k r))
+unfolding checkedIn pick _>>=_
+checked-at p [] k d h e f = absurd (omega arith)
+checked-at p (r ∷ records) zero d h e f = rw (eq-eqb (r .pid) (pid p) e)
+checked-at p (r ∷ records) (suc k) d h e f =
+    rw (ne-eqb (r .pid) (pid p) (f 0 (omega arith)))
+    (ap (λ (v : Verdict (List StreamRecord)). v >>= λ records′. passed (r ∷ records′)) (checked-at p records k d (omega arith) e (λ j i. f (suc j) (omega arith)))
+    ∙ go (check (getD records k d) p))
+  where
+    go : (v : Verdict StreamRecord) → ((v >>= λ t. passed (set records k t)) >>= λ records′. passed (r ∷ records′)) ≡ (v >>= λ t. passed (r ∷ set records k t))
+    go (passed t) = refl
+    go (refused number place) = refl
+
+-- ---- one packet more
+pub history-next : (earlier : List Bytes) (n : ℕ) (ps : List Bytes) (p : Bytes)
+    → historyAfter earlier n (ps ++ (p ∷ [])) ≡ pick (eqb (pid p) n) (p ∷ historyAfter earlier n ps) (historyAfter earlier n ps)
+unfolding historyAfter
+history-next earlier n [] p = refl
+history-next earlier n (q ∷ ps) p = history-next (pick (eqb (pid q) n) (q ∷ earlier) earlier) n ps p
+
+-- the record that the check gives back follows the history with the packet
+pub follows-next : (n : ℕ) (r : StreamRecord) (ps : List Bytes) (p : Bytes) → Follows r (history n ps)
+    → Follows (pick (eqb (pid p) n) (updated r p) r) (history n (ps ++ (p ∷ [])))
+unfolding pick
+follows-next n r ps p f = subst (Follows (pick (eqb (pid p) n) (updated r p) r)) (sym (history-next [] n ps p)) (go (eqb (pid p) n))
+  where
+    go : (b : Bool) → Follows (pick b (updated r p) r) (pick b (p ∷ history n ps) (history n ps))
+    go true = updated-follows r (history n ps) p f
+    go false = f
+
+-- ---- PIDs that are named
+-- a PID that has a record keeps it
+pub kept-record : (n : ℕ) (records new : List StreamRecord) (r : StreamRecord) → recordOf n records ≡ some r → recordOf n (records ++ new) ≡ some r
+unfolding recordOf pick
+kept-record n [] new r e = absurd (some-not-none r (sym e))
+kept-record n (s ∷ records) new r e = go (λ k. kept-record n records new r k) (eqb (s .pid) n) e
+  where
+    go : (recordOf n records ≡ some r → recordOf n (records ++ new) ≡ some r) → (b : Bool) → pick b (some s) (recordOf n records) ≡ some r → pick b (some s) (recordOf n (records ++ new)) ≡ some r
+    go more true k = k
+    go more false k = more k
+
+-- another has the one that it is named with
+pub new-record : (n : ℕ) (records new : List StreamRecord) → recordOf n records ≡ none → recordOf n (records ++ new) ≡ recordOf n new
+unfolding recordOf pick
+new-record n [] new e = refl
+new-record n (s ∷ records) new e = go (λ k. new-record n records new k) (eqb (s .pid) n) e
+  where
+    go : (recordOf n records ≡ none → recordOf n (records ++ new) ≡ recordOf n new) → (b : Bool) → pick b (some s) (recordOf n records) ≡ none → pick b (some s) (recordOf n (records ++ new)) ≡ recordOf n new
+    go more true k = absurd (some-not-none s k)
+    go more false k = more k
+
+pub named-record : (n : ℕ) (r : StreamRecord) (pids : List ℕ) → recordOf n (map named pids) ≡ some r → r ≡ named n
+unfolding recordOf pick
+named-record n r [] e = absurd (some-not-none r (sym e))
+named-record n r (m ∷ pids) e = go (λ k. named-record n r pids k) (eqb m n) refl e
+  where
+    go : (recordOf n (map named pids) ≡ some r → r ≡ named n) → (b : Bool) → eqb m n ≡ b → pick b (some (named m)) (recordOf n (map named pids)) ≡ some r → r ≡ named n
+    go more true h k = sym (some-same (named m) r k) ∙ ap named (eqb-true m n h)
+    go more false h k = more k
+
+-- ---- the code's record
+module _ (s : Stream) (c : Counted) (r : StreamRecord) (p : Bytes) (stands : Stands s r) (reads : c ≡ counted (fields p)) where
+  -- no packet was seen
+  pub unseen-follows : s .last ≡ last.Unseen → true ≡ follows r p
+  unfolding counterRight
+  unseen-follows e = go (r .last) (sym (stands .1) ∙ e)
+    where
+      go : (o : Option Bytes) → lastOf o ≡ last.Unseen → true ≡ counterRight o p
+      go none k = refl
+      go (some q) k = let z : _≡_ {A = ℕ} 0 1 = cc in absurd (omega arith)
+
+  -- one was: the three parts of the sentence
+  module _ (n : ℕ) (e : s .last ≡ last.Counter n) where
+    pub seen-follows : follows r p ≡ (c .discontinuity || eqb (c .counter) (due n (c .payload)))
+    unfolding counterRight
+    seen-follows = go (r .last) (sym (stands .1) ∙ e)
+      where
+        go : (o : Option Bytes) → lastOf o ≡ last.Counter n → counterRight o p ≡ (c .discontinuity || eqb (c .counter) (due n (c .payload)))
+        go none k = let z : _≡_ {A = ℕ} 0 1 = cc in absurd (omega arith)
+        go (some q) k = let m : continuityCounter q ≡ n = cc in rw (sym m, reads)
+
+  -- the answer
+  pub right-checks : follows r p ≡ true → Checks r p (record { stream = record { pid = s .pid; last = last.Counter (c .counter) }; verdict = Right })
+  right-checks e = rw (check-right r p e) (refl, (stands .0, ap (λ (d : Counted). last.Counter (d .counter)) reads))
+
+  pub wrong-checks : follows r p ≡ false
+      → Checks r p (record { stream = s; verdict = answer.Refused (record { why = record { number = 24 }; place = 0 }) })
+  wrong-checks e = rw (check-wrong r p e) (refl, stands)

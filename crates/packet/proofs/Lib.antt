@@ -1,3 +1,5 @@
 pub mod Headers
 pub mod Counters
 pub mod Slots
+pub mod Recorded
+pub mod Packets

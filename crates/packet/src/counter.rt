@@ -1,6 +1,8 @@
 // The continuity counter of a PID's packets.
 ghost use mathlib.Core.Path.{_≡_};
-ghost use Rattle.packet.specs.Counter.{counted, due, named, follows, check, givenBack, checkedSays};
+ghost use Rattle.lists.specs.Lists.{Bytes};
+ghost use Rattle.packet.specs.Header.{fields};
+ghost use Rattle.packet.specs.Counter.{StreamRecord, counted, due, named, namedStream, follows, Stands, Checks};
 use crate::header::Header;
 use refusal::Refusal;
 use refusal::Refused;
@@ -12,11 +14,16 @@ pub struct Counted {
     pub discontinuity: bool,
 }
 
-// A PID, whether a packet was seen since it was named, and the last counter.
+// The last counter of a PID, or that none of its packets was seen since it was named.
+pub enum Last {
+    Unseen,
+    Counter(u8),
+}
+
+// A PID and its last counter.
 pub struct Stream {
     pub pid: u16,
-    pub seen: bool,
-    pub last: u8,
+    pub last: Last,
 }
 
 // The counter is right, or 24.
@@ -57,37 +64,37 @@ fn next_counter(last: u8, payload: bool) -> u8
 impl Stream {
     // The record of a PID that has just been named.
     pub fn named(pid: u16) -> Stream
-        ensures { λ r. ⌜ r ≡ named pid ⌝ }
+        ensures { λ r. ⌜ (r ≡ namedStream pid) × Stands r (named pid) ⌝ }
     {
         Stream {
             pid,
-            seen: false,
-            last: 0,
+            last: Last::Unseen,
         }
     }
 
     fn is_followed_by(self, packet: Counted) -> bool
-        ensures { λ r. ⌜ r ≡ follows self packet ⌝ }
+        ensures { λ r. ⌜ ((t : StreamRecord) (p : Bytes) → Stands self t → packet ≡ counted (fields p) → r ≡ follows t p) ⌝ }
     {
-        if !self.seen {
+        let last = self.last;
+        let Last::Counter(counter) = last else {
             return true;
-        }
+        };
         if packet.discontinuity {
             return true;
         }
-        packet.counter == next_counter(self.last, packet.payload)
+        packet.counter == next_counter(counter, packet.payload)
     }
 
     // The check of a packet: the record updated, or 24 and the record as it was.
     pub fn check(self, packet: Counted) -> Checked
-        ensures { λ r. ⌜ (checkedSays r ≡ check self packet) × (r .stream ≡ givenBack self (check self packet)) ⌝ }
+        ensures { λ r. ⌜ ((t : StreamRecord) (p : Bytes) → Stands self t → packet ≡ counted (fields p) → Checks t p r) ⌝ }
+        ensures { λ r. ⌜ r .stream .pid ≡ self .pid ⌝ }
     {
         if self.is_followed_by(packet) {
             return Checked {
                 stream: Stream {
                     pid: self.pid,
-                    seen: true,
-                    last: packet.counter,
+                    last: Last::Counter(packet.counter),
                 },
                 verdict: Counter::Right,
             };

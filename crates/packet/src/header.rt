@@ -8,8 +8,11 @@ use refusal::Refusal;
 use refusal::Refused;
 use ticks::Ticks27;
 
+// How many bytes a packet has.
+pub const PACKET_LENGTH: usize = 188;
+
 // The PID of null packets.
-const NULL_PID: u16 = 0x1FFF;
+pub const NULL_PID: u16 = 0x1FFF;
 
 // A packet's PCR.
 pub enum Clock {

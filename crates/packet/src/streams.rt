@@ -1,6 +1,6 @@
 // The records of the listed streams.
 ghost use mathlib.Core.Path.{_≡_};
-ghost use Rattle.packet.specs.Streams.{listed, lookUp, streamsOf, noStreams, recordAt, putBack};
+ghost use Rattle.packet.specs.Streams.{listed, lookUp, pidsIn, streamsOf, noStreams, recordAt, putBack};
 use crate::counter::Stream;
 
 // The most streams in a program map.
@@ -45,7 +45,7 @@ impl Streams {
 
     // The first slot that has the PID, or none.
     pub fn look_up(self, pid: u16) -> Slot
-        ensures { λ r. ⌜ r ≡ lookUp pid (listed self) ⌝ }
+        ensures { λ r. ⌜ r ≡ lookUp pid (pidsIn (listed self)) ⌝ }
     {
         let count = self.count;
         let mut slot: usize = 0;

@@ -1,6 +1,6 @@
--- What a caller may rely on where `reading` found a header with times: its fields are the definition's (`timed-header`), it lies within the payload
--- (`size-within`), its size is from 14 to 264 (`size-least`, `size-most`), the bytes after it are `pesData` (`timed-data`), and its times are below
--- 2 ^ 33 (`pts-width`, `dts-width`). A refusal is 29 at place 0 (`reading-refused`). Assumes nothing.
+-- What a caller may rely on where `reading` found a header: its fields are the definition's (`read-header`), it lies within the payload (`size-within`), its size is from
+-- 9, or 14 with times, to 264 (`size-least`, `size-timed`, `size-most`), the bytes after it are `pesData` (`read-data`), and times are below 2 ^ 33 (`pts-width`,
+-- `dts-width`). A refusal is 29 at place 0 (`reading-refused`). Assumes nothing.
 use Prim.Native.Nat.{ℕ, _≤_, _<_, _^_}
 use mathlib.Core.Bool.{Bool, true, false}
 use mathlib.Core.Path.{_≡_, refl, sym, ap, subst, _∙_}
@@ -15,7 +15,7 @@ use Rattle.refusal.specs.Verdict.{passed, refused, given}
 use Rattle.refusal.proofs.Verdicts.{refuse, pass-on, never, passed-after, passed-same, given-passed, none-holds}
 use Rattle.ticks.specs.declared.Ticks90.{Ticks90}
 use Rattle.pes.specs.declared.header.Header.{Header}
-use Rattle.pes.specs.Pes.{ptsDtsFlags, lengthByte, pesData, noTimes, ptsAndDts, flagsWrong, notWhole, leastLengthByte, lengthByteShort, headerWrong, dts, headerOf, untimed, timed, foundIn, reading}
+use Rattle.pes.specs.Pes.{ptsDtsFlags, lengthByte, pesData, noTimes, ptsAndDts, flagsWrong, notWhole, leastLengthByte, lengthByteShort, headerWrong, pts, dts, headerOf, reading}
 
 -- ---- the three conditions that the laws use
 right-flags : (s : Bytes) → headerWrong s ≡ false → flagsWrong s ≡ false
@@ -51,51 +51,46 @@ pick-width false x y h i = i
 pub reading-refused : (s : Bytes) (number place : ℕ) → reading s ≡ refused number place → (number ≡ 29) × (place ≡ 0)
 unfolding reading
 reading-refused s number place e =
-    case (headerWrong s) (λ t. let h : refused 29 0 ≡ refused number place = refuse 29 (passed (foundIn s)) t ∙ e in (cc, (cc)))
+    case (headerWrong s) (λ t. let h : refused 29 0 ≡ refused number place = refuse 29 (passed (headerOf s)) t ∙ e in (cc, (cc)))
     (λ t. never (sym (pass-on 29 t refl ∙ e)))
 
--- ---- a header with times
-picked : (t : Bool) (a b : Header) → pick t untimed (timed a) ≡ timed b → (t ≡ false) × (a ≡ b)
-unfolding pick
-picked true a b e = let z : _≡_ {A = ℕ} 0 1 = cc in absurd (omega arith)
-picked false a b e = (refl, (cc))
-
-module _ (s : Bytes) (h : Header) (e : reading s ≡ passed (timed h)) where
-  tried : (given 29 (headerWrong s) ≡ passed tt) × (passed (foundIn s) ≡ passed (timed h))
+-- ---- a header
+module _ (s : Bytes) (h : Header) (e : reading s ≡ passed h) where
+  tried : (given 29 (headerWrong s) ≡ passed tt) × (passed (headerOf s) ≡ passed h)
   unfolding reading
-  tried = passed-after (given 29 (headerWrong s)) (passed (foundIn s)) (timed h) e
+  tried = passed-after (given 29 (headerWrong s)) (passed (headerOf s)) h e
 
   right : headerWrong s ≡ false
   right = given-passed 29 (headerWrong s) (tried .0)
 
-  found : (noTimes s ≡ false) × (headerOf s ≡ h)
-  unfolding foundIn
-  found = picked (noTimes s) (headerOf s) h (passed-same (foundIn s) (timed h) (tried .1))
+  pub read-header : h ≡ headerOf s
+  read-header = sym (passed-same (headerOf s) h (tried .1))
 
-  pub timed-header : h ≡ headerOf s
-  timed-header = sym (found .1)
-
-  pub timed-data : drop (h .size) s ≡ pesData s
-  timed-data = ap (λ (x : Header). drop (x .size) s) timed-header
+  pub read-data : drop (h .size) s ≡ pesData s
+  read-data = ap (λ (x : Header). drop (x .size) s) read-header
 
   pub size-within : h .size ≤ length s
-  size-within = subst (λ (x : Header). x .size ≤ length s) (found .1) (ltb-false _ _ (right-whole s right))
+  size-within = subst (λ (x : Header). x .size ≤ length s) (sym read-header) (ltb-false _ _ (right-whole s right))
 
-  pub size-least : 14 ≤ h .size
-  size-least =
-      subst (λ (x : Header). 14 ≤ x .size) (found .1)
-      (omega (arith, ltb-false (lengthByte s) (leastLengthByte s) (right-length s right), least-times s (found .0) (right-flags s right)))
+  -- nine bytes at least, and fourteen where there are times
+  pub size-least : 9 ≤ h .size
+  size-least = subst (λ (x : Header). 9 ≤ x .size) (sym read-header) (omega arith)
+
+  pub size-timed : noTimes s ≡ false → 14 ≤ h .size
+  size-timed t =
+      subst (λ (x : Header). 14 ≤ x .size) (sym read-header)
+      (omega (arith, ltb-false (lengthByte s) (leastLengthByte s) (right-length s right), least-times s t (right-flags s right)))
 
   -- of a string of bytes
   module _ (bytes : (i : ℕ) → byte s i < 256) where
     pub size-most : h .size ≤ 264
-    size-most = subst (λ (x : Header). x .size ≤ 264) (found .1) (omega (arith, bytes 8))
+    size-most = subst (λ (x : Header). x .size ≤ 264) (sym read-header) (omega (arith, bytes 8))
 
-    pub pts-width : h .pts .0 < 2 ^ 33
-    pts-width = subst (λ (x : Header). x .pts .0 < 2 ^ 33) (found .1) (omega (arith, bytes 10, bytes 12))
+-- ---- the times, of a string of bytes
+module _ (s : Bytes) (bytes : (i : ℕ) → byte s i < 256) where
+  pub pts-width : pts s .0 < 2 ^ 33
+  pts-width = omega (arith, bytes 10, bytes 12)
 
-    pub dts-width : h .dts .0 < 2 ^ 33
-    unfolding dts
-    dts-width =
-        subst (λ (x : Header). x .dts .0 < 2 ^ 33) (found .1)
-        (pick-width (ptsAndDts s) _ _ (omega (arith, bytes 15, bytes 17)) (omega (arith, bytes 10, bytes 12)))
+  pub dts-width : dts s .0 < 2 ^ 33
+  unfolding dts
+  dts-width = pick-width (ptsAndDts s) _ _ (omega (arith, bytes 15, bytes 17)) (omega (arith, bytes 10, bytes 12))

@@ -1,6 +1,6 @@
 // The header that the payload of a starting packet begins with.
 ghost use mathlib.Core.Path.{_≡_};
-ghost use Rattle.pes.specs.Pes.{headerOf, reading, pesSays};
+ghost use Rattle.pes.specs.Pes.{timesOf, headerOf, reading, pesSays};
 use crate::conditions::header_wrong;
 use crate::fields::dts;
 use crate::fields::header_size;
@@ -11,29 +11,44 @@ use refusal::Refusal;
 use refusal::Refused;
 use ticks::Ticks90;
 
-// A header with times. `length` is PES_packet_length; `size` is the header's own size, behind which the unit begins.
+// The times of a PES: none (PTS_DTS_flags 00), or PTS and DTS.
+pub enum Times {
+    Absent,
+    Stamps(Ticks90, Ticks90),
+}
+
+// What a header says. `length` is PES_packet_length; `size` is the header's own size, behind which the unit begins.
 pub struct Header {
     pub length: u16,
     pub size: u16,
-    pub pts: Ticks90,
-    pub dts: Ticks90,
+    pub times: Times,
 }
 
-// A header with times, one without (PTS_DTS_flags 00), or 29.
+// A header, or 29.
 pub enum PesRead {
-    Timed(Header),
-    Untimed,
+    Header(Header),
     Refused(Refused),
+}
+
+fn times_of(payload: &[u8]) -> Times
+    ensures { λ r. ⌜ r ≡ timesOf (now (payload .entry)) ⌝ }
+{
+    if no_times(payload) {
+        return Times::Absent;
+    }
+    let first = pts(payload);
+    let second = dts(payload);
+    Times::Stamps(first, second)
 }
 
 fn header_of(payload: &[u8]) -> Header
     ensures { λ r. ⌜ r ≡ headerOf (now (payload .entry)) ⌝ }
 {
+    let times = times_of(payload);
     Header {
         length: packet_length(payload),
         size: header_size(payload),
-        pts: pts(payload),
-        dts: dts(payload),
+        times,
     }
 }
 
@@ -47,8 +62,6 @@ pub fn read(payload: &[u8]) -> PesRead
             place: 0,
         });
     }
-    if no_times(payload) {
-        return PesRead::Untimed;
-    }
-    PesRead::Timed(header_of(payload))
+    let header = header_of(payload);
+    PesRead::Header(header)
 }

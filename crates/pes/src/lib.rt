@@ -5,4 +5,5 @@ mod header;
 
 pub use header::Header;
 pub use header::PesRead;
+pub use header::Times;
 pub use header::read;

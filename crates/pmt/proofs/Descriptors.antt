@@ -12,7 +12,8 @@ use Rattle.lists.specs.Lists.{Bytes, pick, any, those}
 use Rattle.lists.specs.Bytes.{byte}
 use Rattle.lists.proofs.Picks.{by-true, by-false, by-eq, by-ne}
 use Rattle.refusal.specs.Verdict.{Verdict, passed, refused, _>>=_, _>>_, given}
-use Rattle.descriptor.specs.Descriptor.{av01, videoTag, wrong}
+use Rattle.descriptor.specs.Descriptor.{videoTag, wrong}
+use Rattle.descriptor.specs.Edition.{current}
 use Rattle.pmt.specs.Pmt.{descriptorSize, descriptorsWithin, descriptors, isVideo, videoDescriptors, videoWrong, isRegistration, registrationFirst, registrationLater}
 use Rattle.pmt.specs.Answer.{videoOf}
 use Rattle.pmt.specs.Parts.{videosOf, anotherVideo, withVideo, foundIn, withDescriptor, loopFound}
@@ -46,13 +47,13 @@ video-again v d a b c e tag p = by-eq v tag (again (v .first) d a b c e p)
 abbrev having : Bool → Bool → Videos → Found
 having first later videos = record { first = first; later = later; videos = videos }
 
-pub as-first : (f : Found) (d : Bytes) (first registration : Bool) (v : Videos) → first ≡ true → registration ≡ isRegistration av01 d → v ≡ withVideo (f .videos) d
+pub as-first : (f : Found) (d : Bytes) (first registration : Bool) (v : Videos) → first ≡ true → registration ≡ isRegistration current d → v ≡ withVideo (f .videos) d
     → having registration (f .later) v ≡ withDescriptor f first d
 unfolding withDescriptor
 as-first f d first registration v p q r =
     by-true _ p (ap₂ (λ (b : Bool) (x : Videos). having b (f .later) x) q r)
 
-pub as-later : (f : Found) (d : Bytes) (first later : Bool) (v : Videos) → first ≡ false → later ≡ (f .later || isRegistration av01 d) → v ≡ withVideo (f .videos) d
+pub as-later : (f : Found) (d : Bytes) (first later : Bool) (v : Videos) → first ≡ false → later ≡ (f .later || isRegistration current d) → v ≡ withVideo (f .videos) d
     → having (f .first) later v ≡ withDescriptor f first d
 unfolding withDescriptor
 as-later f d first later v p q r = by-false _ p (ap₂ (having (f .first)) q r)
@@ -92,11 +93,11 @@ unfolding pick
 videos-by true ds d = another ds d
 videos-by false ds d = ap videosOf (sym (append-nil ds))
 
-videos-more : (ds : List Bytes) (d : Bytes) → withVideo (videosOf (videoDescriptors ds)) d ≡ videosOf (videoDescriptors (ds ++ (d ∷ [])))
+videos-more : (ds : List Bytes) (d : Bytes) → withVideo (videosOf (videoDescriptors current ds)) d ≡ videosOf (videoDescriptors current (ds ++ (d ∷ [])))
 unfolding withVideo those
 videos-more ds d =
-    videos-by (isVideo d) (videoDescriptors ds) d
-    ∙ ap videosOf (sym (those-append isVideo ds (d ∷ [])))
+    videos-by (isVideo current d) (videoDescriptors current ds) d
+    ∙ ap videosOf (sym (those-append (isVideo current) ds (d ∷ [])))
 
 -- there is none
 unfoldable pub isEmpty : List Bytes → Bool
@@ -105,9 +106,9 @@ isEmpty (d ∷ ds) = false
 
 pub found-more : (ds : List Bytes) (d : Bytes) → withDescriptor (foundIn ds) (isEmpty ds) d ≡ foundIn (ds ++ (d ∷ []))
 unfolding withDescriptor isEmpty pick registrationFirst registrationLater any
-found-more [] d = ap (having (isRegistration av01 d) false) (videos-more [] d)
+found-more [] d = ap (having (isRegistration current d) false) (videos-more [] d)
 found-more (e ∷ ds) d =
-    ap₂ (having (isRegistration av01 e)) (sym (any-more (isRegistration av01) ds d)) (videos-more (e ∷ ds) d)
+    ap₂ (having (isRegistration current e)) (sym (any-more (isRegistration current) ds d)) (videos-more (e ∷ ds) d)
 
 -- ---- the loop from a place on
 -- the descriptors before the place, what is found in them, and how many may still come

@@ -9,7 +9,7 @@ use Rattle.lists.specs.Lists.{pick, any, those}
 use Rattle.lists.proofs.Picks.{by-true}
 use Rattle.lists.proofs.Tests.{case}
 use Rattle.refusal.specs.Verdict.{Verdict, passed, refused, _>>=_, _>>_, given}
-use Rattle.descriptor.specs.Descriptor.{av01}
+use Rattle.descriptor.specs.Edition.{current}
 use Rattle.pmt.specs.Pmt.{MapEntry, videoDescriptors, videoWrong, registrationFirst, registrationLater, isAv1, strayRegistration, oneAv1, av1Entry}
 use Rattle.pmt.specs.Answer.{firstOf, videoOf, mapOf}
 use Rattle.pmt.specs.Parts.{kindFrom, kindOf, withKind, withAll, listOf, mapFrom, listedMap}
@@ -34,10 +34,10 @@ module _ (k : Kind) (slot : ℕ) (a : Av1) where
 
 -- ---- an entry's kind, by the two tests of the definition
 abbrev stray : MapEntry → Bool
-stray e = strayRegistration av01 e
+stray e = strayRegistration current e
 
 abbrev av1 : MapEntry → Bool
-av1 e = isAv1 av01 e
+av1 e = isAv1 current e
 
 ruled : Bool → Bool → Bool → Video → Kind
 ruled elsewhere first wrong v = pick elsewhere Stray (pick first (pick wrong Stray (Right v)) Other)
@@ -52,14 +52,14 @@ tests false false true wrong v = refl
 tests false false false wrong v = refl
 
 abbrev videoIn : MapEntry → Video
-videoIn e = videoOf (videoDescriptors (e .descriptors))
+videoIn e = videoOf (videoDescriptors current (e .descriptors))
 
 abbrev videosWrong : MapEntry → Bool
-videosWrong e = videoWrong (videoDescriptors (e .descriptors))
+videosWrong e = videoWrong (videoDescriptors current (e .descriptors))
 
 kind-ruled : (e : MapEntry) → kindOf e ≡ ruled (stray e) (av1 e) (videosWrong e) (videoIn e)
 unfolding kindFrom strayRegistration isAv1
-kind-ruled e = tests (registrationLater av01 (e .descriptors)) (registrationFirst av01 (e .descriptors)) (eqb (e .streamType) 6) (videosWrong e) (videoIn e)
+kind-ruled e = tests (registrationLater current (e .descriptors)) (registrationFirst current (e .descriptors)) (eqb (e .streamType) 6) (videosWrong e) (videoIn e)
 
 module _ (e : MapEntry) where
   kind-stray : stray e ≡ true → kindOf e ≡ Stray
@@ -159,7 +159,7 @@ module _ (pcrPid : ℕ) (l : Listed) where
 
   -- the definition's verdict, by its two tests: whether a registration is astray, and which are AV1 entries
   abbrev judged : Bool → List MapEntry → ℕ → Verdict ProgramMap
-  judged astray those-av1 slot = (given 28 astray >> oneAv1 av01 those-av1) >>= λ e. passed (mapWith slot (videoIn e))
+  judged astray those-av1 slot = (given 28 astray >> oneAv1 current those-av1) >>= λ e. passed (mapWith slot (videoIn e))
 
   never-right : (e : MapEntry) (astray : Bool) (others : List MapEntry) (slot : ℕ) → videosWrong e ≡ true → refused 28 0 ≡ judged astray (e ∷ others) slot
   unfolding _>>=_ _>>_ given pick oneAv1
@@ -226,7 +226,7 @@ module _ (pcrPid : ℕ) (l : Listed) where
 
 -- the map of the listed entries is the one that the definition has, or its 28
 pub listed-map : (pcrPid : ℕ) (es : List MapEntry)
-    → listedMap pcrPid (listOf es) ≡ (av1Entry av01 es >>= λ e. passed (mapOf av01 (record { pcrPid = pcrPid; entries = es; av1 = e })))
+    → listedMap pcrPid (listOf es) ≡ (av1Entry current es >>= λ e. passed (mapOf current (record { pcrPid = pcrPid; entries = es; av1 = e })))
 unfolding av1Entry
 listed-map pcrPid es =
     let n : 0 + firstOf av1 es ≡ firstOf av1 es = omega arith in

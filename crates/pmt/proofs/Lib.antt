@@ -6,3 +6,4 @@ pub mod Turns
 pub mod Reading
 pub mod Thirteenth
 pub mod Passed
+pub mod ListedPids

@@ -14,7 +14,9 @@ use Rattle.lists.proofs.Tests.{case, or-neither}
 use Rattle.refusal.specs.Verdict.{Verdict, passed, refused, _>>_, given}
 use Rattle.refusal.proofs.Verdicts.{passed-then, passed-after, passed-same, given-passed, never}
 use Rattle.psi.specs.Section.{commonWrong, beforeCrc, upToCrc, tableIdExtension}
-use Rattle.pmt.specs.Pmt.{MapEntry, MapContent, elementaryPid, entrySize, nullPid, pidWrong, entry, pids, mostEntries, entriesAfter, entries, isAv1, oneAv1, av1Entry, pcrPid, programInfoLength, entryBytes, readPmt}
+use Rattle.descriptor.specs.Edition.{Edition}
+use Rattle.packet.specs.Header.{nullPid}
+use Rattle.pmt.specs.Pmt.{MapEntry, MapContent, elementaryPid, entrySize, pidWrong, entry, pids, mostEntries, entriesAfter, entries, isAv1, oneAv1, av1Entry, pcrPid, programInfoLength, entryBytes, readPmt}
 use Rattle.pmt.specs.Answer.{firstOf, mapOf, mapped}
 use Rattle.pmt.specs.declared.section.ProgramMap.{ProgramMap}
 use Rattle.pmt.proofs.Finding.{those-in, those-out, first-in, first-out}
@@ -25,33 +27,33 @@ unfolding _>>_
 past (passed a) w b e = e
 past (refused number place) w b e = never e
 
-pub record Says (identifier : Bytes) (program mapPid : ℕ) (s : Bytes) (m : MapContent) : Type 0 where
+pub record Says (edition : Edition) (program mapPid : ℕ) (s : Bytes) (m : MapContent) : Type 0 where
   pub right : commonWrong 2 16 s ≡ false
   pub number : tableIdExtension s ≡ program
   pub pcr : m .pcrPid ≡ pcrPid s
   pub listed : entries mapPid (entryBytes s) ≡ passed (m .entries)
-  pub one : av1Entry identifier (m .entries) ≡ passed (m .av1)
+  pub one : av1Entry edition (m .entries) ≡ passed (m .av1)
 
 not-false : (t : Bool) → not t ≡ false → t ≡ true
 not-false true e = refl
 not-false false e = sym e
 
-pub says : (identifier : Bytes) (program mapPid : ℕ) (s : Bytes) (m : MapContent) → readPmt identifier program mapPid s ≡ passed m
-    → Says identifier program mapPid s m
+pub says : (edition : Edition) (program mapPid : ℕ) (s : Bytes) (m : MapContent) → readPmt edition program mapPid s ≡ passed m
+    → Says edition program mapPid s m
 unfolding readPmt
-says identifier program mapPid s m e =
+says edition program mapPid s m e =
     let a = passed-after (given 26 (commonWrong 2 16 s)) _ m e in
     let b = passed-after (given 26 (not (eqb (tableIdExtension s) program))) _ m (a .1) in
     let d = past _ _ m (passed-after _ _ m (b .1) .1) in
     let es = passed-then (entries mapPid (entryBytes s)) _ m d in
-    let one = passed-then (av1Entry identifier (es .0)) _ m (es .2) in
+    let one = passed-then (av1Entry edition (es .0)) _ m (es .2) in
     let same = passed-same _ m (one .2) in
     record {
       right = given-passed 26 _ (a .0);
       number = eqb-true _ _ (not-false _ (given-passed 26 _ (b .0)));
       pcr = sym (ap (λ (x : MapContent). x .pcrPid) same);
       listed = es .1 ∙ ap (λ (x : MapContent). passed (x .entries)) same;
-      one = ap (λ (x : MapContent). av1Entry identifier (x .entries)) (sym same) ∙ one .1 ∙ ap (λ (x : MapContent). passed (x .av1)) same;
+      one = ap (λ (x : MapContent). av1Entry edition (x .entries)) (sym same) ∙ one .1 ∙ ap (λ (x : MapContent). passed (x .av1)) same;
     }
 
 -- ---- the entries
@@ -119,10 +121,10 @@ not-among p (a ∷ l) e (suc i) h q = not-among p l (or-neither (eqb p a) (any (
 abbrev pub Octets : Bytes → Type 0
 Octets s = (i : ℕ) → byte s i < 256
 
-octets-drop : (s : Bytes) (k : ℕ) → Octets s → Octets (drop k s)
+pub octets-drop : (s : Bytes) (k : ℕ) → Octets s → Octets (drop k s)
 octets-drop s k o i = omega (arith, getD-drop k s i 0, o (k + i))
 
-octets-take : (k : ℕ) (s : Bytes) → Octets s → Octets (take k s)
+pub octets-take : (k : ℕ) (s : Bytes) → Octets s → Octets (take k s)
 octets-take zero s o i = omega arith
 octets-take (suc k) [] o i = omega arith
 octets-take (suc k) (a ∷ s) o zero = o 0
@@ -187,37 +189,37 @@ first-holds f (b ∷ l) a more e =
     (λ p. let r = first-holds f l a more (sym (those-out f b l p) ∙ e) in
     (omega (arith, first-out f b l p, r .0), (λ d. ap (λ (i : ℕ). getD (b ∷ l) i d) (first-out f b l p) ∙ r .1 d), r .2))
 
-the-one : (identifier : Bytes) (l : List MapEntry) (e : MapEntry) → oneAv1 identifier l ≡ passed e → l ≡ e ∷ []
+the-one : (edition : Edition) (l : List MapEntry) (e : MapEntry) → oneAv1 edition l ≡ passed e → l ≡ e ∷ []
 unfolding oneAv1
-the-one identifier [] e p = never p
-the-one identifier (x ∷ []) e p = ap (λ (y : MapEntry). y ∷ []) (passed-same x e (passed-after _ (passed x) e p .1))
-the-one identifier (x ∷ y ∷ more) e p = never p
+the-one edition [] e p = never p
+the-one edition (x ∷ []) e p = ap (λ (y : MapEntry). y ∷ []) (passed-same x e (passed-after _ (passed x) e p .1))
+the-one edition (x ∷ y ∷ more) e p = never p
 
 -- where one AV1 entry was found: its slot is one of the entries', it stands there, and no other has its test
-module _ (identifier : Bytes) (es : List MapEntry) (e : MapEntry) (p : av1Entry identifier es ≡ passed e) where
-  pub only-av1 : those (isAv1 identifier) es ≡ e ∷ []
+module _ (edition : Edition) (es : List MapEntry) (e : MapEntry) (p : av1Entry edition es ≡ passed e) where
+  pub only-av1 : those (isAv1 edition) es ≡ e ∷ []
   unfolding av1Entry
-  only-av1 = the-one identifier (those (isAv1 identifier) es) e (passed-after _ _ e p .1)
+  only-av1 = the-one edition (those (isAv1 edition) es) e (passed-after _ _ e p .1)
 
-  pub slot-within : firstOf (isAv1 identifier) es < length es
-  slot-within = first-holds (isAv1 identifier) es e [] only-av1 .0
+  pub slot-within : firstOf (isAv1 edition) es < length es
+  slot-within = first-holds (isAv1 edition) es e [] only-av1 .0
 
-  pub stands-there : (d : MapEntry) → getD es (firstOf (isAv1 identifier) es) d ≡ e
-  stands-there d = first-holds (isAv1 identifier) es e [] only-av1 .1 d
+  pub stands-there : (d : MapEntry) → getD es (firstOf (isAv1 edition) es) d ≡ e
+  stands-there d = first-holds (isAv1 edition) es e [] only-av1 .1 d
 
-  pub is-av1 : isAv1 identifier e ≡ true
-  is-av1 = first-holds (isAv1 identifier) es e [] only-av1 .2
+  pub is-av1 : isAv1 edition e ≡ true
+  is-av1 = first-holds (isAv1 edition) es e [] only-av1 .2
 
   -- its PID is the one in its slot
-  pub av1-pid : byte (pids es) (firstOf (isAv1 identifier) es) ≡ e .pid
+  pub av1-pid : byte (pids es) (firstOf (isAv1 edition) es) ≡ e .pid
   av1-pid =
       let d : MapEntry = record { streamType = 0; pid = 0; descriptors = [] } in
-      List·getD-map (λ (x : MapEntry). x .pid) es (firstOf (isAv1 identifier) es) d ∙ ap (λ (x : MapEntry). x .pid) (stands-there d)
+      List·getD-map (λ (x : MapEntry). x .pid) es (firstOf (isAv1 edition) es) d ∙ ap (λ (x : MapEntry). x .pid) (stands-there d)
 
 -- ---- the map that the code answers with
-pub map-says : (identifier : Bytes) (v : Verdict MapContent) (p : ProgramMap) → mapped identifier v ≡ passed p
-    → (m : MapContent) × (v ≡ passed m) × (mapOf identifier m ≡ p)
+pub map-says : (edition : Edition) (v : Verdict MapContent) (p : ProgramMap) → mapped edition v ≡ passed p
+    → (m : MapContent) × (v ≡ passed m) × (mapOf edition m ≡ p)
 unfolding mapped
-map-says identifier v p e =
-    let q = passed-then v (λ m. passed (mapOf identifier m)) p e in
-    (q .0, q .1, passed-same (mapOf identifier (q .0)) p (q .2))
+map-says edition v p e =
+    let q = passed-then v (λ m. passed (mapOf edition m)) p e in
+    (q .0, q .1, passed-same (mapOf edition (q .0)) p (q .2))

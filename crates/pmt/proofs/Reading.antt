@@ -13,7 +13,7 @@ use Rattle.lists.proofs.Parts.{drop-take}
 use Rattle.refusal.specs.Verdict.{Verdict, passed, refused, _>>=_, _>>_, given}
 use Rattle.refusal.proofs.Verdicts.{refuse, pass-on, go-on, stops, stop, then-bind}
 use Rattle.psi.specs.Section.{commonWrong, beforeCrc, upToCrc, tableIdExtension}
-use Rattle.descriptor.specs.Descriptor.{av01}
+use Rattle.descriptor.specs.Edition.{current}
 use Rattle.pmt.specs.Pmt.{MapEntry, MapContent, descriptors, entries, av1Entry, pcrPid, programInfoLength, programInfo, entryBytes, readPmt}
 use Rattle.pmt.specs.Answer.{mapOf, mapped, pmtSays, noMap, mapBeside}
 use Rattle.pmt.specs.Parts.{loopFound, listOf, listRead, mapFrom, listedMap, bodyMap}
@@ -108,16 +108,16 @@ abbrev content : ℕ → List MapEntry → MapEntry → MapContent
 content pcr es e = record { pcrPid = pcr; entries = es; av1 = e }
 
 lists-map : (pcr : ℕ) (v : Verdict (List MapEntry))
-    → ((v >>= λ es. av1Entry av01 es >>= λ e. passed (content pcr es e)) >>= λ m. passed (mapOf av01 m)) ≡ ((v >>= λ es. passed (listOf es)) >>= listedMap pcr)
+    → ((v >>= λ es. av1Entry current es >>= λ e. passed (content pcr es e)) >>= λ m. passed (mapOf current m)) ≡ ((v >>= λ es. passed (listOf es)) >>= listedMap pcr)
 unfolding _>>=_
-lists-map pcr (passed es) = bind-bind (av1Entry av01 es) (content pcr es) (mapOf av01) ∙ sym (listed-map pcr es)
+lists-map pcr (passed es) = bind-bind (av1Entry current es) (content pcr es) (mapOf current) ∙ sym (listed-map pcr es)
 lists-map pcr (refused number place) = refl
 
 pub section-map : (program mapPid : ℕ) (s : Bytes)
-    → mapped av01 (readPmt av01 program mapPid s) ≡ (given 26 (commonWrong 2 16 s) >> (given 26 (not (eqb (tableIdExtension s) program)) >> bodyMap mapPid s))
+    → mapped current (readPmt current program mapPid s) ≡ (given 26 (commonWrong 2 16 s) >> (given 26 (not (eqb (tableIdExtension s) program)) >> bodyMap mapPid s))
 unfolding mapped readPmt bodyMap listRead
 section-map program mapPid s =
-    let g : MapContent → Verdict ProgramMap = λ m. passed (mapOf av01 m) in
+    let g : MapContent → Verdict ProgramMap = λ m. passed (mapOf current m) in
     let common = given 26 (commonWrong 2 16 s) in
     let number = given 26 (not (eqb (tableIdExtension s) program)) in
     let info = given 26 (ltb (length (upToCrc 12 s)) (programInfoLength s)) in

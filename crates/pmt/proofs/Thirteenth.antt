@@ -14,6 +14,7 @@ use Rattle.lists.specs.Bytes.{byte}
 use Rattle.lists.proofs.Tests.{or-neither}
 use Rattle.refusal.specs.Verdict.{passed, refused}
 use Rattle.refusal.proofs.Verdicts.{pass-on, go-on, stop, passed-then, passed-after, passed-same, given-passed, never}
+use Rattle.descriptor.specs.Edition.{Edition}
 use Rattle.psi.specs.Section.{commonWrong, upToCrc, tableIdExtension}
 use Rattle.pmt.specs.Pmt.{MapEntry, descriptors, entrySize, entry, pids, mostEntries, entriesAfter, entries, programInfoLength, programInfo, entryBytes, readPmt}
 use Rattle.pmt.proofs.Reading.{passes}
@@ -71,11 +72,11 @@ pub record Right (program : ℕ) (s : Bytes) : Type 0 where
   pub fits : programInfoLength s ≤ length (upToCrc 12 s)
   pub info : (ds : List Bytes) × (descriptors (programInfo s) ≡ passed ds)
 
-pub thirteenth-refused : (identifier : Bytes) (program mapPid : ℕ) (s : Bytes) → Right program s
+pub thirteenth-refused : (edition : Edition) (program mapPid : ℕ) (s : Bytes) → Right program s
     → (twelve : Bytes) (es : List MapEntry) → entries mapPid twelve ≡ passed es → length es ≡ 12
-    → (b : ℕ) (more : Bytes) → entryBytes s ≡ twelve ++ (b ∷ more) → readPmt identifier program mapPid s ≡ refused 27 0
+    → (b : ℕ) (more : Bytes) → entryBytes s ≡ twelve ++ (b ∷ more) → readPmt edition program mapPid s ≡ refused 27 0
 unfolding readPmt
-thirteenth-refused identifier program mapPid s r twelve es p n b more e =
+thirteenth-refused edition program mapPid s r twelve es p n b more e =
     let q : entries mapPid (entryBytes s) ≡ refused 27 0 =
     ap (entries mapPid) e ∙ past mostEntries mapPid [] es twelve b more p (n ∙ refl) in
     sym

@@ -8,7 +8,8 @@ use Rattle.lists.specs.Lists.{Bytes, pick}
 use Rattle.lists.specs.Bytes.{byte}
 use Rattle.refusal.specs.Verdict.{Verdict, passed, refused, _>>=_, _>>_, given}
 use Rattle.refusal.specs.Number.{numberOf}
-use Rattle.descriptor.specs.Descriptor.{av01, wrong}
+use Rattle.descriptor.specs.Descriptor.{wrong}
+use Rattle.descriptor.specs.Edition.{current}
 use Rattle.psi.specs.Section.{upToCrc}
 use Rattle.pmt.specs.Pmt.{MapEntry, descriptors, entrySize, entry, entries, isVideo, videoDescriptors, videoWrong, isRegistration, registrationFirst, registrationLater, pcrPid, programInfoLength, programInfo, entryBytes}
 use Rattle.pmt.specs.Answer.{listed, slots, videoOf}
@@ -42,19 +43,19 @@ anotherVideo Absent d = record { first = Present (byte d 2) (byte d 3) (byte d 4
 anotherVideo (Present a b c e) d = record { first = Present a b c e; wrong = true }
 
 unfoldable pub withVideo : Videos → Bytes → Videos
-withVideo v d = pick (isVideo d) (anotherVideo (v .first) d) v
+withVideo v d = pick (isVideo current d) (anotherVideo (v .first) d) v
 
 -- what 28 asks of the descriptors of a loop
 abbrev pub foundIn : List Bytes → Found
 foundIn ds =
-    record { first = registrationFirst av01 ds; later = registrationLater av01 ds; videos = videosOf (videoDescriptors ds) }
+    record { first = registrationFirst current ds; later = registrationLater current ds; videos = videosOf (videoDescriptors current ds) }
 
 -- with one more, which is the first or is not
 unfoldable pub withDescriptor : Found → Bool → Bytes → Found
 withDescriptor f first d =
     pick first
-    (record { first = isRegistration av01 d; later = f .later; videos = withVideo (f .videos) d })
-    (record { first = f .first; later = f .later || isRegistration av01 d; videos = withVideo (f .videos) d })
+    (record { first = isRegistration current d; later = f .later; videos = withVideo (f .videos) d })
+    (record { first = f .first; later = f .later || isRegistration current d; videos = withVideo (f .videos) d })
 
 abbrev pub loopSays : Loop → Verdict Found
 loopSays (Filled f) = passed f

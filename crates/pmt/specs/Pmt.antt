@@ -10,6 +10,8 @@ use Rattle.lists.specs.Lists.{Bytes, same, any, those}
 use Rattle.lists.specs.Bytes.{byte, bits, word}
 use Rattle.refusal.specs.Verdict.{Verdict, passed, refused, _>>=_, _>>_, given}
 use Rattle.descriptor.specs.Descriptor.{registration, videoTag, wrong}
+use Rattle.descriptor.specs.Edition.{Edition}
+use Rattle.packet.specs.Header.{nullPid}
 use Rattle.psi.specs.Section.{commonWrong, upToCrc, tableIdExtension}
 
 -- ---- the descriptors of a loop
@@ -61,10 +63,6 @@ entrySize s = 5 + esInfoLength s
 abbrev pub esInfo : Bytes → Bytes
 esInfo s = drop 5 (take (entrySize s) s)
 
--- the PID of null packets
-abbrev pub nullPid : ℕ
-nullPid = 0x1FFF
-
 -- "no PID twice, none equal to 0, 0x1FFF or the map PID": of the next entry's PID and those of the earlier ones
 unfoldable pub pidWrong : ℕ → List ℕ → ℕ → Bool
 pidWrong mapPid earlier pid = any (eqb pid) (0 ∷ nullPid ∷ mapPid ∷ earlier)
@@ -97,23 +95,24 @@ abbrev pub entries : ℕ → Bytes → Verdict (List MapEntry)
 entries mapPid s = entriesAfter mostEntries mapPid [] s
 
 -- ---- the AV1 entry
--- the video descriptors of an entry
-abbrev pub isVideo : Bytes → Bool
-isVideo d = eqb (byte d 0) videoTag
-
-abbrev pub videoDescriptors : List Bytes → List Bytes
-videoDescriptors loop = those isVideo loop
-
 -- 28 "the AV1 entry has two video descriptors or one refused by 40": of its video descriptors
 unfoldable pub videoWrong : List Bytes → Bool
 videoWrong [] = false
 videoWrong (d ∷ []) = wrong d
 videoWrong (d ∷ d′ ∷ more) = true
 
--- the rule of an AV1 entry, for the registration with this format_identifier, four bytes
-module _ (identifier : Bytes) where
+-- the rule of an AV1 entry, in this edition
+module _ (edition : Edition) where
+  -- "The AV1 entry has .. the registration as its first descriptor"; a video descriptor is known by its tag
   abbrev pub isRegistration : Bytes → Bool
-  isRegistration d = same d (registration identifier)
+  isRegistration d = same d (registration (edition .identifier))
+
+  abbrev pub isVideo : Bytes → Bool
+  isVideo d = edition .interpretsVideo && eqb (byte d 0) videoTag
+
+  -- the video descriptors of an entry's loop
+  abbrev pub videoDescriptors : List Bytes → List Bytes
+  videoDescriptors loop = those isVideo loop
 
   -- the registration is the first of these descriptors
   unfoldable pub registrationFirst : List Bytes → Bool
@@ -144,7 +143,7 @@ module _ (identifier : Bytes) where
   av1Entry es = given 28 (any strayRegistration es) >> oneAv1 (those isAv1 es)
 
 -- ---- the section
--- what a PMT says
+-- what a PMT says: the PCR PID, the entries in order, and which of them is the AV1 entry
 pub record MapContent : Type 0 where
   pub pcrPid : ℕ
   pub entries : List MapEntry
@@ -164,12 +163,12 @@ abbrev pub entryBytes : Bytes → Bytes
 entryBytes s = drop (programInfoLength s) (upToCrc 12 s)
 
 -- what a PMT section says, or 26, 27, 28; the fixed fields are twelve bytes, the CRC four
-unfoldable pub readPmt : Bytes → ℕ → ℕ → Bytes → Verdict MapContent
-readPmt identifier program mapPid s = do
+unfoldable pub readPmt : Edition → ℕ → ℕ → Bytes → Verdict MapContent
+readPmt edition program mapPid s = do
   given 26 (commonWrong 2 16 s)
   given 26 (not (eqb (tableIdExtension s) program))
   given 26 (ltb (length (upToCrc 12 s)) (programInfoLength s))
   descriptors (programInfo s)
   es ← entries mapPid (entryBytes s)
-  e ← av1Entry identifier es
+  e ← av1Entry edition es
   passed (record { pcrPid = pcrPid s; entries = es; av1 = e })

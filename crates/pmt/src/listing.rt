@@ -9,13 +9,11 @@ use crate::loops::Found;
 use crate::loops::Loop;
 use crate::loops::Video;
 use crate::loops::read_loop;
+use packet::NULL_PID;
 use refusal::Refusal;
 
 // The most entries of a map.
 const MOST_ENTRIES: usize = 12;
-
-// The PID of null packets.
-const NULL_PID: u16 = 0x1FFF;
 
 // The stream_type of the AV1 entry.
 const AV1_STREAM_TYPE: u8 = 0x06;

@@ -5,7 +5,7 @@ ghost use lib.ListN.{length};
 ghost use Rattle.lists.specs.Bytes.{word};
 ghost use Rattle.refusal.specs.Verdict.{refused};
 ghost use Rattle.refusal.specs.Number.{numberOf};
-ghost use Rattle.descriptor.specs.Descriptor.{av01};
+ghost use Rattle.descriptor.specs.Edition.{current};
 ghost use Rattle.pmt.specs.Pmt.{readPmt};
 ghost use Rattle.pmt.specs.Answer.{mapped, pmtSays, noMap, mapBeside};
 ghost use Rattle.pmt.specs.Parts.{listedMap, bodyMap};
@@ -119,7 +119,7 @@ fn read_body(section: &[u8], map_pid: u16) -> PmtRead
 
 // What a PMT section of this program on this map PID says; 26, 27, 28.
 pub fn read_pmt(section: &[u8], program: u16, map_pid: u16) -> PmtRead
-    ensures { λ r. ⌜ pmtSays r ≡ mapped av01 (readPmt av01 program «map_pid» (now (section .entry))) ⌝ }
+    ensures { λ r. ⌜ pmtSays r ≡ mapped current (readPmt current program «map_pid» (now (section .entry))) ⌝ }
     ensures { λ r. ⌜ r .map ≡ mapBeside (pmtSays r) ⌝ }
 {
     if psi::common_wrong(section, 2, 16) {

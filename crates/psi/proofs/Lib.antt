@@ -2,3 +2,4 @@ pub mod Fields
 pub mod Sections
 pub mod Programs
 pub mod Passed
+pub mod MapPid

@@ -1,22 +1,36 @@
--- What a packet's PID is, from the tables as the code keeps them, and whether a PCR counted. Assumes nothing.
+-- What a packet's PID is, from the tables as the code keeps them, and the last PCR that counted. Assumes nothing.
 use Prim.Native.Nat.{ℕ}
-use mathlib.Core.Bool.{Bool, true, false, not, _&&_}
 use mathlib.Core.Path.{_≡_, refl, sym, ap, _∙_}
+use mathlib.Core.List.{List, [], _∷_}
+use mathlib.Core.Option.{Option, none, some}
 use native.Mathlib.Omega.{arith}
 use borrow.Author.Tests.{eq-eqb, ne-eqb}
 use lib.Dec.{eqb}
+use lib.ListN.{getD, length-map}
 use Rattle.lists.specs.Lists.{Bytes, pick}
-use Rattle.lists.proofs.Picks.{by-eq, by-ne}
+use Rattle.lists.proofs.Picks.{by-eq, by-ne, by-true, by-false}
 use Rattle.ticks.specs.declared.Ticks27.{Ticks27}
+use Rattle.descriptor.specs.Edition.{Edition}
 use Rattle.packet.specs.declared.header.Clock.{Clock}
 use Rattle.packet.specs.declared.header.Clock.the-variants as clock
 use Rattle.packet.specs.declared.header.Header.{Header}
 use Rattle.packet.specs.declared.streams.Slot.{Slot}
-use Rattle.packet.specs.declared.streams.Slot.the-variants as slot
-use Rattle.packet.specs.Header.{pid, nullPid, pcr, pcrFlag, clockReference, fields}
-use Rattle.packet.specs.Streams.{listed, lookUp}
+use Rattle.packet.specs.declared.streams.Slot.the-variants as slots
+use Rattle.packet.specs.Header.{pid, nullPid, pcr, fields}
+use Rattle.packet.specs.Counter.{recordOf}
+use Rattle.packet.specs.Streams.{listed, lookUp, pidsIn}
+use Rattle.packet.proofs.Slots.{look-up-none}
+use Rattle.packet.proofs.Recorded.{nextSlot, look-first, look-past, look-nowhere, any-at, any-none, unrecorded-none}
+use Rattle.pmt.specs.declared.section.ProgramMap.{ProgramMap}
+use Rattle.pmt.specs.Pmt.{MapEntry, isAv1, pids}
+use Rattle.pmt.specs.Answer.{noEntry, firstOf}
+use Rattle.pmt.proofs.Passed.{slot-within, av1-pid}
+use Rattle.segment_rules.specs.State as state
+use Rattle.segment_rules.specs.State.{FirstPat, FirstPmt, isMapPid, listedAs, kindOf}
+use Rattle.segment_rules.specs.Rules.{countingPcr, lastPcr}
+use Rattle.segment_rules.specs.Named.{namedPids, Named}
 use Rattle.segment.specs.declared.state.Kind.{Kind}
-use Rattle.segment.specs.declared.state.Kind.the-variants.{Null, Pat, Map, Av1, Listed, Unlisted}
+use Rattle.segment.specs.declared.state.Kind.the-variants as slot
 use Rattle.segment.specs.declared.state.PatFound.{PatFound}
 use Rattle.segment.specs.declared.state.PatSeen.{PatSeen}
 use Rattle.segment.specs.declared.state.PatSeen.the-variants as pat
@@ -24,101 +38,182 @@ use Rattle.segment.specs.declared.state.PmtFound.{PmtFound}
 use Rattle.segment.specs.declared.state.PmtSeen.{PmtSeen}
 use Rattle.segment.specs.declared.state.PmtSeen.the-variants as pmt
 use Rattle.segment.specs.declared.tables.Tables.{Tables}
-use Rattle.segment.specs.State.{listedAs, namedAs, kindOf}
-use Rattle.segment.specs.Rules.{pcrSeenAfter}
-use Rattle.segment.specs.Parts.{Extracted, patOf, pmtOf, stateOf, listedIn}
+use Rattle.segment.specs.Parts.{streamsIn, sectionAt, patOf, TablesStand, kindSays, SlotOf}
+use Rattle.segment.proofs.Standing.{pids-stand, no-pat-yet, pat-yet, no-pmt-yet, pmt-yet, neither, named-stand}
+use Rattle.segment.proofs.Mapping.{av1-slot}
 
--- ---- among the listed PIDs
-module _ (segment : Bytes) (t : Tables) (pid : ℕ) where
-  pub no-map : t .pmt ≡ pmt.None → Unlisted ≡ listedIn segment t pid
-  unfolding listedAs
-  no-map e = ap (λ (p : PmtSeen). listedAs (pmtOf segment p) (lookUp pid (listed (t .counters .listed))) pid) (sym e)
+-- ---- the lookup among the PIDs that are named
+zero-first : (n : ℕ) (q : Option FirstPat) (m : Option FirstPmt) → n ≡ 0 → lookUp n (namedPids q m) ≡ slots.At 0
+zero-first n none m e = look-first n 0 [] e
+zero-first n (some q) none e = look-first n 0 _ e
+zero-first n (some q) (some m) e = look-first n 0 _ e
 
-  module _ (f : PmtFound) (e : t .pmt ≡ pmt.First f) (s : Slot) (l : s ≡ lookUp pid (listed (t .counters .listed))) where
-    by-slot : listedAs (pmtOf segment (pmt.First f)) s pid ≡ listedIn segment t pid
-    by-slot = ap (λ (x : Slot). listedAs (pmtOf segment (pmt.First f)) x pid) l ∙ ap (λ (p : PmtSeen). listedAs (pmtOf segment p) (lookUp pid (listed (t .counters .listed))) pid) (sym e)
+map-second : (n : ℕ) (q : FirstPat) (m : Option FirstPmt) → (n ≡ 0 → ⊥) → n ≡ q .says .«map_pid» → lookUp n (namedPids (some q) m) ≡
+    slots.At 1
+map-second n q none z e = look-past n 0 _ z ∙ ap nextSlot (look-first n (q .says .«map_pid») _ e)
+map-second n q (some m) z e = look-past n 0 _ z ∙ ap nextSlot (look-first n (q .says .«map_pid») _ e)
 
-    pub in-no-slot : s ≡ slot.None → Unlisted ≡ listedIn segment t pid
-    unfolding listedAs
-    in-no-slot h = ap (λ (x : Slot). listedAs (pmtOf segment (pmt.First f)) x pid) (sym h) ∙ by-slot
+module _ {edition : Edition} {segment : Bytes} {c : Tables} {t : state.Tables} (h : Named t) (s : TablesStand edition segment c t) (n : ℕ)
+  where
+    abbrev Is : Kind → Type 0
+    Is k = (kindSays k ≡ kindOf t n) × SlotOf c n k
 
-    pub as-av1 : (i : ℕ) → s ≡ slot.At i → pid ≡ f .«av1_pid» → Av1 i ≡ listedIn segment t pid
-    unfolding listedAs
-    as-av1 i h k = by-eq _ k refl ∙ ap (λ (x : Slot). listedAs (pmtOf segment (pmt.First f)) x pid) (sym h) ∙ by-slot
-
-    pub as-other : (i : ℕ) → s ≡ slot.At i → (pid ≡ f .«av1_pid» → ⊥) → Listed i ≡ listedIn segment t pid
-    unfolding listedAs
-    as-other i h k = by-ne _ k refl ∙ ap (λ (x : Slot). listedAs (pmtOf segment (pmt.First f)) x pid) (sym h) ∙ by-slot
-
--- ---- what a PID is
-module _ (segment : Bytes) (t : Tables) (x : Extracted) (pid : ℕ) where
-  pub kind-null : pid ≡ nullPid → Null ≡ kindOf (stateOf segment t x) pid
-  unfolding kindOf
-  kind-null h = by-eq _ h refl
-
-  module _ (n : pid ≡ nullPid → ⊥) where
-    pub kind-pat : pid ≡ 0 → Pat ≡ kindOf (stateOf segment t x) pid
+    pub kind-null : n ≡ nullPid → Is slot.Null
     unfolding kindOf
-    kind-pat h = by-ne _ n (by-eq _ h refl)
+    kind-null e = (
+      by-eq _ e refl,
+      ap (lookUp n) (pids-stand (streamsIn (c .pat) (c .pmt) (c .counters)) (t .records) (s .records))
+          ∙ unrecorded-none n (t .records) (ap (λ (m : ℕ). recordOf m (t .records)) e ∙ h .null),
+    )
 
-    module _ (z : pid ≡ 0 → ⊥) where
-      named : {k : Kind} → k ≡ namedAs (patOf segment (t .pat)) (pmtOf segment (t .pmt)) (listed (t .counters .listed)) pid → k ≡ kindOf (stateOf segment t x) pid
+    module _ (a : n ≡ nullPid → ⊥) where
+      pub kind-pat : n ≡ 0 → Is slot.Pat
       unfolding kindOf
-      named e = by-ne _ n (by-ne _ z e)
+      kind-pat e = (by-ne _ a (by-eq _ e refl), ap (lookUp n) (named-stand s h) ∙ zero-first n (t .pat) (t .pmt) e)
 
-      pub no-pat : t .pat ≡ pat.None → Unlisted ≡ kindOf (stateOf segment t x) pid
-      unfolding namedAs
-      no-pat e = named (ap (λ (p : PatSeen). namedAs (patOf segment p) (pmtOf segment (t .pmt)) (listed (t .counters .listed)) pid) (sym e))
+      module _ (b : n ≡ 0 → ⊥) where
+        neither-of : {k : state.Kind} → k ≡ pick (isMapPid (t .pat) n) state.Map (listedAs (t .pmt) n) → k ≡ kindOf t n
+        unfolding kindOf
+        neither-of e = by-ne _ a (by-ne _ b e)
 
-      module _ (f : PatFound) (e : t .pat ≡ pat.First f) where
-        pub kind-map : pid ≡ f .says .«map_pid» → Map ≡ kindOf (stateOf segment t x) pid
-        unfolding namedAs
-        kind-map h = named (by-eq _ h refl ∙ ap (λ (p : PatSeen). namedAs (patOf segment p) (pmtOf segment (t .pmt)) (listed (t .counters .listed)) pid) (sym e))
+        pub no-pat : c .pat ≡ pat.None → Is slot.Unlisted
+        unfolding isMapPid listedAs pick
+        no-pat e =
+            let q = no-pat-yet s e in
+            let m = neither s h e .0 in (
+              neither-of (rw (q, m)),
+              ap (lookUp n) (named-stand s h ∙ ap (λ (x : Option FirstPat). namedPids x (t .pmt)) q) ∙ look-past n 0 [] b ∙ ap nextSlot
+                  (look-nowhere n),
+            )
 
-        pub kind-listed : {k : Kind} → (pid ≡ f .says .«map_pid» → ⊥) → k ≡ listedIn segment t pid → k ≡ kindOf (stateOf segment t x) pid
-        unfolding namedAs
-        kind-listed h l = named (by-ne _ h l ∙ ap (λ (p : PatSeen). namedAs (patOf segment p) (pmtOf segment (t .pmt)) (listed (t .counters .listed)) pid) (sym e))
+        module _ (f : PatFound) (e : c .pat ≡ pat.First f) where
+          pub kind-map : n ≡ f .says .«map_pid» → Is slot.Map
+          unfolding isMapPid
+          kind-map k = (
+            neither-of (by-true _ (ap (λ (x : Option FirstPat). isMapPid x n) (pat-yet s f e) ∙ eq-eqb n (f .says .«map_pid») k) refl),
+            ap (lookUp n) (named-stand s h ∙ ap (λ (x : Option FirstPat). namedPids x (t .pmt)) (pat-yet s f e)) ∙ map-second n
+                (record { section = sectionAt segment (f .at) (f .size); says = f .says }) (t .pmt) b k,
+          )
 
--- ---- whether a PCR counted
-clock-by : (a b : Bool) (t : Clock) → pick a clock.None (pick b t clock.None) ≡ clock.None → (c : Ticks27) → t ≡ clock.Pcr c → (not a && b) ≡ false
-unfolding pick
-clock-by true b t e c h = refl
-clock-by false true t e c h = let z : clock.None ≡ clock.Pcr c = sym e ∙ h in let y : _≡_ {A = ℕ} 0 1 = cc in absurd (omega arith)
-clock-by false false t e c h = refl
+          pub kind-listed : (k : Kind) → (n ≡ f .says .«map_pid» → ⊥) → (kindSays k ≡ listedAs (t .pmt) n) × SlotOf c n k → Is k
+          unfolding isMapPid
+          kind-listed k d l = (
+            neither-of (by-false _ (ap (λ (x : Option FirstPat). isMapPid x n) (pat-yet s f e) ∙ ne-eqb n (f .says .«map_pid») d)
+                (l .0)),
+            l .1,
+          )
 
-clock-seen : (a b : Bool) (t : Clock) (c : Ticks27) → pick a clock.None (pick b t clock.None) ≡ clock.Pcr c → (not a && b) ≡ true
-unfolding pick
-clock-seen true b t c e = let y : _≡_ {A = ℕ} 0 1 = cc in absurd (omega arith)
-clock-seen false true t c e = refl
-clock-seen false false t c e = let y : _≡_ {A = ℕ} 0 1 = cc in absurd (omega arith)
+    -- ---- among the listed PIDs
+    module _ (f : PatFound) (e : c .pat ≡ pat.First f) (b : n ≡ 0 → ⊥) (d : n ≡ f .says .«map_pid» → ⊥) where
+      pub no-map : c .pmt ≡ pmt.None → (kindSays slot.Unlisted ≡ listedAs (t .pmt) n) × SlotOf c n slot.Unlisted
+      unfolding listedAs
+      no-map k =
+          let m = no-pmt-yet s k in (
+            ap (λ (x : Option FirstPmt). listedAs x n) (sym m),
+            ap (lookUp n) (named-stand s h ∙ ap (λ (x : Option FirstPat). namedPids x (t .pmt)) (pat-yet s f e) ∙ ap
+                (namedPids (patOf segment (pat.First f))) m)
+                ∙ look-past n 0 _ b ∙ ap nextSlot (look-past n (f .says .«map_pid») [] d ∙ ap nextSlot (look-nowhere n)),
+          )
 
-and-assoc-three : (a b c : Bool) → ((a && b) && c) ≡ (a && (b && c))
-and-assoc-three true b c = refl
-and-assoc-three false b c = refl
+      module _ (g : PmtFound) (k : c .pmt ≡ pmt.First g) where
+        abbrev the-map : FirstPmt
+        the-map = pmt-yet s g k .0
 
-module _ (segment p : Bytes) (t : Tables) (h : Header) (e : h ≡ fields p) where
-  pub seen-before : t .«pcr_seen» ≡ true → true ≡ pcrSeenAfter p (t .«pcr_seen») (pmtOf segment (t .pmt))
-  seen-before s = rw s
+        abbrev entries : List MapEntry
+        entries = the-map .says .entries
 
-  module _ (s : t .«pcr_seen» ≡ false) where
-    pub no-map-yet : t .pmt ≡ pmt.None → false ≡ pcrSeenAfter p (t .«pcr_seen») (pmtOf segment (t .pmt))
-    no-map-yet m = rw (s, m)
+        all-named : pidsIn (streamsIn (c .pat) (c .pmt) (c .counters)) ≡ 0 ∷ f .says .«map_pid» ∷ pids entries
+        all-named =
+            named-stand s h ∙ ap (λ (x : Option FirstPat). namedPids x (t .pmt)) (pat-yet s f e)
+            ∙ ap (namedPids (patOf segment (pat.First f))) (pmt-yet s g k .1)
 
-    module _ (f : PmtFound) (m : t .pmt ≡ pmt.First f) where
-      after : pcrSeenAfter p (t .«pcr_seen») (pmtOf segment (t .pmt)) ≡ (eqb (pid p) (f .«pcr_pid») && (not (eqb (pid p) nullPid) && pcrFlag p))
-      after = rw (s, m) (and-assoc-three (eqb (pid p) (f .«pcr_pid»)) (not (eqb (pid p) nullPid)) (pcrFlag p))
+        listed-pids : pidsIn (listed (c .counters .listed)) ≡ pids entries
+        listed-pids = behind (sym (ap (λ (x : List ℕ). x) (go (c .pat) (c .pmt) e k)) ∙ all-named)
+          where
+            behind : {a b x y : ℕ} {l m : List ℕ} → _≡_ {A = List ℕ} (a ∷ b ∷ l) (x ∷ y ∷ m) → l ≡ m
+            behind z = cc
 
-      pub another-pid : (h .pid ≡ f .«pcr_pid» → ⊥) → false ≡ pcrSeenAfter p (t .«pcr_seen») (pmtOf segment (t .pmt))
-      another-pid n = sym (after ∙ rw (ne-eqb (pid p) (f .«pcr_pid») (λ q. n (ap (λ (x : Header). x .pid) e ∙ q))))
+            go : (q : PatSeen) (m : PmtSeen) → q ≡ pat.First f → m ≡ pmt.First g
+                → pidsIn (streamsIn q m (c .counters)) ≡ c .counters .pat .pid ∷ c .counters .map .pid ∷ pidsIn
+                (listed (c .counters .listed))
+            go pat.None m x y = let z : _≡_ {A = ℕ} 0 1 = cc in absurd (omega arith)
+            go (pat.First _) pmt.None x y = let z : _≡_ {A = ℕ} 0 1 = cc in absurd (omega arith)
+            go (pat.First _) (pmt.First _) x y = refl
 
-      module _ (q : h .pid ≡ f .«pcr_pid») where
-        here : pcrSeenAfter p (t .«pcr_seen») (pmtOf segment (t .pmt)) ≡ (not (eqb (pid p) nullPid) && pcrFlag p)
-        here = after ∙ rw (eq-eqb (pid p) (f .«pcr_pid») (sym (ap (λ (x : Header). x .pid) e) ∙ q))
+        module _ (l : Slot) (looked : l ≡ lookUp n (pidsIn (listed (c .counters .listed)))) where
+          in-entries : lookUp n (pids entries) ≡ l
+          in-entries = sym (looked ∙ ap (lookUp n) listed-pids)
 
-        pub with-clock : (c : Ticks27) → h .pcr ≡ clock.Pcr c → true ≡ pcrSeenAfter p (t .«pcr_seen») (pmtOf segment (t .pmt))
-        unfolding pcr
-        with-clock c k = sym (here ∙ clock-seen (eqb (pid p) nullPid) (pcrFlag p) (clockReference p) c (sym (ap (λ (x : Header). x .pcr) e) ∙ k))
+          in-all : lookUp n (pidsIn (streamsIn (c .pat) (c .pmt) (c .counters))) ≡ nextSlot (nextSlot l)
+          in-all =
+              ap (lookUp n) all-named ∙ look-past n 0 _ b ∙ ap nextSlot (look-past n (f .says .«map_pid») (pids entries) d)
+              ∙ ap (λ (x : Slot). nextSlot (nextSlot x)) in-entries
 
-        pub without-clock : h .pcr ≡ clock.None → false ≡ pcrSeenAfter p (t .«pcr_seen») (pmtOf segment (t .pmt))
-        unfolding pcr
-        without-clock k = sym (here ∙ clock-by (eqb (pid p) nullPid) (pcrFlag p) (clockReference p) (sym (ap (λ (x : Header). x .pcr) e) ∙ k) _ refl)
+          seen-as : {x : state.Kind} → x ≡ listedAs (some the-map) n → x ≡ listedAs (t .pmt) n
+          seen-as z = z ∙ ap (λ (m : Option FirstPmt). listedAs m n) (sym (pmt-yet s g k .1))
+
+          pub in-no-slot : l ≡ slots.None → (kindSays slot.Unlisted ≡ listedAs (t .pmt) n) × SlotOf c n slot.Unlisted
+          unfolding listedAs
+          in-no-slot z =
+              let nowhere = in-entries ∙ z in
+              let one = pmt-yet s g k .2 .one in
+              let within = slot-within edition entries (the-map .says .av1) one in
+              let other : n ≡ the-map .says .av1 .pid → ⊥ =
+              λ y. look-up-none n (pids entries) nowhere (firstOf (isAv1 edition) entries)
+              (omega (arith, within, length-map entries (λ (x : MapEntry). x .pid)))
+              (av1-pid edition entries (the-map .says .av1) one ∙ sym y) in (
+                seen-as (by-ne _ other (by-false _ (any-none n (pids entries) nowhere) refl)),
+                in-all ∙ ap
+                    (λ (x : Slot). nextSlot (nextSlot x)) z,
+              )
+
+          module _ (i : ℕ) (z : l ≡ slots.At i) (r : ℕ) (pidThere : r ≡ getD (c .map .entries) (c .map .av1) noEntry .pid) where
+            av1-there : r ≡ the-map .says .av1 .pid
+            av1-there =
+                pidThere ∙ ap (λ (x : ProgramMap). getD (x .entries) (x .av1) noEntry .pid) (pmt-yet s g k .2 .says)
+                ∙ av1-slot edition entries (the-map .says .av1) (pmt-yet s g k .2 .one)
+
+            pub as-av1 : n ≡ r → (kindSays (slot.Av1 i) ≡ listedAs (t .pmt) n) × SlotOf c n (slot.Av1 i)
+            unfolding listedAs
+            as-av1 y = (seen-as (by-eq _ (y ∙ av1-there) refl), in-all ∙ ap (λ (x : Slot). nextSlot (nextSlot x)) z)
+
+            pub as-other : (n ≡ r → ⊥) → (kindSays (slot.Listed i) ≡ listedAs (t .pmt) n) × SlotOf c n (slot.Listed i)
+            unfolding listedAs
+            as-other y = (
+              seen-as (by-ne _ (λ w. y (w ∙ sym av1-there)) (by-true _ (any-at n (pids entries) i (in-entries ∙ z)) refl)),
+              in-all ∙ ap (λ (x : Slot). nextSlot (nextSlot x)) z,
+            )
+
+-- ---- the last PCR that counted
+module _ {edition : Edition} {segment : Bytes} {c : Tables} {t : state.Tables} (p : Bytes) (h : Header) (e : h ≡ fields p)
+    (s : TablesStand edition segment c t) where
+  abbrev last : Clock
+  last = lastPcr (t .pcr) (countingPcr (t .pmt) p)
+
+  as-before : countingPcr (t .pmt) p ≡ clock.None → c .pcr ≡ last
+  as-before k = s .pcr ∙ ap (lastPcr (t .pcr)) (sym k)
+
+  pub no-map-yet : c .pmt ≡ pmt.None → c .pcr ≡ last
+  unfolding countingPcr
+  no-map-yet k = as-before (ap (λ (m : Option FirstPmt). countingPcr m p) (no-pmt-yet s k))
+
+  module _ (g : PmtFound) (k : c .pmt ≡ pmt.First g) where
+    pcr-pid : c .map .«pcr_pid» ≡ pmt-yet s g k .0 .says .pcrPid
+    pcr-pid = ap (λ (x : ProgramMap). x .«pcr_pid») (pmt-yet s g k .2 .says)
+
+    counts-by : countingPcr (t .pmt) p ≡ pick (eqb (pid p) (pmt-yet s g k .0 .says .pcrPid)) (pcr p) clock.None
+    unfolding countingPcr
+    counts-by = ap (λ (m : Option FirstPmt). countingPcr m p) (pmt-yet s g k .1)
+
+    pub another-pid : (h .pid ≡ c .map .«pcr_pid» → ⊥) → c .pcr ≡ last
+    another-pid n = as-before (counts-by ∙ sym (by-ne _ (λ z. n (ap (λ (x : Header). x .pid) e ∙ z ∙ sym pcr-pid)) refl))
+
+    module _ (q : h .pid ≡ c .map .«pcr_pid») where
+      here : countingPcr (t .pmt) p ≡ h .pcr
+      here = counts-by ∙ sym (by-eq _ (sym (ap (λ (x : Header). x .pid) e) ∙ q ∙ pcr-pid) (ap (λ (x : Header). x .pcr) e))
+
+      pub with-clock : (r : Clock) (x : Ticks27) → h .pcr ≡ clock.Pcr x → r ≡ clock.Pcr x → r ≡ last
+      with-clock r x z y = y ∙ sym (ap (lastPcr (t .pcr)) (here ∙ z))
+
+      pub without-clock : h .pcr ≡ clock.None → c .pcr ≡ last
+      without-clock z = as-before (here ∙ z)

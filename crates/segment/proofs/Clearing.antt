@@ -7,7 +7,7 @@ use native.Mathlib.Omega.{arith}
 use lib.ListN.{length, set, drop, replicate, length-set}
 use lib.Seq.{drop-length}
 use borrow.Author.Fill.{fill-more}
-use Rattle.segment.specs.Check.{zeros}
+use Rattle.segment_rules.specs.Check.{zeros}
 
 pub record Cleared (out₀ : List ℕ) (i : ℕ) (out : List ℕ) : Type 0 where
   pub within : i ≤ length out₀

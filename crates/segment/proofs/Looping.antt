@@ -1,68 +1,155 @@
--- The loop over the packets, from the steps of the code. Assumes nothing.
-use Prim.Native.Nat.{ℕ, _+_, _/_, _%_, _≤_, _<_}
+-- The loop over the packets: k packets have passed, and the run of the rest from here is the whole run (`Running`). Assumes nothing.
+use Prim.Native.Nat.{ℕ, zero, suc, _+_, _*_, _/_, _%_, _≤_, _<_}
 use mathlib.Core.Bool.{false, not, _||_}
-use mathlib.Core.Path.{_≡_, sym, ap, subst, _∙_}
-use mathlib.Core.List.{List}
+use mathlib.Core.Path.{_≡_, refl, sym, ap, subst, _∙_}
+use mathlib.Core.List.{[], _∷_}
+use native.Mathlib.Omega.{arith}
+use native.Mathlib.Nat.{not-suc-le-zero, le-of-suc-le-suc}
+use native.Mathlib.Numerals.{add-one}
 use borrow.Author.Tests.{ltb-false}
 use lib.Dec.{eqb, ltb}
-use lib.ListN.{length}
-use Rattle.lists.specs.Lists.{Bytes}
+use lib.ListN.{length, getD, take, drop, drop-of-length-le}
+use lib.Seq.{drop-cons, drop-drop}
+use Rattle.lists.specs.Lists.{Bytes, pick}
 use Rattle.lists.proofs.Tests.{or-neither}
-use Rattle.refusal.specs.Number.{refusedBy}
+use Rattle.refusal.specs.Verdict.{Verdict, passed, _>>=_}
 use Rattle.refusal.specs.declared.Refused.{Refused}
-use Rattle.packet.specs.Header.{packetLength}
-use Rattle.segment.specs.declared.state.Kind.{Kind}
-use Rattle.segment.specs.declared.state.Outcome.{Outcome}
+use Rattle.descriptor.specs.Edition.{Edition}
+use Rattle.packet.specs.Header.{pid, packetLength}
+use Rattle.packet.specs.Counter.{recordOf}
+use Rattle.segment_rules.specs.declared.Totals.{Totals}
+use Rattle.segment_rules.specs.State as state
+use Rattle.segment_rules.specs.State.{State, fresh, noneYet, counting, packetCount, kindOf}
+use Rattle.segment_rules.specs.Rules.{packetRules}
+use Rattle.packet.specs.Header.{packetsOf, packets}
+use Rattle.segment_rules.specs.Check.{Progress, Outputs, roomsOf, start, step, run, segmentLengthWrong}
+use Rattle.segment_rules.specs.Named.{Named}
+use Rattle.segment_rules.proofs.Keeping.{Holds}
+use Rattle.segment_rules.proofs.Naming.{packet-named}
+use Rattle.segment_rules.proofs.Running.{counting-one, length-packets}
 use Rattle.segment.specs.declared.state.Outcome.the-variants as outcome
-use Rattle.segment.specs.declared.state.Totals.{Totals}
 use Rattle.segment.specs.declared.tables.Tables.{Tables}
 use Rattle.segment.specs.declared.extraction.Extraction.{Extraction}
 use Rattle.segment.specs.declared.packets.Stepped.{Stepped}
 use Rattle.segment.specs.declared.whole.Ran.{Ran}
-use Rattle.segment.specs.State.{noneYet, counting}
-use Rattle.segment.specs.Check.{Outputs, roomsOf, start, run, packets, segmentLengthWrong}
-use Rattle.segment.specs.Parts.{stateOf, freshTables, freshExtraction, Steps, RunsBy}
-use Rattle.segment.proofs.Running.{Running, running-start, running-next, running-refused, running-end}
-use Rattle.segment.proofs.Stepping.{step-passed, step-refused}
+use Rattle.segment.specs.Parts.{Turns, freshTables, kindSays, freshExtraction, packetAt, StateStands, PacketTurn, RunTurn}
+use Rattle.segment.proofs.Turning.{turn-refused, refused-turn, passed-turn}
+use Rattle.segment.proofs.Standing.{tables-start}
+use Rattle.segment.proofs.Holding.{units-start}
 
 -- "over 65,535 packets" is one of the parts of 20
 pub count-within : (s : Bytes) → segmentLengthWrong s ≡ false → length s / packetLength ≤ 65535
 unfolding segmentLengthWrong
-count-within s e = ltb-false 65535 (length s / packetLength) (or-neither (eqb (length s) 0 || not (eqb (length s % packetLength) 0)) (ltb 65535 (length s / packetLength)) e .1)
+count-within s e =
+    ltb-false 65535 (length s / packetLength) (or-neither (eqb (length s) 0 || not (eqb (length s % packetLength) 0))
+    (ltb 65535 (length s / packetLength)) e .1)
 
-pub begins : (segment : Bytes) (before : Outputs) (t : Tables) (e : Extraction) (n : Totals) → t ≡ freshTables → e ≡ freshExtraction → n ≡ noneYet
-    → Running segment before t e n 0 (before .bytes) (before .lens) (before .times)
-begins segment before t e n f g h =
-    subst (λ (y : Tables). Running segment before y e n 0 (before .bytes) (before .lens) (before .times)) (sym f)
-    (subst (λ (y : Extraction). Running segment before freshTables y n 0 (before .bytes) (before .lens) (before .times)) (sym g)
-    (subst (λ (y : Totals). Running segment before freshTables freshExtraction y 0 (before .bytes) (before .lens) (before .times)) (sym h) (running-start segment before)))
+packets-at : (n k : ℕ) (s : Bytes) → k < n → getD (packetsOf n s) k [] ≡ packetAt s k
+unfolding packetsOf
+packets-at zero k s h = absurd (not-suc-le-zero h)
+packets-at (suc n) zero s h = refl
+packets-at (suc n) (suc k) s h =
+    let j : 188 + k * 188 ≡ suc k * 188 = omega arith in
+    packets-at n k (drop packetLength s) (le-of-suc-le-suc h) ∙ ap (take packetLength)
+    (drop-drop (k * 188) 188 s ∙ ap (λ (m : ℕ). drop m s) j)
 
-module _ (segment : Bytes) (before : Outputs) (tables : Tables) (e : Extraction) (totals : Totals) (k : ℕ) (out lens times : List ℕ)
-    (inv : Running segment before tables e totals k out lens times) (h : k < length segment / packetLength) (r : Stepped) (out′ lens′ times′ : List ℕ)
-    (s : Steps segment k before (stateOf segment tables (inv .extracted)) r out′ lens′ times′) where
-  pub goes-on : r .outcome ≡ outcome.Passed → (n : Totals) → n ≡ counting (r .kind) totals
-      → Running segment before (r .tables) (r .extraction) n (k + 1) out′ lens′ times′
-  goes-on w n c =
-      let g = step-passed segment k before (stateOf segment tables (inv .extracted)) r out′ lens′ times′ w s in
-      subst (λ (y : Totals). Running segment before (r .tables) (r .extraction) y (k + 1) out′ lens′ times′)
-      (sym (c ∙ ap (λ (y : Kind). counting y totals) (g .3)))
-      (running-next inv (r .tables) (r .extraction) out′ lens′ times′ (g .0) h (g .1) (g .2))
+pub record Running (edition : Edition) (segment : Bytes) (before now : Outputs) (c : Tables) (e : Extraction) (totals : Totals) (k : ℕ)
+    : Type 0 where
+  pub state : State
+  pub stands : StateStands edition segment before now c e state
+  pub named : Named (state .tables)
+  pub counts : packetCount totals ≡ k
+  pub rest : run edition (roomsOf before) start (packets segment)
+      ≡ run edition (roomsOf before) (record { index = k; state = state; totals = totals }) (drop k (packets segment))
 
-  pub stops-there : (o : Outcome) (q : Refused) → o ≡ outcome.Refused q → r .outcome ≡ o → (ran : Ran) (o₁ l₁ t₁ : List ℕ) → RunsBy o segment before ran o₁ l₁ t₁
-  stops-there o q w f ran o₁ l₁ t₁ =
-      subst (λ (y : Outcome). RunsBy y segment before ran o₁ l₁ t₁) (sym w)
-      (running-refused inv q h (step-refused segment k before (stateOf segment tables (inv .extracted)) r out′ lens′ times′ q (f ∙ w) s))
+running-start : (edition : Edition) (segment : Bytes) (before : Outputs) → Running edition segment before before freshTables freshExtraction
+    noneYet 0
+unfolding recordOf pick
+running-start edition segment before =
+    record {
+      state = fresh;
+      stands = record { tables = tables-start edition segment; extraction = units-start before };
+      named = record { patFirst = tt; pids = refl; null = refl };
+      counts = refl;
+      rest = refl;
+    }
 
-pub comes-to-end : (segment : Bytes) (before : Outputs) (tables : Tables) (e : Extraction) (totals : Totals) (k : ℕ) (out lens times : List ℕ)
-    → Running segment before tables e totals k out lens times → length segment / packetLength ≤ k
-    → RunsBy outcome.Passed segment before (record { tables = tables; extraction = e; totals = totals; outcome = outcome.Passed }) out lens times
-comes-to-end segment before tables e totals k out lens times inv h = (inv .extracted, running-end inv h, inv .stands)
+pub begins : (edition : Edition) (segment : Bytes) (before : Outputs) (c : Tables) (e : Extraction) (n : Totals) → c ≡ freshTables → e ≡
+    freshExtraction → n ≡ noneYet
+    → Running edition segment before before c e n 0
+begins edition segment before c e n f g h =
+    subst (λ (y : Tables). Running edition segment before before y e n 0) (sym f)
+    (subst (λ (y : Extraction). Running edition segment before before freshTables y n 0) (sym g)
+    (subst (λ (y : Totals). Running edition segment before before freshTables freshExtraction y 0) (sym h)
+    (running-start edition segment before)))
 
--- ---- a run, by its outcome
-pub run-passed : (segment : Bytes) (before : Outputs) (r : Ran) (out lens times : List ℕ) (o : Outcome) → o ≡ outcome.Passed → RunsBy o segment before r out lens times
-    → RunsBy outcome.Passed segment before r out lens times
-run-passed segment before r out lens times o w f = subst (λ (y : Outcome). RunsBy y segment before r out lens times) w f
+module _ (edition : Edition) (segment : Bytes) (before now : Outputs) (c : Tables) (e : Extraction) (totals : Totals) (k : ℕ)
+    (inv : Running edition segment before now c e totals k) (h : k < length segment / packetLength) where
+  abbrev here : State
+  here = inv .state
 
-pub run-stopped : (segment : Bytes) (before : Outputs) (r : Ran) (out lens times : List ℕ) (o : Outcome) (q : Refused) → o ≡ outcome.Refused q
-    → RunsBy o segment before r out lens times → run (roomsOf before) start (packets segment) ≡ refusedBy q
-run-stopped segment before r out lens times o q w f = subst (λ (y : Outcome). RunsBy y segment before r out lens times) w f
+  abbrev kind : state.Kind
+  kind = kindOf (here .tables) (pid (packetAt segment k))
+
+  abbrev stepped : Verdict State
+  stepped = packetRules edition (roomsOf before) k (packetAt segment k) kind here
+
+  abbrev then-on : Verdict State → Verdict Progress
+  then-on v =
+      (v >>= λ st. passed (record { index = k + 1; state = st; totals = counting kind totals }))
+      >>= λ g. run edition (roomsOf before) g (drop (suc k) (packets segment))
+
+  -- the run from packet k on
+  next-packet : run edition (roomsOf before) start (packets segment) ≡ then-on stepped
+  unfolding run step
+  next-packet =
+      inv .rest
+      ∙ ap (run edition (roomsOf before) (record { index = k; state = here; totals = totals }))
+      (drop-cons (packets segment) k [] (subst (λ (n : ℕ). k < n) (sym (length-packets (length segment / packetLength) segment)) h)
+      ∙ ap (λ (p : Bytes). p ∷ drop (suc k) (packets segment)) (packets-at (length segment / packetLength) k segment h))
+
+  module _ (r : Stepped) (after : Outputs) (turn : PacketTurn edition segment k c e now r after) where
+    turned : Turns (r .outcome) stepped (λ st′. StateStands edition segment before after (r .tables) (r .extraction) st′ ×
+        (kindSays (r .kind) ≡ kind))
+    turned = turn before here (inv .named) (inv .stands)
+
+    pub goes-on : r .outcome ≡ outcome.Passed → (n : Totals) → n ≡ counting (kindSays (r .kind)) totals
+        → Running edition segment before after (r .tables) (r .extraction) n (k + 1)
+    unfolding _>>=_
+    goes-on w n m =
+        let t = passed-turn stepped _ (r .outcome) w turned in
+        let all : n ≡ counting kind totals = m ∙ ap (λ (x : state.Kind). counting x totals) (t .2 .1) in
+        record {
+          state = t .0;
+          stands = t .2 .0;
+          named =
+              subst (Holds (λ (st : State). Named (st .tables))) (t .1)
+              (packet-named edition (roomsOf before) k (packetAt segment k) kind here (inv .named));
+          counts = ap packetCount all ∙ counting-one kind totals ∙ ap (λ (x : ℕ). x + 1) (inv .counts);
+          rest =
+              next-packet ∙ ap then-on (t .1)
+              ∙ ap (λ (x : Totals). run edition (roomsOf before) (record { index = k + 1; state = t .0; totals = x })
+              (drop (suc k) (packets segment))) (sym all)
+              ∙ ap (λ (x : ℕ). run edition (roomsOf before) (record { index = k + 1; state = t .0; totals = n }) (drop x (packets segment)))
+              (sym (add-one k));
+        }
+
+    pub stops-there : (q : Refused) → r .outcome ≡ outcome.Refused q → (ran : Ran) (last : Outputs) → ran .outcome ≡ r .outcome → RunTurn
+        edition segment before ran last
+    unfolding _>>=_
+    stops-there q w ran last f =
+        turn-refused (run edition (roomsOf before) start (packets segment)) _ (ran .outcome) q (f ∙ w)
+        (sym (next-packet ∙ ap then-on (refused-turn stepped _ (r .outcome) q w turned)))
+
+pub comes-to-end : (edition : Edition) (segment : Bytes) (before now : Outputs) (c : Tables) (e : Extraction) (totals : Totals) (k : ℕ)
+    → Running edition segment before now c e totals k → length segment / packetLength ≤ k
+    → RunTurn edition segment before (record { tables = c; extraction = e; totals = totals; outcome = outcome.Passed }) now
+unfolding run
+comes-to-end edition segment before now c e totals k inv h = (
+  record { index = k; state = inv .state; totals = totals },
+  inv .rest
+      ∙ ap (run edition (roomsOf before) (record { index = k; state = inv .state; totals = totals }))
+      (drop-of-length-le (packets segment) {i = k} (subst (λ (n : ℕ). n ≤ k) (sym (length-packets (length segment / packetLength) segment))
+      h)),
+  (inv .stands, refl),
+)

@@ -1,197 +1,114 @@
--- The code's places and the three outputs against what has been extracted (`Stands`): at the start, after a payload's bytes, after a unit's end. Assumes
--- nothing.
-use Prim.Native.Nat.{ℕ, suc, _+_, _*_, _≤_, _<_}
-use mathlib.Core.Path.{_≡_, refl, sym, ap, ap₂, subst, _∙_}
-use mathlib.Core.List.{List, [], _∷_, _++_, map, flatten, append-nil, append-assoc}
-use mathlib.Core.Option.{none, some}
+-- The code's records and tables stand for the definitions': the fresh ones do (`tables-start`); records behind records, and one put in its
+-- slot
+-- (`stands-append`, `stands-set`, `stands-at`); the PIDs are those that the sections name (`pids-stand`, `named-stand`). Assumes nothing.
+use Prim.Native.Nat.{ℕ, zero, suc}
+use mathlib.Core.Path.{_≡_, refl, sym, ap, _∙_}
+use mathlib.Core.List.{List, [], _∷_, _++_, map}
+use mathlib.Core.Option.{Option, none, some}
 use native.Mathlib.Omega.{arith}
-use lib.ListN.{length, drop, set, length-append, length-drop}
-use lib.Seq.{take-append-seam, drop-append-seam, drop-drop, drop-cons, set-append-seam}
-use Rattle.lists.specs.Lists.{Bytes, over, placed}
-use Rattle.segment.specs.declared.state.PesFound.{PesFound}
-use Rattle.segment.specs.declared.state.PesSeen.{PesSeen}
-use Rattle.segment.specs.declared.state.PesSeen.the-variants as seen
-use Rattle.segment.specs.declared.extraction.Extraction.{Extraction}
-use Rattle.segment.specs.State.{AccessUnit}
-use Rattle.segment.specs.Rules.{openBytes, carriedUnits, unitOf}
-use Rattle.segment.specs.Check.{Outputs, lengths, timesInTurn}
-use Rattle.segment.specs.Parts.{Extracted, openPes, pesOf, freshExtraction, unitsBegun, Fits, Stands}
+use lib.ListN.{getD, set}
+use Rattle.lists.specs.Lists.{Bytes}
+use Rattle.descriptor.specs.Edition.{Edition}
+use Rattle.packet.specs.declared.counter.Stream.{Stream}
+use Rattle.packet.specs.Counter.{StreamRecord, named, namedStream, Stands, pidsOf}
+use Rattle.packet.specs.Streams.{pidsIn}
+use Rattle.pmt.specs.declared.section.ProgramMap.{ProgramMap}
+use Rattle.segment_rules.specs.State as state
+use Rattle.segment_rules.specs.State.{FirstPat, FirstPmt, noTables}
+use Rattle.segment_rules.specs.Named.{namedPids, PatFirst, Named}
+use Rattle.segment.specs.declared.state.PatFound.{PatFound}
+use Rattle.segment.specs.declared.state.PatSeen.the-variants as pat
+use Rattle.segment.specs.declared.state.PmtFound.{PmtFound}
+use Rattle.segment.specs.declared.state.PmtSeen.{PmtSeen}
+use Rattle.segment.specs.declared.state.PmtSeen.the-variants as pmt
+use Rattle.segment.specs.declared.tables.Tables.{Tables}
+use Rattle.segment.specs.Parts.{streamsIn, RecordsStand, patOf, PmtStands, PmtSeenStands, TablesStand, freshTables}
 
--- ---- what stands over the front of an output
-pub length-over : (w b : List ℕ) → length w ≤ length b → length (over w b) ≡ length b
-length-over w b h = omega (arith, length-append w (drop (length w) b), length-drop (length w) b)
+-- ---- before the first packet
+pub tables-start : (edition : Edition) (segment : Bytes) → TablesStand edition segment freshTables noTables
+tables-start edition segment = record { pat = refl; pmt = tt; records = ((refl, refl), tt); pcr = refl }
 
--- more behind it
-pub over-more : (w v b : List ℕ) → placed (over w b) (length w) v ≡ over (w ++ v) b
-over-more w v b =
-    ap₂ (λ (x y : List ℕ). x ++ over v y) (take-append-seam w (drop (length w) b)) (drop-append-seam w (drop (length w) b))
-    ∙ ap (λ (x : List ℕ). w ++ (v ++ x)) (drop-drop (length v) (length w) b)
-    ∙ sym (append-assoc w v (drop (length w + length v) b))
-    ∙ ap (λ (n : ℕ). (w ++ v) ++ drop n b) (sym (length-append w v))
+-- ---- records
+pub stands-set : (streams : List Stream) (records : List StreamRecord) (k : ℕ) (s : Stream) (r : StreamRecord) → RecordsStand streams
+    records → Stands s r
+    → RecordsStand (set streams k s) (set records k r)
+stands-set [] [] k s r h e = tt
+stands-set [] (q ∷ records) k s r h e = absurd h
+stands-set (t ∷ streams) [] k s r h e = absurd h
+stands-set (t ∷ streams) (q ∷ records) zero s r h e = (e, h .1)
+stands-set (t ∷ streams) (q ∷ records) (suc k) s r h e = (h .0, stands-set streams records k s r (h .1) e)
 
--- one element more, which has its place
-pub over-one : (w b : List ℕ) (a : ℕ) → length w < length b → set (over w b) (length w) a ≡ over (w ++ (a ∷ [])) b
-over-one w b a h =
-    ap (λ (x : List ℕ). set (w ++ x) (length w) a) (drop-cons b (length w) 0 h)
-    ∙ set-append-seam w _ _ a
-    ∙ sym (append-assoc w (a ∷ []) (drop (suc (length w)) b))
-    ∙ ap (λ (n : ℕ). (w ++ (a ∷ [])) ++ drop n b) e
-  where
-    e : suc (length w) ≡ length (w ++ (a ∷ []))
-    e = omega (arith, length-append w (a ∷ []))
+pub stands-at : (streams : List Stream) (records : List StreamRecord) (k : ℕ) → RecordsStand streams records
+    → Stands (getD streams k (namedStream 0)) (getD records k (named 0))
+stands-at [] [] k h = (refl, refl)
+stands-at [] (q ∷ records) k h = absurd h
+stands-at (t ∷ streams) [] k h = absurd h
+stands-at (t ∷ streams) (q ∷ records) zero h = h .0
+stands-at (t ∷ streams) (q ∷ records) (suc k) h = stands-at streams records k (h .1)
 
--- ---- units, with one more at the end
-flatten-last : {A : Type 0} (f : A → List ℕ) (l : List A) (a : A) → flatten (map f (l ++ (a ∷ []))) ≡ flatten (map f l) ++ f a
-unfolding flatten
-flatten-last f [] a = append-nil (f a)
-flatten-last f (b ∷ l) a = ap (λ (x : List ℕ). f b ++ x) (flatten-last f l a) ∙ sym (append-assoc (f b) (flatten (map f l)) (f a))
+pub stands-append : (a b : List Stream) (x y : List StreamRecord) → RecordsStand a x → RecordsStand b y → RecordsStand (a ++ b) (x ++ y)
+stands-append [] b [] y h k = k
+stands-append [] b (r ∷ x) y h k = absurd h
+stands-append (s ∷ a) b [] y h k = absurd h
+stands-append (s ∷ a) b (r ∷ x) y h k = (h .0, stands-append a b x y (h .1) k)
 
-map-last : {A : Type 0} (f : A → ℕ) (l : List A) (a : A) → map f (l ++ (a ∷ [])) ≡ map f l ++ (f a ∷ [])
-map-last f [] a = refl
-map-last f (b ∷ l) a = ap (λ (x : List ℕ). f b ∷ x) (map-last f l a)
+-- those of PIDs that have just been named
+pub stands-named : (pids : List ℕ) → RecordsStand (map namedStream pids) (map named pids)
+stands-named [] = tt
+stands-named (n ∷ pids) = ((refl, refl), stands-named pids)
 
-length-times : (l : List AccessUnit) → length (timesInTurn l) ≡ 2 * length l
-unfolding flatten
-length-times [] = refl
-length-times (u ∷ l) = omega (arith, length-times l)
+-- the PIDs
+pub pids-stand : (streams : List Stream) (records : List StreamRecord) → RecordsStand streams records → pidsIn streams ≡ pidsOf records
+pids-stand [] [] h = refl
+pids-stand [] (q ∷ records) h = absurd h
+pids-stand (t ∷ streams) [] h = absurd h
+pids-stand (t ∷ streams) (q ∷ records) h =
+    ap (λ (n : ℕ). n ∷ pidsIn streams) (h .0 .0) ∙ ap (λ (l : List ℕ). q .pid ∷ l) (pids-stand streams records (h .1))
 
-length-lengths : (l : List AccessUnit) → length (lengths l) ≡ length l
-length-lengths [] = refl
-length-lengths (u ∷ l) = ap suc (length-lengths l)
+-- ---- which sections were seen
+module _ (edition : Edition) (segment : Bytes) where
+  no-map-seen : (q : PmtSeen) (map : ProgramMap) (m : Option FirstPmt) → q ≡ pmt.None → PmtSeenStands edition segment q map m → m ≡ none
+  no-map-seen pmt.None map none e h = refl
+  no-map-seen pmt.None map (some m) e h = absurd h
+  no-map-seen (pmt.First f) map m e h = let z : _≡_ {A = ℕ} 0 1 = cc in absurd (omega arith)
 
--- ---- the outputs keep their lengths
-module _ {before : Outputs} {x : Extracted} {e : Extraction} {out lens times : List ℕ} (s : Stands before x e out lens times) where
-  pub written : e .start + e .bytes ≡ length (carriedUnits (x .units) ++ openBytes (x .pes))
-  written = omega (arith, s .start, s .bytes, length-append (carriedUnits (x .units)) (openBytes (x .pes)))
+  map-seen : (q : PmtSeen) (map : ProgramMap) (m : Option FirstPmt) (f : PmtFound) → q ≡ pmt.First f → PmtSeenStands edition segment q map m
+      → (first : FirstPmt) × (m ≡ some first) × PmtStands edition segment f map first
+  map-seen pmt.None map m f e h = let z : _≡_ {A = ℕ} 0 1 = cc in absurd (omega arith)
+  map-seen (pmt.First g) map none f e h = absurd h
+  map-seen (pmt.First g) map (some first) f e h = let k : g ≡ f = cc in (first, refl, rw (sym k) h)
 
-  closed-units : length (x .units) ≤ unitsBegun (e .pes) (e .units)
-  closed-units = subst (λ (n : ℕ). n ≤ unitsBegun (e .pes) (e .units)) (s .units) (begun (e .pes) (e .units))
-    where
-      begun : (p : PesSeen) (n : ℕ) → n ≤ unitsBegun p n
-      begun seen.Closed n = omega arith
-      begun (seen.Open f) n = omega arith
+  none-seen : (q : PmtSeen) (map : ProgramMap) (m : Option FirstPmt) → m ≡ none → PmtSeenStands edition segment q map m → q ≡ pmt.None
+  none-seen pmt.None map m e h = refl
+  none-seen (pmt.First f) map none e h = absurd h
+  none-seen (pmt.First f) map (some m) e h = let z : _≡_ {A = ℕ} 0 1 = cc in absurd (omega arith)
 
-  pub same-bytes : length out ≡ length (before .bytes)
-  same-bytes = ap length (s .outBytes) ∙ length-over (carriedUnits (x .units) ++ openBytes (x .pes)) (before .bytes) (omega (arith, written, s .fits .inBytes))
+-- a PMT comes after a PAT
+pat-before : (q : Option FirstPat) (m : Option FirstPmt) → q ≡ none → PatFirst q m → m ≡ none
+pat-before none none e f = refl
+pat-before none (some m) e f = absurd f
+pat-before (some q) m e f = let z : _≡_ {A = ℕ} 0 1 = cc in absurd (omega arith)
 
-  pub same-lens : length lens ≡ length (before .lens)
-  same-lens = ap length (s .outLens) ∙ length-over (lengths (x .units)) (before .lens) (omega (arith, length-lengths (x .units), closed-units, s .fits .inLens))
+module _ {edition : Edition} {segment : Bytes} {c : Tables} {t : state.Tables} (s : TablesStand edition segment c t) where
+  pub no-pat-yet : c .pat ≡ pat.None → t .pat ≡ none
+  no-pat-yet e = s .pat ∙ ap (patOf segment) e
 
-  pub same-times : length times ≡ length (before .times)
-  same-times = ap length (s .outTimes) ∙ length-over (timesInTurn (x .units)) (before .times) (omega (arith, length-times (x .units), closed-units, s .fits .inTimes))
+  pub pat-yet : (f : PatFound) → c .pat ≡ pat.First f → t .pat ≡ patOf segment (pat.First f)
+  pat-yet f e = s .pat ∙ ap (patOf segment) e
 
-  -- the code's places lie within the outputs
-  pub stands-fits : Fits e out lens times
-  stands-fits =
-      record {
-        inBytes = omega (arith, same-bytes, s .fits .inBytes);
-        inLens = omega (arith, same-lens, s .fits .inLens);
-        inTimes = omega (arith, same-times, s .fits .inTimes);
-      }
+  pub no-pmt-yet : c .pmt ≡ pmt.None → t .pmt ≡ none
+  no-pmt-yet e = no-map-seen edition segment (c .pmt) (c .map) (t .pmt) e (s .pmt)
 
--- ---- at the start
-pub stands-start : (before : Outputs) → Stands before (record { pes = none; units = [] }) freshExtraction (before .bytes) (before .lens) (before .times)
-unfolding flatten
-stands-start before =
-    record {
-      pes = refl;
-      units = refl;
-      start = refl;
-      bytes = refl;
-      outBytes = refl;
-      outLens = refl;
-      outTimes = refl;
-      fits = record { inBytes = omega arith; inLens = omega arith; inTimes = omega arith };
-    }
+  pub pmt-yet : (f : PmtFound) → c .pmt ≡ pmt.First f → (m : FirstPmt) × (t .pmt ≡ some m) × PmtStands edition segment f (c .map) m
+  pmt-yet f e = map-seen edition segment (c .pmt) (c .map) (t .pmt) f e (s .pmt)
 
--- ---- a payload's bytes
-module _ {before : Outputs} {x : Extracted} {e : Extraction} {out lens times : List ℕ} (s : Stands before x e out lens times) (w : Bytes) where
-  -- in the output behind what stands there
-  put-behind : placed out (e .start + e .bytes) w ≡ over ((carriedUnits (x .units) ++ openBytes (x .pes)) ++ w) (before .bytes)
-  put-behind =
-      ap₂ (λ (o : List ℕ) (n : ℕ). placed o n w) (s .outBytes) (written s)
-      ∙ over-more (carriedUnits (x .units) ++ openBytes (x .pes)) w (before .bytes)
+  module _ (h : Named t) where
+    -- before the PAT there is no PMT
+    pub neither : c .pat ≡ pat.None → (t .pmt ≡ none) × (c .pmt ≡ pmt.None)
+    neither e =
+        let m = pat-before (t .pat) (t .pmt) (no-pat-yet e) (h .patFirst) in
+        (m, none-seen edition segment (c .pmt) (c .map) (t .pmt) m (s .pmt))
 
-  -- a PES opens with them, and there is room for its length and times
-  pub stands-opened : (f : PesFound) → e .pes ≡ seen.Closed → e .start + e .bytes + length w ≤ length (before .bytes) → e .units + 1 ≤ length (before .lens)
-      → 2 * (e .units + 1) ≤ length (before .times)
-      → Stands before (record { pes = some (openPes f w); units = x .units })
-      (record { pes = seen.Open f; units = e .units; start = e .start + e .bytes; bytes = length w }) (placed out (e .start + e .bytes) w) lens times
-  stands-opened f c b l t =
-      let none-open : openBytes (x .pes) ≡ [] = ap openBytes (s .pes ∙ ap (pesOf (openBytes (x .pes))) c) in
-      let same : carriedUnits (x .units) ++ openBytes (x .pes) ≡ carriedUnits (x .units) =
-      ap (λ (o : Bytes). carriedUnits (x .units) ++ o) none-open ∙ append-nil (carriedUnits (x .units)) in
-      record {
-        pes = refl;
-        units = s .units;
-        start = written s ∙ ap length same;
-        bytes = refl;
-        outBytes = put-behind ∙ ap (λ (o : Bytes). over (o ++ w) (before .bytes)) same;
-        outLens = s .outLens;
-        outTimes = s .outTimes;
-        fits = record { inBytes = b; inLens = l; inTimes = t };
-      }
-
-  -- the open PES goes on with them
-  pub stands-added : (f : PesFound) → e .pes ≡ seen.Open f → e .start + e .bytes + length w ≤ length (before .bytes)
-      → Stands before (record { pes = some (openPes f (openBytes (x .pes) ++ w)); units = x .units })
-      (record { pes = seen.Open f; units = e .units; start = e .start; bytes = e .bytes + length w }) (placed out (e .start + e .bytes) w) lens times
-  stands-added f o b =
-      let room = s .fits in
-      let begun : unitsBegun (e .pes) (e .units) ≡ e .units + 1 = ap (λ (p : PesSeen). unitsBegun p (e .units)) o in
-      record {
-        pes = refl;
-        units = s .units;
-        start = s .start;
-        bytes = omega (arith, s .bytes, length-append (openBytes (x .pes)) w);
-        outBytes = put-behind ∙ ap (λ (l : Bytes). over l (before .bytes)) (append-assoc (carriedUnits (x .units)) (openBytes (x .pes)) w);
-        outLens = s .outLens;
-        outTimes = s .outTimes;
-        fits = record { inBytes = omega (arith, b); inLens = omega (arith, begun, room .inLens); inTimes = omega (arith, begun, room .inTimes) };
-      }
-
--- ---- a unit's end
-module _ {before : Outputs} {x : Extracted} {e : Extraction} {out lens times : List ℕ} (s : Stands before x e out lens times) (f : PesFound)
-    (o : e .pes ≡ seen.Open f) where
-  abbrev unit : AccessUnit
-  unit = unitOf (openPes f (openBytes (x .pes)))
-
-  begun : unitsBegun (e .pes) (e .units) ≡ e .units + 1
-  begun = ap (λ (p : PesSeen). unitsBegun p (e .units)) o
-
-  put-length : set lens (e .units) (e .bytes) ≡ over (lengths (x .units ++ (unit ∷ []))) (before .lens)
-  put-length =
-      ap₂ (λ (l : List ℕ) (n : ℕ). set l n (e .bytes)) (s .outLens) (s .units ∙ sym (length-lengths (x .units)))
-      ∙ over-one (lengths (x .units)) (before .lens) (e .bytes) (omega (arith, length-lengths (x .units), s .units, begun, s .fits .inLens))
-      ∙ ap (λ (n : ℕ). over (lengths (x .units) ++ (n ∷ [])) (before .lens)) (s .bytes)
-      ∙ ap (λ (l : List ℕ). over l (before .lens)) (sym (map-last (λ u. length (u .carried)) (x .units) unit))
-
-  put-times : set (set times (2 * e .units) (f .header .pts .0)) (2 * e .units + 1) (f .header .dts .0)
-      ≡ over (timesInTurn (x .units ++ (unit ∷ []))) (before .times)
-  put-times =
-      let p = f .header .pts .0 in
-      let d = f .header .dts .0 in
-      let t = timesInTurn (x .units) in
-      let first : 2 * e .units ≡ length t = omega (arith, s .units, length-times (x .units)) in
-      let second : 2 * e .units + 1 ≡ length (t ++ (p ∷ [])) = omega (arith, first, length-append t (p ∷ [])) in
-      ap₂ (λ (l : List ℕ) (n : ℕ). set (set l n p) (2 * e .units + 1) d) (s .outTimes) first
-      ∙ ap (λ (l : List ℕ). set l (2 * e .units + 1) d) (over-one t (before .times) p (omega (arith, first, begun, s .fits .inTimes)))
-      ∙ ap (λ (n : ℕ). set (over (t ++ (p ∷ [])) (before .times)) n d) second
-      ∙ over-one (t ++ (p ∷ [])) (before .times) d (omega (arith, second, begun, s .fits .inTimes))
-      ∙ ap (λ (l : List ℕ). over l (before .times)) (append-assoc t (p ∷ []) (d ∷ []) ∙ sym (flatten-last (λ u. u .pts .0 ∷ u .dts .0 ∷ []) (x .units) unit))
-
-  pub stands-closed : Stands before (record { pes = none; units = x .units ++ (unit ∷ []) })
-      (record { pes = seen.Closed; units = e .units + 1; start = e .start + e .bytes; bytes = 0 }) out (set lens (e .units) (e .bytes))
-      (set (set times (2 * e .units) (f .header .pts .0)) (2 * e .units + 1) (f .header .dts .0))
-  stands-closed =
-      let all : carriedUnits (x .units) ++ openBytes (x .pes) ≡ carriedUnits (x .units ++ (unit ∷ [])) = sym (flatten-last (λ u. u .carried) (x .units) unit) in
-      record {
-        pes = refl;
-        units = omega (arith, s .units, length-append (x .units) (unit ∷ []));
-        start = written s ∙ ap length all;
-        bytes = refl;
-        outBytes = s .outBytes ∙ ap (λ (l : Bytes). over l (before .bytes)) (all ∙ sym (append-nil (carriedUnits (x .units ++ (unit ∷ [])))));
-        outLens = put-length;
-        outTimes = put-times;
-        fits = record { inBytes = omega (arith, s .fits .inBytes); inLens = omega (arith, begun, s .fits .inLens); inTimes = omega (arith, begun, s .fits .inTimes) };
-      }
+    -- the PIDs of the code's records are those that the sections name
+    pub named-stand : pidsIn (streamsIn (c .pat) (c .pmt) (c .counters)) ≡ namedPids (t .pat) (t .pmt)
+    named-stand = pids-stand (streamsIn (c .pat) (c .pmt) (c .counters)) (t .records) (s .records) ∙ h .pids

@@ -1,8 +1,8 @@
--- One packet: what the calls of the code say of its header, its tables and its payload, put together. Assumes nothing.
+-- One packet: what the calls of the code say of its header, its counter, its section and its payload, put together. Assumes nothing.
 use Prim.Native.Nat.{ℕ, _+_, _-_, _*_, _≤_}
-use mathlib.Core.Bool.{Bool, true, false, _&&_}
+use mathlib.Core.Bool.{Bool, true, false}
 use mathlib.Core.Path.{_≡_, refl, sym, ap, ap₂, subst, _∙_}
-use mathlib.Core.List.{List, []}
+use mathlib.Core.List.{[]}
 use native.Mathlib.Omega.{arith}
 use borrow.Author.Tests.{ltb-true, ltb-false}
 use lib.Dec.{ltb}
@@ -10,28 +10,40 @@ use lib.ListN.{length, take, drop, length-drop, drop-of-length-le}
 use lib.Seq.{drop-drop, length-take-le}
 use Rattle.lists.specs.Lists.{Bytes, pick}
 use Rattle.lists.proofs.Parts.{drop-take}
-use Rattle.lists.proofs.Picks.{by-true, by-false}
 use Rattle.lists.proofs.Tests.{case}
 use Rattle.refusal.specs.Verdict.{Verdict, passed, _>>=_, _>>_, atPlace}
 use Rattle.refusal.specs.Number.{refusedBy}
 use Rattle.refusal.specs.declared.Refused.{Refused}
+use Rattle.descriptor.specs.Edition.{Edition}
 use Rattle.packet.specs.declared.header.Header.{Header}
 use Rattle.packet.specs.declared.header.PacketRead.{PacketRead}
 use Rattle.packet.specs.declared.header.PacketRead.the-variants as answer
 use Rattle.packet.specs.Header.{pid, fields, headerOf, packetSays, hasPayload, payload, payloadUnitStartIndicator}
 use Rattle.packet.proofs.Headers.{payload-from, passed-fields}
+use Rattle.segment_rules.specs.State as state
+use Rattle.segment_rules.specs.State.{State, kindOf, withTables}
+use Rattle.segment_rules.specs.Rules.{Rooms, inSequence, onTables, sectionRead, isAv1, clocked, checked, rules25to28, pesRules, after24, packetRules}
+use Rattle.segment_rules.specs.Check.{Outputs, roomsOf}
+use Rattle.segment_rules.specs.Named.{Named}
+use Rattle.segment_rules.proofs.Sequence.{bind-unit, bind-same, up-to-24, not-av1, no-payload}
+use Rattle.segment_rules.proofs.Keeping.{Holds}
+use Rattle.segment_rules.proofs.Naming.{checked-named, clocked-named}
 use Rattle.segment.specs.declared.state.Kind.{Kind}
 use Rattle.segment.specs.declared.state.Outcome.{Outcome}
 use Rattle.segment.specs.declared.state.Outcome.the-variants as outcome
 use Rattle.segment.specs.declared.tables.Tables.{Tables}
+use Rattle.segment.specs.declared.tables.TablesTurn.{TablesTurn}
 use Rattle.segment.specs.declared.extraction.Extraction.{Extraction}
+use Rattle.segment.specs.declared.extraction.ExtractionTurn.{ExtractionTurn}
 use Rattle.segment.specs.declared.packets.Stepped.{Stepped}
-use Rattle.segment.specs.State.{State, kindOf}
-use Rattle.segment.specs.Rules.{isAv1}
-use Rattle.segment.specs.Check.{Outputs, roomsOf}
-use Rattle.segment.specs.Parts.{Extracted, outcomeSays, placedAt, stateOf, LiesAt, EndsAt, Stands, FollowsBy, GoesBy, Goes, Steps, packetAt, payloadRule, tablesRule, readRule, packetRule}
+use Rattle.segment.specs.Parts.{Turns, placedAt, LiesAt, TablesStand, CarriesOut, kindSays, UnitsStand, PesTurn, packetAt, StateStands}
+use Rattle.segment.proofs.Turning.{turn-refused, refused-turn, passed-turn, turn-at, turn-as, turn-also, turn-then}
 
 -- ---- where the payload lies
+-- bytes that end at a place of the segment
+abbrev EndsAt : Bytes → ℕ → Bytes → Type 0
+EndsAt segment end s = (at : ℕ) × (end ≡ at + length s) × LiesAt segment at s
+
 -- what lies from a place of these bytes on ends where they end
 lies-within : (segment s : Bytes) (at k : ℕ) → k ≤ length s → LiesAt segment at s → LiesAt segment (at + k) (drop k s)
 lies-within segment s at k h l =
@@ -39,7 +51,7 @@ lies-within segment s at k h l =
     ap (drop k) l ∙ drop-take k (length s) (drop at segment) h
     ∙ ap (take (length s - k)) (drop-drop k at segment) ∙ ap (λ (n : ℕ). take n (drop (at + k) segment)) m
 
-pub rest-lies : (segment s : Bytes) (end k : ℕ) → EndsAt segment end s → LiesAt segment (end - length (drop k s)) (drop k s)
+rest-lies : (segment s : Bytes) (end k : ℕ) → EndsAt segment end s → LiesAt segment (end - length (drop k s)) (drop k s)
 rest-lies segment s end k (at, ends, l) =
     case (ltb (length s) k)
     (λ h. lies-nowhere (end - length (drop k s)) (drop-of-length-le s {i = k} (omega (arith, ltb-true (length s) k h))))
@@ -51,106 +63,189 @@ rest-lies segment s end k (at, ends, l) =
     lies-nowhere : (n : ℕ) {w : Bytes} → w ≡ [] → LiesAt segment n w
     lies-nowhere n {w} e = subst (λ (v : Bytes). LiesAt segment n v) (sym e) refl
 
--- it is the payload, where there is one
-pub rest-payload : (p : Bytes) (h : Header) (w : Bytes) → h ≡ fields p → w ≡ drop (h .payload) p → hasPayload p ≡ true → w ≡ payload p
-rest-payload p h w e f y = f ∙ ap (λ (x : Header). drop (x .payload) p) e ∙ sym (payload-from p y)
+-- the packet of an index ends 188 bytes behind where it begins
+packet-length : (segment : Bytes) (i : ℕ) → i * 188 + 188 ≤ length segment → length (packetAt segment i) ≡ 188
+packet-length segment i h = length-take-le 188 (drop (i * 188) segment) (omega (arith, length-drop (i * 188) segment))
+
+packet-ends : (segment : Bytes) (i : ℕ) → i * 188 + 188 ≤ length segment → EndsAt segment (i * 188 + 188) (packetAt segment i)
+packet-ends segment i h =
+    let n = packet-length segment i h in
+    (i * 188, ap (λ (m : ℕ). i * 188 + m) (sym n), ap (λ (m : ℕ). take m (drop (i * 188) segment)) (sym n))
+
+-- the payload as the code is lent it: within the packet, at its place of the segment, and the definition's
+module _ (segment q w : Bytes) (i k : ℕ) (h : i * 188 + 188 ≤ length segment) (lent : q ≡ packetAt segment i) (rest : w ≡ drop k q) where
+  pub payload-length : length w ≤ 188
+  payload-length = omega (arith, ap length rest, length-drop k q, ap length lent, packet-length segment i h)
+
+  pub payload-lies : LiesAt segment (i * 188 + 188 - length w) w
+  payload-lies =
+      subst (λ (v : Bytes). LiesAt segment (i * 188 + 188 - length v) v) (sym (rest ∙ ap (drop k) lent))
+      (rest-lies segment (packetAt segment i) (i * 188 + 188) k (packet-ends segment i h))
+
+pub payload-same : (p : Bytes) (h : Header) (q w : Bytes) → h ≡ fields p → q ≡ p → w ≡ drop (h .payload) q → hasPayload p ≡ true → w ≡
+    payload p
+payload-same p h q w e s f y = f ∙ ap (drop (h .payload)) s ∙ ap (λ (x : Header). drop (x .payload) p) e ∙ sym (payload-from p y)
+
+-- ---- a packet that passed 24
+av1-kind : (k : state.Kind) → isAv1 k ≡ true → k ≡ state.Av1
+av1-kind state.Null e = let z : _≡_ {A = ℕ} 0 1 = cc in absurd (omega arith)
+av1-kind state.Pat e = let z : _≡_ {A = ℕ} 0 1 = cc in absurd (omega arith)
+av1-kind state.Map e = let z : _≡_ {A = ℕ} 0 1 = cc in absurd (omega arith)
+av1-kind state.Av1 e = refl
+av1-kind state.Listed e = let z : _≡_ {A = ℕ} 0 1 = cc in absurd (omega arith)
+av1-kind state.Unlisted e = let z : _≡_ {A = ℕ} 0 1 = cc in absurd (omega arith)
+
+module _ (edition : Edition) (rooms : Rooms) (i : ℕ) (p : Bytes) where
+  -- one of the AV1 PID has no section
+  no-section : (b : Bool) (st : State)
+      → (pick b (atPlace i (sectionRead edition state.Av1 (payloadUnitStartIndicator p) (payload p) (st .tables))) (passed (st .tables))
+      >>= λ t. passed (withTables t st))
+      ≡ passed st
+  unfolding sectionRead pick atPlace _>>=_
+  no-section true st = refl
+  no-section false st = refl
+
+  content-av1 : (st : State) → inSequence (after24 edition rooms i p state.Av1) st ≡ inSequence (pesRules edition rooms i p state.Av1) st
+  unfolding inSequence rules25to28 onTables _>>=_
+  content-av1 st = ap (λ (v : Verdict State). v >>= inSequence (pesRules edition rooms i p state.Av1)) (no-section (hasPayload p) st)
+
+  -- one of another PID has a section at most
+  content-section : (k : state.Kind) (st : State) → isAv1 k ≡ false → hasPayload p ≡ true → inSequence (after24 edition rooms i p k) st
+      ≡ (atPlace i (sectionRead edition k (payloadUnitStartIndicator p) (payload p) (st .tables)) >>= λ t. passed (withTables t st))
+  unfolding inSequence rules25to28 onTables pick
+  content-section k st e h =
+      bind-same (rules25to28 i p k edition st) (inSequence (pesRules edition rooms i p k)) passed (λ st1. not-av1 edition rooms i p st1 k e)
+      ∙ bind-unit (rules25to28 i p k edition st) ∙ rw h
+
+  -- without payload there is nothing
+  content-none : (k : state.Kind) (st : State) → hasPayload p ≡ false → inSequence (after24 edition rooms i p k) st ≡ passed st
+  unfolding inSequence rules25to28 onTables pick _>>=_
+  content-none k st h =
+      rw h (case (isAv1 k) (λ e. rw (av1-kind k e) (no-payload edition rooms i p st h)) (λ e. not-av1 edition rooms i p st k e))
+
+  -- a packet that passed 21, 22 and 23: its PCR and its counter, then what it carries
+  pub two-parts : (k : state.Kind) (st : State) (h : Header) → headerOf p ≡ passed h → packetRules edition rooms i p k st
+      ≡ (onTables (λ t. checked i p (clocked i p t)) st >>= inSequence (after24 edition rooms i p k))
+  unfolding packetRules _>>_ atPlace
+  two-parts k st h e = ap (λ (v : Verdict State). v >>= inSequence (after24 edition rooms i p k)) (up-to-24 i p st ∙ rw e)
+
+module _ {edition : Edition} {segment : Bytes} {before now : Outputs} {c : Tables} {e : Extraction} {st : State}
+    (s : StateStands edition segment before now c e st)
+    (i : ℕ) (p : Bytes) (h : hasPayload p ≡ true) (k : Kind) where
+  -- an AV1 payload
+  pub content-taken : (r : ExtractionTurn) (after : Outputs) → isAv1 (kindSays k) ≡ true → PesTurn before
+      (pesRules edition (roomsOf before) i p state.Av1) st r after
+      → Turns (r .outcome) (inSequence (after24 edition (roomsOf before) i p (kindSays k)) st)
+      (StateStands edition segment before after c (r .extraction))
+  content-taken r after a t =
+      turn-as (inSequence (pesRules edition (roomsOf before) i p state.Av1) st) (StateStands edition segment before after c (r .extraction))
+      _ (r .outcome)
+      (sym (content-av1 edition (roomsOf before) i p st)
+      ∙ ap (λ (x : state.Kind). inSequence (after24 edition (roomsOf before) i p x) st) (sym (av1-kind (kindSays k) a)))
+      (turn-also (inSequence (pesRules edition (roomsOf before) i p state.Av1) st)
+      (λ st′. (st′ .tables ≡ st .tables) × UnitsStand before after (r .extraction) (st′ .extraction))
+      (StateStands edition segment before after c (r .extraction)) (r .outcome) t
+      (λ st′ _ u. record { tables = subst (TablesStand edition segment c) (sym (u .0)) (s .tables); extraction = u .1 }))
+
+  -- a section
+  pub content-read : Named (st .tables) → (r : TablesTurn) (b : Bool) (w : Bytes) (o : Outcome) → isAv1 (kindSays k) ≡ false → b ≡
+      payloadUnitStartIndicator p → w ≡ payload p
+      → o ≡ placedAt i (r .outcome) → CarriesOut edition segment c r (sectionRead edition (kindSays k) b w)
+      → Turns o (inSequence (after24 edition (roomsOf before) i p (kindSays k)) st) (StateStands edition segment before now (r .tables) e)
+  content-read n r b w o a f g m t =
+      let read = sectionRead edition (kindSays k) (payloadUnitStartIndicator p) (payload p) (st .tables) in
+      let turn : Turns (r .outcome) read (TablesStand edition segment (r .tables)) =
+      turn-as _ (TablesStand edition segment (r .tables)) read (r .outcome)
+      (ap₂ (λ (x : Bool) (y : Bytes). sectionRead edition (kindSays k) x y (st .tables)) f g) (t (st .tables) n (s .tables)) in
+      subst (λ (x : Outcome). Turns x (inSequence (after24 edition (roomsOf before) i p (kindSays k)) st)
+      (StateStands edition segment before now (r .tables) e)) (sym m)
+      (turn-as _ (StateStands edition segment before now (r .tables) e) _ (placedAt i (r .outcome))
+      (sym (content-section edition (roomsOf before) i p (kindSays k) st a h))
+      (turn-then (atPlace i read) (TablesStand edition segment (r .tables)) (StateStands edition segment before now (r .tables) e)
+      (λ u. withTables u st) (placedAt i (r .outcome))
+      (turn-at read (TablesStand edition segment (r .tables)) i (r .outcome) turn)
+      (λ u _ v. record { tables = v; extraction = s .extraction })))
 
 -- ---- a packet that passed 21, 22 and 23
-module _ (segment p : Bytes) (i : ℕ) (kind : Kind) (before : Outputs) (t t′ : Tables) (x : Extracted) where
-  abbrev rule : Verdict State
-  rule = readRule i p kind (roomsOf before) (stateOf segment t x)
+module _ {edition : Edition} {segment : Bytes} {before now : Outputs} {c : Tables} {e : Extraction} {st : State}
+    (s : StateStands edition segment before now c e st)
+    (n : Named (st .tables)) (i : ℕ) (p : Bytes) (k : Kind) (h : Header) (right : headerOf p ≡ passed h) (r : TablesTurn)
+    (counts : Turns (r .outcome) (checked i p (clocked i p (st .tables))) (TablesStand edition segment (r .tables))) where
+  abbrev whole : Verdict State
+  whole = packetRules edition (roomsOf before) i p (kindSays k) st
 
-  -- the tables refused
-  pub tables-refused : (o : Outcome) (q : Refused) → o ≡ outcome.Refused q → outcomeSays o (stateOf segment t′ x) ≡ tablesRule i p kind (stateOf segment t x)
-      → (e : Extraction) (k : Kind) (out lens times : List ℕ)
-      → GoesBy o segment kind before rule (record { tables = t′; extraction = e; kind = k; outcome = o }) out lens times
-  unfolding readRule _>>=_
-  tables-refused o q w h e k out lens times =
-      subst (λ (y : Outcome). GoesBy y segment kind before rule (record { tables = t′; extraction = e; kind = k; outcome = o }) out lens times) (sym w)
-      (ap (λ (v : Verdict State). v >>= λ st1. pick (isAv1 kind && hasPayload p) (payloadRule i (roomsOf before) (payloadUnitStartIndicator p) (payload p) st1) (passed st1))
-      (sym h ∙ ap (λ (y : Outcome). outcomeSays y (stateOf segment t′ x)) w))
+  counted-then : (v : Verdict state.Tables) → checked i p (clocked i p (st .tables)) ≡ v
+      → whole ≡ ((v >>= λ t. passed (withTables t st)) >>= inSequence (after24 edition (roomsOf before) i p (kindSays k)))
+  unfolding onTables
+  counted-then v f =
+      two-parts edition (roomsOf before) i p (kindSays k) st h right
+      ∙ ap (λ (x : Verdict state.Tables). (x >>= λ t. passed (withTables t st)) >>= inSequence
+      (after24 edition (roomsOf before) i p (kindSays k))) f
 
-  module _ (o : Outcome) (w : o ≡ outcome.Passed) (h : outcomeSays o (stateOf segment t′ x) ≡ tablesRule i p kind (stateOf segment t x)) where
-    passed-tables : rule ≡ pick (isAv1 kind && hasPayload p) (payloadRule i (roomsOf before) (payloadUnitStartIndicator p) (payload p) (stateOf segment t′ x)) (passed (stateOf segment t′ x))
-    unfolding readRule _>>=_
-    passed-tables =
-        ap (λ (v : Verdict State). v >>= λ st1. pick (isAv1 kind && hasPayload p) (payloadRule i (roomsOf before) (payloadUnitStartIndicator p) (payload p) st1) (passed st1))
-        (sym h ∙ ap (λ (y : Outcome). outcomeSays y (stateOf segment t′ x)) w)
+  -- 24
+  pub counter-wrong : (q : Refused) → r .outcome ≡ outcome.Refused q → (S : State → Type 0) → Turns (r .outcome) whole S
+  unfolding _>>=_
+  counter-wrong q f S =
+      turn-refused whole S (r .outcome) q f (sym (counted-then (refusedBy q)
+      (refused-turn _ (TablesStand edition segment (r .tables)) (r .outcome) q f counts)))
 
-    -- no AV1 payload
-    pub no-payload : isAv1 kind && hasPayload p ≡ false → (e : Extraction) (out lens times : List ℕ) → Stands before x e out lens times
-        → GoesBy o segment kind before rule (record { tables = t′; extraction = e; kind = kind; outcome = o }) out lens times
-    no-payload n e out lens times s =
-        subst (λ (y : Outcome). GoesBy y segment kind before rule (record { tables = t′; extraction = e; kind = kind; outcome = o }) out lens times) (sym w)
-        (x, passed-tables ∙ sym (by-false _ n refl), s, refl)
+  module _ (f : r .outcome ≡ outcome.Passed) where
+    pub after-24 : (t : state.Tables) × (checked i p (clocked i p (st .tables)) ≡ passed t) × TablesStand edition segment (r .tables) t
+    after-24 = passed-turn _ (TablesStand edition segment (r .tables)) (r .outcome) f counts
 
-    -- an AV1 payload
-    pub with-payload : isAv1 kind && hasPayload p ≡ true → (b : Bool) (u : Bytes) → b ≡ payloadUnitStartIndicator p → u ≡ payload p
-        → (o′ : Outcome) (e : Extraction) (out lens times : List ℕ)
-        → FollowsBy o′ before (stateOf segment t′ x) (payloadRule i (roomsOf before) b u (stateOf segment t′ x)) e out lens times
-        → GoesBy o′ segment kind before rule (record { tables = t′; extraction = e; kind = kind; outcome = o′ }) out lens times
-    with-payload n b u f g o′ e out lens times =
-        let v : rule ≡ payloadRule i (roomsOf before) b u (stateOf segment t′ x) =
-        passed-tables ∙ sym (by-true _ n refl) ∙ ap₂ (λ (y : Bool) (z : Bytes). payloadRule i (roomsOf before) y z (stateOf segment t′ x)) (sym f) (sym g) in
-        go o′ v
-      where
-        go : (o′ : Outcome) → rule ≡ payloadRule i (roomsOf before) b u (stateOf segment t′ x)
-            → FollowsBy o′ before (stateOf segment t′ x) (payloadRule i (roomsOf before) b u (stateOf segment t′ x)) e out lens times
-            → GoesBy o′ segment kind before rule (record { tables = t′; extraction = e; kind = kind; outcome = o′ }) out lens times
-        go outcome.Passed v (x′, r, s) = (x′, v ∙ r, s, refl)
-        go (outcome.Refused q) v r = v ∙ r
+    abbrev next : State
+    next = withTables (after-24 .0) st
 
--- the same of the kind by another name
-pub kind-as : (segment p : Bytes) (i : ℕ) (before : Outputs) (st : State) (k k′ : Kind) (r : Stepped) (out lens times : List ℕ) → k ≡ k′
-    → Goes segment k before (readRule i p k (roomsOf before) st) r out lens times → Goes segment k′ before (readRule i p k′ (roomsOf before) st) r out lens times
-kind-as segment p i before st k k′ r out lens times e g =
-    subst (λ (y : Kind). Goes segment y before (readRule i p y (roomsOf before) st) r out lens times) e g
+    pub next-named : Named (next .tables)
+    next-named = subst (Holds Named) (after-24 .1) (checked-named i p (clocked i p (st .tables)) (clocked-named i p (st .tables) n))
+
+    pub next-stands : StateStands edition segment before now (r .tables) e next
+    next-stands = record { tables = after-24 .2; extraction = s .extraction }
+
+    goes : whole ≡ inSequence (after24 edition (roomsOf before) i p (kindSays k)) next
+    unfolding _>>=_
+    goes = counted-then (passed (after-24 .0)) (after-24 .1)
+
+    -- without payload there is nothing more
+    pub no-content : hasPayload p ≡ false → Turns (r .outcome) whole (StateStands edition segment before now (r .tables) e)
+    no-content b =
+        subst (λ (x : Outcome). Turns x whole (StateStands edition segment before now (r .tables) e)) (sym f)
+        (next, goes ∙ content-none edition (roomsOf before) i p (kindSays k) next b, next-stands)
+
+    -- what it carries
+    pub with-content : (o : Outcome) (S : State → Type 0) → Turns o (inSequence (after24 edition (roomsOf before) i p (kindSays k)) next) S
+        → Turns o whole S
+    with-content o S t = turn-as _ S whole o (sym goes) t
 
 -- ---- a packet
-module _ (segment : Bytes) (i : ℕ) (before : Outputs) (st : State) (r : PacketRead) (p : Bytes) (same : p ≡ packetAt segment i) (says : packetSays r ≡ headerOf p) where
-  abbrev kind : Kind
-  kind = kindOf st (pid (packetAt segment i))
-
+module _ (edition : Edition) (rooms : Rooms) (segment : Bytes) (i : ℕ) (st : State) (r : PacketRead) (q : Bytes)
+    (same : q ≡ packetAt segment i) (says : packetSays r ≡ headerOf q) where
   -- 21, 22 or 23
-  pub header-refused : (q : Refused) → r ≡ answer.Refused q → (o : Outcome) → o ≡ placedAt i (outcome.Refused q) → (t : Tables) (e : Extraction) (k : Kind) (out lens times : List ℕ)
-      → Steps segment i before st (record { tables = t; extraction = e; kind = k; outcome = o }) out lens times
-  unfolding packetRule atPlace _>>_
-  header-refused q f o g t e k out lens times =
-      subst (λ (y : Outcome). GoesBy y segment kind before (packetRule i (packetAt segment i) kind (roomsOf before) st) (record { tables = t; extraction = e; kind = k; outcome = o }) out lens times) (sym g)
-      (ap (λ (v : Verdict Header). atPlace i v >> readRule i (packetAt segment i) kind (roomsOf before) st) (ap headerOf (sym same) ∙ sym says ∙ ap packetSays f))
+  pub header-refused : (k : state.Kind) (x : Refused) → r ≡ answer.Refused x → (o : Outcome) → o ≡ placedAt i (outcome.Refused x)
+      → (S : State → Type 0)
+      → Turns o (packetRules edition rooms i (packetAt segment i) k st) S
+  unfolding packetRules atPlace _>>_ _>>=_
+  header-refused k x f o g S =
+      turn-refused (packetRules edition rooms i (packetAt segment i) k st) S o (record { why = x .why; place = i }) g
+      (sym (ap (λ (v : Verdict State). v >>= inSequence (after24 edition rooms i (packetAt segment i) k))
+      (up-to-24 i (packetAt segment i) st
+      ∙ ap (λ (v : Verdict Header). atPlace i v >> onTables (λ t. checked i (packetAt segment i) (clocked i (packetAt segment i) t)) st)
+      (ap headerOf (sym same) ∙ sym says ∙ ap packetSays f))))
 
   -- it passed them
-  module _ (h : Header) (f : r ≡ answer.Header h) where
-    pub header-fields : h ≡ fields p
-    header-fields = passed-fields p h (sym says ∙ ap packetSays f)
+  pub header-right : (h : Header) → r ≡ answer.Header h → headerOf (packetAt segment i) ≡ passed h
+  header-right h f = ap headerOf (sym same) ∙ sym says ∙ ap packetSays f
 
-    pub header-passed : (s : Stepped) (out lens times : List ℕ) → Goes segment (kindOf st (h .pid)) before (readRule i p (kindOf st (h .pid)) (roomsOf before) st) s out lens times
-        → Steps segment i before st s out lens times
-    unfolding packetRule atPlace _>>_
-    header-passed s out lens times g =
-        let k : h .pid ≡ pid (packetAt segment i) = ap (λ (y : Header). y .pid) header-fields ∙ ap pid same in
-        subst (λ (v : Verdict State). Goes segment kind before v s out lens times)
-        (sym (ap (λ (v : Verdict Header). atPlace i v >> readRule i (packetAt segment i) kind (roomsOf before) st) (ap headerOf (sym same) ∙ sym says ∙ ap packetSays f)))
-        (subst (λ (y : Bytes). Goes segment kind before (readRule i y kind (roomsOf before) st) s out lens times) same
-        (subst (λ (n : ℕ). Goes segment (kindOf st n) before (readRule i p (kindOf st n) (roomsOf before) st) s out lens times) k g))
-
--- the packet of an index ends 188 bytes behind where it begins
-pub packet-ends : (segment p : Bytes) (i : ℕ) → i * 188 + 188 ≤ length segment → p ≡ packetAt segment i → EndsAt segment (i * 188 + 188) p
-packet-ends segment p i h e =
-    let n : length p ≡ 188 = ap length e ∙ length-take-le 188 (drop (i * 188) segment) (omega (arith, length-drop (i * 188) segment)) in
-    (i * 188, ap (λ (m : ℕ). i * 188 + m) (sym n), e ∙ ap (λ (m : ℕ). take m (drop (i * 188) segment)) (sym n))
-
--- ---- a step, by its outcome
-pub step-passed : (segment : Bytes) (i : ℕ) (before : Outputs) (st : State) (r : Stepped) (out lens times : List ℕ) → r .outcome ≡ outcome.Passed
-    → Steps segment i before st r out lens times → GoesBy outcome.Passed segment (kindOf st (pid (packetAt segment i))) before
-    (packetRule i (packetAt segment i) (kindOf st (pid (packetAt segment i))) (roomsOf before) st) r out lens times
-step-passed segment i before st r out lens times w g =
-    subst (λ (y : Outcome). GoesBy y segment (kindOf st (pid (packetAt segment i))) before
-    (packetRule i (packetAt segment i) (kindOf st (pid (packetAt segment i))) (roomsOf before) st) r out lens times) w g
-
-pub step-refused : (segment : Bytes) (i : ℕ) (before : Outputs) (st : State) (r : Stepped) (out lens times : List ℕ) (q : Refused) → r .outcome ≡ outcome.Refused q
-    → Steps segment i before st r out lens times
-    → packetRule i (packetAt segment i) (kindOf st (pid (packetAt segment i))) (roomsOf before) st ≡ refusedBy q
-step-refused segment i before st r out lens times q w g =
-    subst (λ (y : Outcome). GoesBy y segment (kindOf st (pid (packetAt segment i))) before
-    (packetRule i (packetAt segment i) (kindOf st (pid (packetAt segment i))) (roomsOf before) st) r out lens times) w g
+-- of the kind that its PID is
+pub packet-kind : (edition : Edition) (rooms : Rooms) (p : Bytes) (i : ℕ) (st : State) (h : Header) (k : Kind) (r : Stepped)
+    (S : State → Type 0) → headerOf p ≡ passed h
+    → kindSays k ≡ kindOf (st .tables) (h .pid) → r .kind ≡ k → Turns (r .outcome) (packetRules edition rooms i p (kindSays k) st) S
+    → Turns (r .outcome) (packetRules edition rooms i p (kindOf (st .tables) (pid p)) st)
+    (λ st′. S st′ × (kindSays (r .kind) ≡ kindOf (st .tables) (pid p)))
+packet-kind edition rooms p i st h k r S right e f t =
+    let same : kindSays k ≡ kindOf (st .tables) (pid p) = e ∙ ap (λ (x : Header). kindOf (st .tables) (x .pid)) (passed-fields p h right) in
+    turn-as _ (λ st′. S st′ × (kindSays (r .kind) ≡ kindOf (st .tables) (pid p))) _ (r .outcome)
+    (ap (λ (x : state.Kind). packetRules edition rooms i p x st) same)
+    (turn-also (packetRules edition rooms i p (kindSays k) st) S (λ st′. S st′ × (kindSays (r .kind) ≡ kindOf (st .tables) (pid p)))
+    (r .outcome) t
+    (λ st′ _ z. (z, ap kindSays f ∙ same)))

@@ -1,25 +1,43 @@
--- What the promises of private functions cite; no public promise does: what the code's state stands for. Assumes nothing.
-use Prim.Native.Nat.{ℕ, _+_, _*_, _≤_, _<_}
-use mathlib.Core.Bool.{Bool, false, not, _&&_, _||_}
+-- What the promises of private functions cite; no public promise does: what the code's state stands for. No rule is
+-- said again here: a private function is promised by the rules of segment_rules that it carries out. Assumes nothing.
+use Prim.Native.Nat.{ℕ, suc, _+_, _*_, _≤_, _<_}
+use mathlib.Core.Bool.{Bool, true}
 use mathlib.Core.Path.{_≡_}
-use mathlib.Core.List.{List, _++_}
+use mathlib.Core.List.{List, [], _∷_}
 use mathlib.Core.Option.{Option, none, some}
-use lib.Dec.{ltb}
 use lib.ListN.{length, take, drop}
-use Rattle.lists.specs.Lists.{Bytes, pick, over}
-use Rattle.refusal.specs.Verdict.{Verdict, passed, _>>=_, _>>_, given, atPlace}
+use Rattle.lists.specs.Lists.{Bytes, over}
+use Rattle.refusal.specs.Verdict.{Verdict}
+use Rattle.refusal.specs.Verdict as verdict
 use Rattle.refusal.specs.Number.{refusedBy}
-use Rattle.packet.specs.Header as packet
-use Rattle.packet.specs.Header.{pid, hasPayload, payload, payloadUnitStartIndicator, packetLength}
+use Rattle.descriptor.specs.Edition.{Edition}
+use Rattle.packet.specs.Header.{fields, headerOf, pid, hasPayload, payload, payloadUnitStartIndicator, packetLength}
+use Rattle.packet.specs.declared.header.Header.{Header}
+use Rattle.packet.specs.declared.header.Clock.{Clock}
+use Rattle.packet.specs.declared.header.Clock.the-variants as clock
+use Rattle.packet.specs.declared.counter.Stream.{Stream}
+use Rattle.packet.specs.declared.counter.Counted.{Counted}
 use Rattle.packet.specs.declared.counter.Counter.{Counter}
 use Rattle.packet.specs.declared.counter.Counter.the-variants as counter
-use Rattle.packet.specs.Counter.{named}
-use Rattle.packet.specs.Streams.{listed, lookUp, noStreams}
-use Rattle.pes.specs.Pes as pes
-use Rattle.pes.specs.Pes.{headerOf, pesData, noTimes}
-use Rattle.pes.specs.declared.header.Header.{Header}
+use Rattle.packet.specs.declared.streams.Slot.{Slot}
+use Rattle.packet.specs.declared.streams.Slot.the-variants as slots
+use Rattle.packet.specs.Counter.{StreamRecord, namedStream, counted, check, Stands}
+use Rattle.packet.specs.Streams.{listed, lookUp, pidsIn, noStreams, recordAt, putBack}
+use Rattle.pmt.specs.Pmt.{av1Entry}
+use Rattle.pmt.specs.Answer.{mapOf, noMap}
+use Rattle.pmt.specs.declared.section.ProgramMap.{ProgramMap}
+use Rattle.pes.specs.Pes.{pesData}
+use Rattle.segment_rules.specs.declared.Totals.{Totals}
+use Rattle.segment_rules.specs.State as state
+use Rattle.segment_rules.specs.State.{FirstPat, FirstPmt, OpenPes, State, AccessUnit, withUnit, listedAs, kindOf, packetCount}
+use Rattle.segment_rules.specs.Rules.{Rooms, Rule, inSequence, isPcr, lastPcr, countingPcr, clocked, closeOpen, closePes, unitOf, openBytes, carriedUnits, carriedSoFar, rule31, rule34, rule8, payloadRules, pesRules, after24, packetRules}
+use Rattle.segment_rules.specs.Rules.{checked as counterChecked}
+use Rattle.packet.specs.Header.{packets}
+use Rattle.segment_rules.specs.Check.{Accepted, Outputs, Progress, outputsOf, roomsOf, lengths, timesInTurn, holding, start, run, mostPackets, accepted, ending, checkSegment}
+use Rattle.segment_rules.specs.Named.{Named}
 use Rattle.segment.specs.declared.state.Kind.{Kind}
-use Rattle.segment.specs.declared.state.Totals.{Totals}
+use Rattle.segment.specs.declared.state.Kind.the-variants as slot
+use Rattle.segment.specs.declared.state.Packet.{Packet}
 use Rattle.segment.specs.declared.state.PatFound.{PatFound}
 use Rattle.segment.specs.declared.state.PatSeen.{PatSeen}
 use Rattle.segment.specs.declared.state.PatSeen.the-variants as pat
@@ -30,100 +48,165 @@ use Rattle.segment.specs.declared.state.PesFound.{PesFound}
 use Rattle.segment.specs.declared.state.PesSeen.{PesSeen}
 use Rattle.segment.specs.declared.state.PesSeen.the-variants as seen
 use Rattle.segment.specs.declared.state.Outcome.{Outcome}
-use Rattle.segment.specs.declared.state.Outcome.the-variants as outcome
+use Rattle.segment.specs.declared.state.Outcome.the-variants.{Passed, Refused}
 use Rattle.segment.specs.declared.counters.Counters.{Counters}
 use Rattle.segment.specs.declared.counters.CountersTurn.{CountersTurn}
 use Rattle.segment.specs.declared.tables.Tables.{Tables}
+use Rattle.segment.specs.declared.tables.TablesTurn.{TablesTurn}
+use Rattle.segment.specs.declared.outputs.Rooms as outputs
 use Rattle.segment.specs.declared.extraction.Extraction.{Extraction}
 use Rattle.segment.specs.declared.extraction.ExtractionTurn.{ExtractionTurn}
 use Rattle.segment.specs.declared.packets.Stepped.{Stepped}
 use Rattle.segment.specs.declared.whole.Ran.{Ran}
 use Rattle.segment.specs.declared.whole.SegmentCheck.{SegmentCheck}
 use Rattle.segment.specs.declared.whole.SegmentCheck.the-variants as checked
-use Rattle.segment.specs.State as state
-use Rattle.segment.specs.State.{FirstPat, FirstPmt, OpenPes, AccessUnit, State, withPes, listedAs, kindOf, packetCount}
-use Rattle.segment.specs.Rules.{Rooms, Rule, closePes, isAv1, isOpen, openBytes, carriedUnits, carriedSoFar, pcrCounts, rule24, rules25to28}
-use Rattle.segment.specs.Check.{Accepted, start, run, packets, checkSegment, Outputs, outputsOf, roomsOf, lengths, timesInTurn, holding}
-use Rattle.segment.specs.Answer.{summaryOf}
+use Rattle.segment.specs.Answer.{summaryOf, summarised, checkSays}
 
--- ---- verdicts
--- what an outcome says of what it hands on
-abbrev pub outcomeSays : {A : Type 0} → Outcome → A → Verdict A
-outcomeSays outcome.Passed a = passed a
-outcomeSays (outcome.Refused r) a = refusedBy r
+-- ---- the shape of the private promises
+-- a function that may refuse carries out a step of the definitions: its outcome is the step's verdict, and where it
+-- passed, `Stands` says what it gave back
+abbrev pub Turns : {A : Type 0} → Outcome → Verdict A → (A → Type 0) → Type 0
+Turns {A} Passed v Stands = (a : A) × (v ≡ verdict.passed a) × Stands a
+Turns {A} (Refused r) v Stands = v ≡ refusedBy r
 
 -- the same outcome, a refusal having another place
 abbrev pub placedAt : ℕ → Outcome → Outcome
-placedAt place outcome.Passed = outcome.Passed
-placedAt place (outcome.Refused r) = outcome.Refused (record { why = r .why; place = place })
+placedAt place Passed = Passed
+placedAt place (Refused r) = Refused (record { why = r .why; place = place })
 
 -- the outcome of a counter's check
 abbrev pub outcomeOf : Counter → Outcome
-outcomeOf counter.Right = outcome.Passed
-outcomeOf (counter.Refused r) = outcome.Refused r
+outcomeOf counter.Right = Passed
+outcomeOf (counter.Refused r) = Refused r
+
+-- ---- the records of the counters
+-- one record set anew
+abbrev pub withPatRecord : Counters → Stream → Counters
+withPatRecord c s = record { pat = s; map = c .map; listed = c .listed }
+
+abbrev pub withMapRecord : Counters → Stream → Counters
+withMapRecord c s = record { pat = c .pat; map = s; listed = c .listed }
+
+abbrev pub withListedRecord : Counters → ℕ → Stream → Counters
+withListedRecord c i s = record { pat = c .pat; map = c .map; listed = putBack (c .listed) i s }
+
+-- a turn is the check of a packet by this record, which is put back
+abbrev pub RecordChecked : Stream → (Stream → Counters) → Counted → CountersTurn → Type 0
+RecordChecked s put packet t =
+    (r : StreamRecord) (p : Bytes) → Stands s r → packet ≡ counted (fields p)
+    → Turns (t .outcome) (check r p) (λ r′. (s′ : Stream) × (t .counters ≡ put s′) × Stands s′ r′)
+
+-- by the record of the kind's slot, if it has one
+abbrev pub CountersChecked : Kind → Counters → Counted → CountersTurn → Type 0
+CountersChecked slot.Null c packet t = t ≡ record { counters = c; outcome = Passed }
+CountersChecked slot.Pat c packet t = RecordChecked (c .pat) (withPatRecord c) packet t
+CountersChecked slot.Map c packet t = RecordChecked (c .map) (withMapRecord c) packet t
+CountersChecked (slot.Av1 i) c packet t = RecordChecked (recordAt (c .listed) i) (withListedRecord c i) packet t
+CountersChecked (slot.Listed i) c packet t = RecordChecked (recordAt (c .listed) i) (withListedRecord c i) packet t
+CountersChecked slot.Unlisted c packet t = t ≡ record { counters = c; outcome = Passed }
+
+-- the code's records in the order of the definitions': PID 0, the map PID from the PAT on, the listed PIDs from the
+-- PMT on
+abbrev pub streamsIn : PatSeen → PmtSeen → Counters → List Stream
+streamsIn pat.None q c = c .pat ∷ []
+streamsIn (pat.First f) pmt.None c = c .pat ∷ c .map ∷ []
+streamsIn (pat.First f) (pmt.First g) c = c .pat ∷ c .map ∷ listed (c .listed)
+
+-- they stand for the definitions'
+abbrev pub RecordsStand : List Stream → List StreamRecord → Type 0
+RecordsStand [] [] = Unit {0}
+RecordsStand [] (r ∷ records) = ⊥
+RecordsStand (s ∷ streams) [] = ⊥
+RecordsStand (s ∷ streams) (r ∷ records) = Stands s r × RecordsStand streams records
 
 -- ---- the tables
-abbrev pub countersOf : Counters → state.Counters
-countersOf c = record { pat = c .pat; map = c .map; listed = listed (c .listed) }
-
-abbrev pub countersSays : CountersTurn → Verdict state.Counters
-countersSays t = outcomeSays (t .outcome) (countersOf (t .counters))
-
 -- the section of so many bytes at a place of the segment
 abbrev pub sectionAt : Bytes → ℕ → ℕ → Bytes
 sectionAt segment at size = take size (drop at segment)
 
 -- these bytes lie at a place of the segment
 abbrev pub LiesAt : Bytes → ℕ → Bytes → Type 0
-LiesAt segment at s = s ≡ take (length s) (drop at segment)
-
--- the first PAT and the first PMT, which are remembered by where their sections lie
-abbrev pub firstPat : Bytes → PatFound → FirstPat
-firstPat segment f = record { section = sectionAt segment (f .at) (f .size); says = f .says }
+LiesAt segment at s = s ≡ sectionAt segment at (length s)
 
 abbrev pub patOf : Bytes → PatSeen → Option FirstPat
 patOf segment pat.None = none
-patOf segment (pat.First f) = some (firstPat segment f)
+patOf segment (pat.First f) = some (record { section = sectionAt segment (f .at) (f .size); says = f .says })
 
-abbrev pub firstPmt : Bytes → PmtFound → FirstPmt
-firstPmt segment f = record { section = sectionAt segment (f .at) (f .size); pcrPid = f .«pcr_pid»; av1Pid = f .«av1_pid» }
+-- the first PMT is remembered by where its section lies, and by what the code keeps of its map
+pub record PmtStands (edition : Edition) (segment : Bytes) (f : PmtFound) (map : ProgramMap) (m : FirstPmt)
+    : Type 0 where
+  pub section : m .section ≡ sectionAt segment (f .at) (f .size)
+  pub says : map ≡ mapOf edition (m .says)
+  pub one : av1Entry edition (m .says .entries) ≡ verdict.passed (m .says .av1)
 
-abbrev pub pmtOf : Bytes → PmtSeen → Option FirstPmt
-pmtOf segment pmt.None = none
-pmtOf segment (pmt.First f) = some (firstPmt segment f)
+abbrev pub PmtSeenStands : Edition → Bytes → PmtSeen → ProgramMap → Option FirstPmt → Type 0
+PmtSeenStands edition segment pmt.None map none = Unit {0}
+PmtSeenStands edition segment pmt.None map (some m) = ⊥
+PmtSeenStands edition segment (pmt.First f) map none = ⊥
+PmtSeenStands edition segment (pmt.First f) map (some m) = PmtStands edition segment f map m
+
+pub record TablesStand (edition : Edition) (segment : Bytes) (c : Tables) (t : state.Tables) : Type 0 where
+  pub pat : t .pat ≡ patOf segment (c .pat)
+  pub pmt : PmtSeenStands edition segment (c .pmt) (c .map) (t .pmt)
+  pub records : RecordsStand (streamsIn (c .pat) (c .pmt) (c .counters)) (t .records)
+  pub pcr : c .pcr ≡ t .pcr
+
+abbrev pub freshCounters : Counters
+freshCounters = record { pat = namedStream 0; map = namedStream 0; listed = noStreams }
 
 abbrev pub freshTables : Tables
-freshTables =
-    record { pat = pat.None; pmt = pmt.None; counters = record { pat = named 0; map = named 0; listed = noStreams }; «pcr_seen» = false }
+freshTables = record { pat = pat.None; pmt = pmt.None; map = noMap; counters = freshCounters; pcr = clock.None }
 
--- what a PID is among the listed ones
-abbrev pub listedIn : Bytes → Tables → ℕ → Kind
-listedIn segment t pid = listedAs (pmtOf segment (t .pmt)) (lookUp pid (listed (t .counters .listed))) pid
+-- a turn of the tables carries out a step of the definitions'
+abbrev pub CarriesOut : Edition → Bytes → Tables → TablesTurn → (state.Tables → Verdict state.Tables) → Type 0
+CarriesOut edition segment c r step =
+    (t : state.Tables) → Named t → TablesStand edition segment c t
+    → Turns (r .outcome) (step t) (TablesStand edition segment (r .tables))
 
--- ---- the whole state
--- what the packets have said beside the tables
-pub record Extracted : Type 0 where
-  pub pes : Option OpenPes
-  pub units : List AccessUnit
+-- ---- kinds: the code's has the slot of a listed PID
+abbrev pub kindSays : Kind → state.Kind
+kindSays slot.Null = state.Null
+kindSays slot.Pat = state.Pat
+kindSays slot.Map = state.Map
+kindSays (slot.Av1 i) = state.Av1
+kindSays (slot.Listed i) = state.Listed
+kindSays slot.Unlisted = state.Unlisted
 
-abbrev pub extractedFrom : State → Extracted
-extractedFrom st = record { pes = st .pes; units = st .units }
+-- where the kind's record is among all of them
+abbrev pub slotIn : Kind → Slot
+slotIn slot.Null = slots.None
+slotIn slot.Pat = slots.At 0
+slotIn slot.Map = slots.At 1
+slotIn (slot.Av1 i) = slots.At (suc (suc i))
+slotIn (slot.Listed i) = slots.At (suc (suc i))
+slotIn slot.Unlisted = slots.None
 
--- the state with that part set anew
-abbrev pub withExtracted : Extracted → State → State
-withExtracted x st =
-    record { pat = st .pat; pmt = st .pmt; counters = st .counters; pcrSeen = st .pcrSeen; pes = x .pes; units = x .units }
+-- it is where the lookup finds the PID
+abbrev pub SlotOf : Tables → ℕ → Kind → Type 0
+SlotOf c n k = lookUp n (pidsIn (streamsIn (c .pat) (c .pmt) (c .counters))) ≡ slotIn k
 
-abbrev pub stateOf : Bytes → Tables → Extracted → State
-stateOf segment t x =
-    record {
-      pat = patOf segment (t .pat);
-      pmt = pmtOf segment (t .pmt);
-      counters = countersOf (t .counters);
-      pcrSeen = t .«pcr_seen»;
-      pes = x .pes;
-      units = x .units;
-    }
+-- what a PID is: that of the definitions, and its slot; the same of a PID that is none of 0x1FFF, 0 and the map PID
+abbrev pub KindTurn : Edition → Tables → ℕ → Kind → Type 0
+KindTurn edition c n k =
+    (segment : Bytes) (t : state.Tables) → Named t → TablesStand edition segment c t
+    → (kindSays k ≡ kindOf t n) × SlotOf c n k
+
+abbrev pub ListedTurn : Edition → Tables → ℕ → Kind → Type 0
+ListedTurn edition c n k =
+    (segment : Bytes) (t : state.Tables) (f : PatFound) → c .pat ≡ pat.First f → Named t
+    → TablesStand edition segment c t → (n ≡ 0 → ⊥) → (n ≡ f .says .«map_pid» → ⊥)
+    → (kindSays k ≡ listedAs (t .pmt) n) × SlotOf c n k
+
+-- ---- a packet's PCR and its counter
+abbrev pub PcrTurn : Edition → Tables → Header → Clock → Type 0
+PcrTurn edition c h r =
+    (segment p : Bytes) (t : state.Tables) → h ≡ fields p → TablesStand edition segment c t
+    → r ≡ lastPcr (t .pcr) (countingPcr (t .pmt) p)
+
+abbrev pub CounterTurn : Edition → Packet → Tables → TablesTurn → Type 0
+CounterTurn edition k c r =
+    (segment p : Bytes) → k .header ≡ fields p → SlotOf c (k .header .pid) (k .kind)
+    → CarriesOut edition segment c r (λ t. counterChecked (k .index) p (clocked (k .index) p t))
 
 -- ---- the units
 abbrev pub openPes : PesFound → Bytes → OpenPes
@@ -141,130 +224,163 @@ abbrev pub unitsBegun : PesSeen → ℕ → ℕ
 unitsBegun seen.Closed units = units
 unitsBegun (seen.Open f) units = units + 1
 
--- the places that the code keeps lie within the outputs
-pub record Fits (e : Extraction) (out lens times : List ℕ) : Type 0 where
-  pub inBytes : e .start + e .bytes ≤ length out
-  pub inLens : unitsBegun (e .pes) (e .units) ≤ length lens
-  pub inTimes : 2 * unitsBegun (e .pes) (e .units) ≤ length times
+abbrev pub roomsIn : Bytes → List ℕ → List ℕ → Rooms
+roomsIn out lens times = roomsOf (outputsOf out lens times)
 
--- the code's places and the three outputs, which were `before` at first, hold what has been extracted
-pub record Stands (before : Outputs) (x : Extracted) (e : Extraction) (out lens times : List ℕ) : Type 0 where
+-- the places that the code keeps lie within outputs of these lengths
+pub record Fits (e : Extraction) (rooms : Rooms) : Type 0 where
+  pub inBytes : e .start + e .bytes ≤ rooms .bytes
+  pub inLens : unitsBegun (e .pes) (e .units) ≤ rooms .lens
+  pub inTimes : 2 * unitsBegun (e .pes) (e .units) ≤ rooms .times
+
+-- the code's rooms are those of these outputs
+pub record RoomsStand (rooms : outputs.Rooms) (o : Outputs) : Type 0 where
+  pub bytes : rooms .bytes ≡ length (o .bytes)
+  pub lens : rooms .lens ≡ length (o .lens)
+  pub times : rooms .times ≡ length (o .times)
+
+-- a PES that opens with so many bytes has room behind what is there
+pub record HasRoom (e : Extraction) (bytes : ℕ) (rooms : outputs.Rooms) : Type 0 where
+  pub inBytes : e .start + e .bytes + bytes ≤ rooms .bytes
+  pub inLens : e .units + 1 ≤ rooms .lens
+  pub inTimes : 2 * (e .units + 1) ≤ rooms .times
+
+-- the outputs with what has been extracted so far over their front: the units that closed, and the bytes of the open
+-- one
+abbrev pub holdingSoFar : state.Extraction → Outputs → Outputs
+holdingSoFar x before =
+    record {
+      bytes = over (carriedSoFar x) (before .bytes);
+      lens = over (lengths (x .units)) (before .lens);
+      times = over (timesInTurn (x .units)) (before .times);
+    }
+
+-- the code's places and the outputs, which were `before` at first, hold what has been extracted
+pub record UnitsStand (before now : Outputs) (e : Extraction) (x : state.Extraction) : Type 0 where
   pub pes : x .pes ≡ pesOf (openBytes (x .pes)) (e .pes)
   pub units : e .units ≡ length (x .units)
   pub start : e .start ≡ length (carriedUnits (x .units))
   pub bytes : e .bytes ≡ length (openBytes (x .pes))
-  pub outBytes : out ≡ over (carriedUnits (x .units) ++ openBytes (x .pes)) (before .bytes)
-  pub outLens : lens ≡ over (lengths (x .units)) (before .lens)
-  pub outTimes : times ≡ over (timesInTurn (x .units)) (before .times)
-  pub fits : Fits e (before .bytes) (before .lens) (before .times)
+  pub outputs : now ≡ holdingSoFar x before
+  pub fits : Fits e (roomsOf before)
 
--- the turn's outcome is the verdict on a state; where it passed, the outputs hold what the new state has extracted
-abbrev pub FollowsBy : Outcome → Outputs → State → Verdict State → Extraction → List ℕ → List ℕ → List ℕ → Type 0
-FollowsBy outcome.Passed before st v e out lens times = (x : Extracted) × (v ≡ passed (withExtracted x st)) × Stands before x e out lens times
-FollowsBy (outcome.Refused r) before st v e out lens times = v ≡ refusedBy r
+-- the verdict on the unit of a PES that closes
+abbrev pub JudgeTurn : OpenPes → Outcome → Type 0
+JudgeTurn o r = (x : state.Extraction) → Turns r (closeOpen o x) (λ x′. x′ ≡ withUnit (unitOf o) x)
 
-abbrev pub Follows : Outputs → State → Verdict State → ExtractionTurn → List ℕ → List ℕ → List ℕ → Type 0
-Follows before st v t out lens times = FollowsBy (t .outcome) before st v (t .extraction) out lens times
+-- the closing of a PES
+abbrev pub ClosingTurn : Extraction → Outputs → ExtractionTurn → Outputs → Type 0
+ClosingTurn e now r after =
+    (before : Outputs) (x : state.Extraction) → UnitsStand before now e x
+    → Turns (r .outcome) (closePes x) (UnitsStand before after (r .extraction))
 
--- ---- the rules of an AV1 payload, by what it does
-module _ (i : ℕ) (rooms : Rooms) where
-  -- a PES opens with this header and these bytes; 31, 34, 8
-  unfoldable pub openingTimed : Header → Bytes → Rule
-  openingTimed header bytes st = do
-    atPlace i (given 31 (not (st .pcrSeen)))
-    atPlace i (given 34 (ltb 1024 (length (st .units) + 1)))
-    atPlace i
-        (given 8
-        (ltb (rooms .bytes) (length (carriedSoFar st) + length bytes)
-        || (ltb (rooms .lens) (length (st .units) + 1) || ltb (rooms .times) (2 * (length (st .units) + 1)))))
-    passed (withPes (record { first = i; header = header; bytes = bytes }) st)
+-- w is the payload of packet p, which has this payload start
+pub record PayloadOf (p : Bytes) (startFlag : Bool) (w : Bytes) : Type 0 where
+  pub carries : hasPayload p ≡ true
+  pub starts : payloadUnitStartIndicator p ≡ startFlag
+  pub same : w ≡ payload p
 
-  -- a PES opens with this payload; 29, 30
-  unfoldable pub opening : Bytes → Rule
-  opening payload st = do
-    atPlace i (given 29 (pes.headerWrong payload))
-    atPlace i (given 30 (noTimes payload))
-    openingTimed (headerOf payload) (pesData payload) st
+-- rules of a PES, which leave the tables
+abbrev pub PesTurn : Outputs → List Rule → State → ExtractionTurn → Outputs → Type 0
+PesTurn before rules st r after =
+    Turns (r .outcome) (inSequence rules st)
+    (λ st′. (st′ .tables ≡ st .tables) × UnitsStand before after (r .extraction) (st′ .extraction))
 
-  -- the open PES closes, and another opens
-  unfoldable pub starting : Bytes → Rule
-  starting payload st = closePes st >>= opening payload
+-- 31, 34, 8 of a payload with which a PES is to open, and which has so many bytes behind its header
+abbrev pub MayOpenTurn : ℕ → ℕ → Bool → Extraction → outputs.Rooms → Outcome → Type 0
+MayOpenTurn i bytes pcrSeen e rooms r =
+    (before now : Outputs) (p w : Bytes) (st : State) → RoomsStand rooms now → PayloadOf p true w
+    → bytes ≡ length (pesData w) → isPcr (st .tables .pcr) ≡ pcrSeen → UnitsStand before now e (st .extraction)
+    → Turns r
+    (inSequence (rule31 i p state.Av1 ∷ rule34 i p state.Av1 ∷ rule8 i p state.Av1 (roomsOf before) ∷ []) st)
+    (λ st′. st′ ≡ st)
 
-  abbrev pub addingTo : Option OpenPes → Bytes → State → State
-  addingTo none payload st = st
-  addingTo (some o) payload st = withPes (record { first = o .first; header = o .header; bytes = o .bytes ++ payload }) st
+module _ (edition : Edition) where
+  -- a PES opens with a payload, no other being open
+  abbrev pub OpeningTurn : ℕ → Bytes → Bool → Extraction → outputs.Rooms → Bytes → ExtractionTurn → Bytes → Type 0
+  OpeningTurn i w pcrSeen e rooms out r out′ =
+      (before : Outputs) (lens times : List ℕ) (p : Bytes) (st : State) → RoomsStand rooms (outputsOf out lens times)
+      → PayloadOf p true w → isPcr (st .tables .pcr) ≡ pcrSeen → e .pes ≡ seen.Closed
+      → UnitsStand before (outputsOf out lens times) e (st .extraction)
+      → PesTurn before (payloadRules edition (roomsOf before) i p state.Av1) st r (outputsOf out′ lens times)
 
-  -- a payload that goes on with the open PES; 29, 31, 8
-  unfoldable pub adding : Bytes → Rule
-  adding payload st = do
-    atPlace i (given 29 (not (isOpen (st .pes))))
-    atPlace i (given 31 (not (st .pcrSeen)))
-    atPlace i (given 8 (ltb (rooms .bytes) (length (carriedSoFar st) + length payload)))
-    passed (addingTo (st .pes) payload st)
+  -- an AV1 payload: the rules of a PES
+  abbrev pub PayloadTurn : Bool → ℕ → Bytes → Bool → Extraction → Outputs → ExtractionTurn → Outputs → Type 0
+  PayloadTurn startFlag i w pcrSeen e now r after =
+      (before : Outputs) (p : Bytes) (st : State) → PayloadOf p startFlag w → isPcr (st .tables .pcr) ≡ pcrSeen
+      → UnitsStand before now e (st .extraction)
+      → PesTurn before (pesRules edition (roomsOf before) i p state.Av1) st r after
 
-  unfoldable pub payloadRule : Bool → Bytes → Rule
-  payloadRule startFlag payload st = pick startFlag (starting payload st) (adding payload st)
-
--- ---- the rules of a packet, by its parts
--- its PCR counts; 24; 25 to 28
-unfoldable pub tablesRule : ℕ → Bytes → Kind → Rule
-tablesRule i p kind st = do
-  st1 ← pcrCounts i p kind st
-  st2 ← rule24 i p kind st1
-  rules25to28 i p kind st2
-
--- of a packet that passed 21, 22 and 23: the tables, then its AV1 payload
-unfoldable pub readRule : ℕ → Bytes → Kind → Rooms → Rule
-readRule i p kind rooms st = do
-  st1 ← tablesRule i p kind st
-  pick (isAv1 kind && hasPayload p) (payloadRule i rooms (payloadUnitStartIndicator p) (payload p) st1) (passed st1)
-
-unfoldable pub packetRule : ℕ → Bytes → Kind → Rooms → Rule
-packetRule i p kind rooms st = atPlace i (packet.headerOf p) >> readRule i p kind rooms st
-
--- the packet ends at a place of the segment
-abbrev pub EndsAt : Bytes → ℕ → Bytes → Type 0
-EndsAt segment end p = (at : ℕ) × (end ≡ at + length p) × LiesAt segment at p
-
--- a step's outcome is the verdict; where it passed, its kind is this one, and the outputs hold what the new state has extracted
-abbrev pub GoesBy : Outcome → Bytes → Kind → Outputs → Verdict State → Stepped → List ℕ → List ℕ → List ℕ → Type 0
-GoesBy outcome.Passed segment kind before v r out lens times =
-    (x : Extracted) × (v ≡ passed (stateOf segment (r .tables) x)) × Stands before x (r .extraction) out lens times × (r .kind ≡ kind)
-GoesBy (outcome.Refused q) segment kind before v r out lens times = v ≡ refusedBy q
-
-abbrev pub Goes : Bytes → Kind → Outputs → Verdict State → Stepped → List ℕ → List ℕ → List ℕ → Type 0
-Goes segment kind before v r out lens times = GoesBy (r .outcome) segment kind before v r out lens times
-
+-- ---- both
 -- the packet with this index
 abbrev pub packetAt : Bytes → ℕ → Bytes
-packetAt segment i = take packetLength (drop (i * packetLength) segment)
+packetAt segment i = sectionAt segment (i * packetLength) packetLength
 
-abbrev pub Steps : Bytes → ℕ → Outputs → State → Stepped → List ℕ → List ℕ → List ℕ → Type 0
-Steps segment i before st r out lens times =
-    Goes segment (kindOf st (pid (packetAt segment i))) before
-    (packetRule i (packetAt segment i) (kindOf st (pid (packetAt segment i))) (roomsOf before) st) r out lens times
+pub record StateStands (edition : Edition) (segment : Bytes) (before now : Outputs) (c : Tables) (e : Extraction)
+    (st : State) : Type 0 where
+  pub tables : TablesStand edition segment c (st .tables)
+  pub extraction : UnitsStand before now e (st .extraction)
 
--- ---- the whole segment
+module _ (edition : Edition) (segment : Bytes) where
+  -- what a packet does, from a state for which the code's stands, is this rule of the definitions
+  abbrev pub RuleTurn : Outputs → Rule → Tables → Extraction → Outputs → Stepped → Outputs → Type 0
+  RuleTurn before rule c e now r after =
+      (st : State) → Named (st .tables) → StateStands edition segment before now c e st
+      → Turns (r .outcome) (rule st) (StateStands edition segment before after (r .tables) (r .extraction))
+
+  -- a packet with payload that passed 24
+  abbrev pub ContentTurn : Packet → Tables → Extraction → Outputs → Stepped → Outputs → Type 0
+  ContentTurn k c e now r after =
+      (before : Outputs) (p : Bytes) → p ≡ packetAt segment (k .index) → k .header ≡ fields p → hasPayload p ≡ true
+      → RuleTurn before (inSequence (after24 edition (roomsOf before) (k .index) p (kindSays (k .kind)))) c e now r
+      after
+
+  -- a packet that passed 21, 22 and 23
+  abbrev pub ReadTurn : Packet → Tables → Extraction → Outputs → Stepped → Outputs → Type 0
+  ReadTurn k c e now r after =
+      (before : Outputs) (p : Bytes) → p ≡ packetAt segment (k .index) → headerOf p ≡ verdict.passed (k .header)
+      → SlotOf c (k .header .pid) (k .kind)
+      → RuleTurn before (packetRules edition (roomsOf before) (k .index) p (kindSays (k .kind))) c e now r after
+
+  -- a packet
+  abbrev pub PacketTurn : ℕ → Tables → Extraction → Outputs → Stepped → Outputs → Type 0
+  PacketTurn i c e now r after =
+      (before : Outputs) (st : State) → Named (st .tables) → StateStands edition segment before now c e st
+      → Turns (r .outcome)
+      (packetRules edition (roomsOf before) i (packetAt segment i) (kindOf (st .tables) (pid (packetAt segment i))) st)
+      (λ st′. StateStands edition segment before after (r .tables) (r .extraction) st′
+      × (kindSays (r .kind) ≡ kindOf (st .tables) (pid (packetAt segment i))))
+
+  -- all packets
+  abbrev pub RunTurn : Outputs → Ran → Outputs → Type 0
+  RunTurn before r now =
+      Turns (r .outcome) (run edition (roomsOf before) start (packets segment))
+      (λ g. StateStands edition segment before now (r .tables) (r .extraction) (g .state) × (r .totals ≡ g .totals))
+
 -- there is room for one more packet in each total
 abbrev pub CountsUpTo : Totals → Type 0
-CountsUpTo t = packetCount t < 65535
+CountsUpTo t = packetCount t < mostPackets
 
--- the packets were run
-abbrev pub RunsBy : Outcome → Bytes → Outputs → Ran → List ℕ → List ℕ → List ℕ → Type 0
-RunsBy outcome.Passed segment before r out lens times =
-    (x : Extracted)
-    × (run (roomsOf before) start (packets segment) ≡ passed (record { state = stateOf segment (r .tables) x; totals = r .totals }))
-    × Stands before x (r .extraction) out lens times
-RunsBy (outcome.Refused q) segment before r out lens times = run (roomsOf before) start (packets segment) ≡ refusedBy q
+-- ---- the end
+-- 33, or the summary of these units
+abbrev pub AcceptTurn : Edition → Tables → ℕ → ℕ → Totals → SegmentCheck → Type 0
+AcceptTurn edition c units count totals r =
+    (segment : Bytes) (t : state.Tables) (us : List AccessUnit) → units ≡ length us → TablesStand edition segment c t
+    → checkSays r ≡ summarised (accepted count (t .pat) (t .pmt) us totals)
 
-abbrev pub Runs : Bytes → Outputs → Ran → List ℕ → List ℕ → List ℕ → Type 0
-Runs segment before r out lens times = RunsBy (r .outcome) segment before r out lens times
+-- an answer is the verdict on the whole; where it accepts, the outputs hold the units
+abbrev pub AnswerTurn : Outputs → Verdict Accepted → SegmentCheck → Outputs → Type 0
+AnswerTurn before v (checked.Accepted s) now =
+    Turns Passed v (λ a. (s ≡ summaryOf a) × (now ≡ holding (a .units) before))
+AnswerTurn before v (checked.Refused r) now = Turns (Refused r) v (λ a. ⊥)
 
--- an answer says a verdict on the whole; where it accepts, the outputs hold the units
-abbrev pub JudgesBy : SegmentCheck → Outputs → Verdict Accepted → List ℕ → List ℕ → List ℕ → Type 0
-JudgesBy (checked.Accepted s) before v out lens times =
-    (a : Accepted) × (v ≡ passed a) × (s ≡ summaryOf a) × (outputsOf out lens times ≡ holding (a .units) before)
-JudgesBy (checked.Refused r) before v out lens times = v ≡ refusedBy r
+-- after so many packets
+abbrev pub EndTurn : Edition → Ran → ℕ → Outputs → SegmentCheck → Outputs → Type 0
+EndTurn edition ran count now r after =
+    (segment : Bytes) (before : Outputs) (g : Progress) → count ≡ g .index → ran .totals ≡ g .totals
+    → StateStands edition segment before now (ran .tables) (ran .extraction) (g .state)
+    → AnswerTurn before (ending g) r after
 
-abbrev pub Judges : Bytes → Outputs → SegmentCheck → List ℕ → List ℕ → List ℕ → Type 0
-Judges segment before r out lens times = JudgesBy r before (checkSegment segment (roomsOf before)) out lens times
+-- the whole segment
+abbrev pub WholeTurn : Edition → Bytes → Outputs → SegmentCheck → Outputs → Type 0
+WholeTurn edition segment before r now = AnswerTurn before (checkSegment edition (roomsOf before) segment) r now

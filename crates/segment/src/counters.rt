@@ -1,10 +1,15 @@
 // The counters of PID 0, the map PID and the listed PIDs.
 ghost use mathlib.Core.Path.{_≡_};
-ghost use Rattle.packet.specs.Counter.{named};
-ghost use Rattle.packet.specs.Streams.{noStreams};
-ghost use Rattle.segment.specs.declared.state.Kind.the-variants as kind;
-ghost use Rattle.segment.specs.Rules.{countersAfter, listedChecked};
-ghost use Rattle.segment.specs.Parts.{countersOf, countersSays, outcomeOf};
+ghost use Rattle.packet.specs.Streams.{recordAt};
+ghost use Rattle.segment.specs.Parts.{
+  freshCounters,
+  outcomeOf,
+  withPatRecord,
+  withMapRecord,
+  withListedRecord,
+  RecordChecked,
+  CountersChecked,
+};
 use crate::state::Kind;
 use crate::state::Outcome;
 use packet::Counted;
@@ -27,7 +32,7 @@ pub(crate) struct CountersTurn {
 
 // Before the first packet.
 pub(crate) fn fresh_counters() -> Counters
-    ensures { λ r. ⌜ r ≡ record { pat = named 0; map = named 0; listed = noStreams } ⌝ }
+    ensures { λ r. ⌜ r ≡ freshCounters ⌝ }
 {
     let pat = Stream::named(0);
     let listed = Streams::none();
@@ -49,7 +54,7 @@ fn outcome_of(verdict: Counter) -> Outcome
 
 impl Counters {
     fn check_pat(self, packet: Counted) -> CountersTurn
-        ensures { λ r. ⌜ countersSays r ≡ countersAfter kind.Pat packet (countersOf self) ⌝ }
+        ensures { λ r. ⌜ RecordChecked (self .pat) (withPatRecord self) packet r ⌝ }
     {
         let stream = self.pat;
         let checked = stream.check(packet);
@@ -64,7 +69,7 @@ impl Counters {
     }
 
     fn check_map(self, packet: Counted) -> CountersTurn
-        ensures { λ r. ⌜ countersSays r ≡ countersAfter kind.Map packet (countersOf self) ⌝ }
+        ensures { λ r. ⌜ RecordChecked (self .map) (withMapRecord self) packet r ⌝ }
     {
         let stream = self.map;
         let checked = stream.check(packet);
@@ -79,7 +84,7 @@ impl Counters {
     }
 
     fn check_listed(self, slot: usize, packet: Counted) -> CountersTurn
-        ensures { λ r. ⌜ countersSays r ≡ listedChecked slot packet (countersOf self) ⌝ }
+        ensures { λ r. ⌜ RecordChecked (recordAt (self .listed) slot) (withListedRecord self slot) packet r ⌝ }
     {
         let streams = self.listed;
         let stream = streams.at(slot);
@@ -96,7 +101,7 @@ impl Counters {
 
     // The counter of a packet whose PID is of this kind; 24.
     pub(crate) fn check(self, kind: Kind, packet: Counted) -> CountersTurn
-        ensures { λ r. ⌜ countersSays r ≡ countersAfter kind packet (countersOf self) ⌝ }
+        ensures { λ r. ⌜ CountersChecked kind self packet r ⌝ }
     {
         match kind {
             Kind::Null => CountersTurn {

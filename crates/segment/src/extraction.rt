@@ -1,14 +1,19 @@
 // The access units: a PES opens, takes payload and closes.
 ghost use mathlib.Core.Path.{_≡_};
+ghost use mathlib.Core.Bool.{true, false};
 ghost use mathlib.Core.List.{List};
 ghost use Prim.Native.Nat.{ℕ, _+_, _≤_, _<_, _^_};
 ghost use lib.ListN.{length};
-ghost use Rattle.segment.specs.State.{State, withUnit};
-ghost use Rattle.segment.specs.Check.{Outputs, roomsOf};
-ghost use Rattle.segment.specs.Rules.{closeOpen, closePes, unitOf, lengthDiffers};
-ghost use Rattle.segment.specs.Parts.{outcomeSays, openPes, Fits, Stands, Follows, extractedFrom, opening, openingTimed, adding, starting, freshExtraction};
+ghost use Rattle.refusal.specs.Verdict.{passed};
+ghost use Rattle.pes.specs.Pes.{pesData, reading};
+ghost use Rattle.descriptor.specs.Edition.{current};
+ghost use Rattle.segment_rules.specs.Rules.{lengthDiffers};
+ghost use Rattle.segment_rules.specs.Check.{outputsOf};
+ghost use Rattle.segment.specs.Parts.{freshExtraction, roomsIn, Fits, openPes, HasRoom, JudgeTurn, ClosingTurn, MayOpenTurn, OpeningTurn, PayloadTurn};
+use crate::outputs::Rooms;
 use crate::outputs::copy;
 use crate::outputs::put_unit;
+use crate::outputs::time_pair;
 use crate::state::Outcome;
 use crate::state::PesFound;
 use crate::state::PesSeen;
@@ -17,6 +22,7 @@ use lists::part;
 use lists::rest;
 use pes::Header;
 use pes::PesRead;
+use pes::Times;
 use refusal::Refusal;
 use refusal::Refused;
 use unit::UnitRead;
@@ -24,7 +30,8 @@ use unit::UnitRead;
 // The most units of a segment.
 const MOST_UNITS: usize = 1024;
 
-// The open PES, the units closed so far, and where in the output the next unit begins and how many bytes of it are there.
+// The open PES, the units closed so far, and where in the output the next unit begins and how many bytes of it are
+// there.
 pub(crate) struct Extraction {
     pub pes: PesSeen,
     pub units: usize,
@@ -51,7 +58,8 @@ pub(crate) fn fresh_extraction() -> Extraction
 }
 
 fn refuse(why: Refusal, place: usize, extraction: Extraction) -> ExtractionTurn
-    ensures { λ r. ⌜ r ≡ record { extraction = extraction; outcome = Outcome.Refused (record { why = why; place = place }) } ⌝ }
+    ensures { λ r. ⌜ r
+        ≡ record { extraction = extraction; outcome = Outcome.Refused (record { why = why; place = place }) } ⌝ }
 {
     ExtractionTurn {
         extraction,
@@ -72,7 +80,7 @@ fn length_wrong(header: Header, bytes: usize) -> bool
 
 // The verdict on the unit of a PES that closes: 32, then the reading of the unit.
 fn judge_unit(found: PesFound, unit: &[u8]) -> Outcome
-    ensures { λ r. ⌜ ((st : State) → outcomeSays r (withUnit (unitOf (openPes found (now (unit .entry)))) st) ≡ closeOpen (openPes found (now (unit .entry))) st) ⌝ }
+    ensures { λ r. ⌜ JudgeTurn (openPes found (now (unit .entry))) r ⌝ }
 {
     let header = found.header;
     let place = found.first;
@@ -99,9 +107,11 @@ pub(crate) fn close(
     lens: &mut [usize],
     times: &mut [u64],
 ) -> ExtractionTurn
-    requires { ⌜ Fits extraction (now out) (now lens) (now times) ⌝ }
-    ensures { λ r. ⌜ ((before : Outputs) (st : State) → Stands before (extractedFrom st) extraction (now (out .entry)) (now (lens .entry)) (now (times .entry)) → Follows before st (closePes st) r (now (out .entry)) (now (lens .exit)) (now (times .exit))) ⌝ }
-    ensures { λ r. ⌜ (r .outcome ≡ Outcome.Passed → r .extraction .pes ≡ PesSeen.Closed) × (r .extraction .start + r .extraction .bytes ≡ extraction .start + extraction .bytes) ⌝ }
+    requires { ⌜ Fits extraction (roomsIn (now out) (now lens) (now times)) ⌝ }
+    ensures { λ r. ⌜ ClosingTurn extraction (outputsOf (now (out .entry)) (now (lens .entry)) (now (times .entry))) r
+        (outputsOf (now (out .entry)) (now (lens .exit)) (now (times .exit))) ⌝ }
+    ensures { λ r. ⌜ (r .outcome ≡ Outcome.Passed → r .extraction .pes ≡ PesSeen.Closed)
+        × (r .extraction .start + r .extraction .bytes ≡ extraction .start + extraction .bytes) ⌝ }
 {
     let pes = extraction.pes;
     let PesSeen::Open(found) = pes else {
@@ -118,9 +128,9 @@ pub(crate) fn close(
         };
     };
     let header = found.header;
-    let pts = header.pts;
-    let dts = header.dts;
-    put_unit(extraction.units, extraction.bytes, pts, dts, lens, times);
+    let stamps = header.times;
+    let pair = time_pair(stamps);
+    put_unit(extraction.units, extraction.bytes, pair, lens, times);
     let closed = Extraction {
         pes: PesSeen::Closed,
         units: extraction.units + 1,
@@ -133,42 +143,66 @@ pub(crate) fn close(
     }
 }
 
-// A PES opens with this header and these bytes, no other being open; 31, 34, 8.
-fn open_timed(
+// Whether a PES may open with so many bytes, no other being open; 31, 34, 8.
+fn may_open(
     index: usize,
-    header: Header,
+    bytes: usize,
+    pcr_seen: bool,
+    extraction: Extraction,
+    rooms: Rooms,
+) -> Outcome
+    requires { ⌜ extraction .start + extraction .bytes ≤ rooms .bytes ⌝ }
+    ensures { λ r. ⌜ MayOpenTurn index bytes «pcr_seen» extraction rooms r ⌝ }
+    ensures { λ r. ⌜ (r ≡ Outcome.Passed → HasRoom extraction bytes rooms) ⌝ }
+{
+    if !pcr_seen {
+        return Outcome::Refused(Refusal::NO_PCR.at(index));
+    }
+    if MOST_UNITS <= extraction.units {
+        return Outcome::Refused(Refusal::UNIT_COUNT.at(index));
+    }
+    if rooms.bytes - (extraction.start + extraction.bytes) < bytes {
+        return Outcome::Refused(Refusal::NO_ROOM.at(index));
+    }
+    if rooms.lens <= extraction.units {
+        return Outcome::Refused(Refusal::NO_ROOM.at(index));
+    }
+    if rooms.times < 2 * (extraction.units + 1) {
+        return Outcome::Refused(Refusal::NO_ROOM.at(index));
+    }
+    Outcome::Passed
+}
+
+// A PES opens with this header and these bytes, no other being open; 30, 31, 34, 8.
+fn open_with(
+    found: PesFound,
     bytes: &[u8],
     pcr_seen: bool,
     extraction: Extraction,
     out: &mut [u8],
-    lens: usize,
-    times: usize,
+    rooms: Rooms,
 ) -> ExtractionTurn
-    requires { ⌜ extraction .start + extraction .bytes ≤ length (now out) ⌝ }
-    ensures { λ r. ⌜ ((before : Outputs) (st : State) (ls ts : List ℕ) → length ls ≡ lens → length ts ≡ times → st .pcrSeen ≡ «pcr_seen» → extraction .pes ≡ PesSeen.Closed → Stands before (extractedFrom st) extraction (now (out .entry)) ls ts → Follows before st (openingTimed index (roomsOf before) header (now (bytes .entry)) st) r (now (out .exit)) ls ts) ⌝ }
+    requires { ⌜ (extraction .start + extraction .bytes ≤ length (now out)) × (rooms .bytes ≡ length (now out)) ⌝ }
+    ensures { λ r. ⌜ ((w : List ℕ) → reading w ≡ passed (found .header) → now (bytes .entry) ≡ pesData w →
+        OpeningTurn current (found .first) w «pcr_seen» extraction rooms (now (out .entry)) r (now (out .exit))) ⌝ }
 {
-    if !pcr_seen {
-        return refuse(Refusal::NO_PCR, index, extraction);
-    }
-    if MOST_UNITS <= extraction.units {
-        return refuse(Refusal::UNIT_COUNT, index, extraction);
-    }
+    let header = found.header;
+    let index = found.first;
+    let times = header.times;
+    let Times::Stamps(_, _) = times else {
+        return refuse(Refusal::NO_TIMES, index, extraction);
+    };
+    let outcome = may_open(index, bytes.len(), pcr_seen, extraction, rooms);
+    let Outcome::Passed = outcome else {
+        return ExtractionTurn {
+            extraction,
+            outcome,
+        };
+    };
     let written = extraction.start + extraction.bytes;
-    if out.len() - written < bytes.len() {
-        return refuse(Refusal::NO_ROOM, index, extraction);
-    }
-    if lens <= extraction.units {
-        return refuse(Refusal::NO_ROOM, index, extraction);
-    }
-    if times < 2 * (extraction.units + 1) {
-        return refuse(Refusal::NO_ROOM, index, extraction);
-    }
     copy(bytes, &mut out[written..]);
     let opened = Extraction {
-        pes: PesSeen::Open(PesFound {
-            first: index,
-            header,
-        }),
+        pes: PesSeen::Open(found),
         units: extraction.units,
         start: written,
         bytes: bytes.len(),
@@ -186,11 +220,11 @@ fn open(
     pcr_seen: bool,
     extraction: Extraction,
     out: &mut [u8],
-    lens: usize,
-    times: usize,
+    rooms: Rooms,
 ) -> ExtractionTurn
-    requires { ⌜ extraction .start + extraction .bytes ≤ length (now out) ⌝ }
-    ensures { λ r. ⌜ ((before : Outputs) (st : State) (ls ts : List ℕ) → length ls ≡ lens → length ts ≡ times → st .pcrSeen ≡ «pcr_seen» → extraction .pes ≡ PesSeen.Closed → Stands before (extractedFrom st) extraction (now (out .entry)) ls ts → Follows before st (opening index (roomsOf before) (now (payload .entry)) st) r (now (out .exit)) ls ts) ⌝ }
+    requires { ⌜ (extraction .start + extraction .bytes ≤ length (now out)) × (rooms .bytes ≡ length (now out)) ⌝ }
+    ensures { λ r. ⌜ OpeningTurn current index (now (payload .entry)) «pcr_seen» extraction rooms
+        (now (out .entry)) r (now (out .exit)) ⌝ }
 {
     let read = pes::read(payload);
     match read {
@@ -198,10 +232,13 @@ fn open(
             extraction,
             outcome: at_place(index, Outcome::Refused(refused)),
         },
-        PesRead::Untimed => refuse(Refusal::NO_TIMES, index, extraction),
-        PesRead::Timed(header) => {
+        PesRead::Header(header) => {
             let bytes = rest(payload, header.size as usize);
-            open_timed(index, header, bytes, pcr_seen, extraction, out, lens, times)
+            let found = PesFound {
+                first: index,
+                header,
+            };
+            open_with(found, bytes, pcr_seen, extraction, out, rooms)
         }
     }
 }
@@ -216,8 +253,10 @@ pub(crate) fn start(
     lens: &mut [usize],
     times: &mut [u64],
 ) -> ExtractionTurn
-    requires { ⌜ Fits extraction (now out) (now lens) (now times) ⌝ }
-    ensures { λ r. ⌜ ((before : Outputs) (st : State) → st .pcrSeen ≡ «pcr_seen» → Stands before (extractedFrom st) extraction (now (out .entry)) (now (lens .entry)) (now (times .entry)) → Follows before st (starting index (roomsOf before) (now (payload .entry)) st) r (now (out .exit)) (now (lens .exit)) (now (times .exit))) ⌝ }
+    requires { ⌜ Fits extraction (roomsIn (now out) (now lens) (now times)) ⌝ }
+    ensures { λ r. ⌜ PayloadTurn current true index (now (payload .entry)) «pcr_seen» extraction
+        (outputsOf (now (out .entry)) (now (lens .entry)) (now (times .entry))) r
+        (outputsOf (now (out .exit)) (now (lens .exit)) (now (times .exit))) ⌝ }
 {
     let closed = close(extraction, out, lens, times);
     let outcome = closed.outcome;
@@ -225,7 +264,12 @@ pub(crate) fn start(
         return closed;
     };
     let next = closed.extraction;
-    open(index, payload, pcr_seen, next, out, lens.len(), times.len())
+    let rooms = Rooms {
+        bytes: out.len(),
+        lens: lens.len(),
+        times: times.len(),
+    };
+    open(index, payload, pcr_seen, next, out, rooms)
 }
 
 // The payload of a packet that goes on with the open PES; 29, 31, 8.
@@ -237,7 +281,9 @@ pub(crate) fn add(
     out: &mut [u8],
 ) -> ExtractionTurn
     requires { ⌜ extraction .start + extraction .bytes ≤ length (now out) ⌝ }
-    ensures { λ r. ⌜ ((before : Outputs) (st : State) (ls ts : List ℕ) → st .pcrSeen ≡ «pcr_seen» → Stands before (extractedFrom st) extraction (now (out .entry)) ls ts → Follows before st (adding index (roomsOf before) (now (payload .entry)) st) r (now (out .exit)) ls ts) ⌝ }
+    ensures { λ r. ⌜ ((lens times : List ℕ) →
+        PayloadTurn current false index (now (payload .entry)) «pcr_seen» extraction
+        (outputsOf (now (out .entry)) lens times) r (outputsOf (now (out .exit)) lens times)) ⌝ }
 {
     let pes = extraction.pes;
     let PesSeen::Open(found) = pes else {

@@ -8,7 +8,6 @@ mod state;
 mod tables;
 mod whole;
 
-pub use state::Totals;
 pub use whole::SegmentCheck;
 pub use whole::Summary;
 pub use whole::check;

@@ -1,10 +1,43 @@
 // The three outputs: a payload's bytes, a unit's length and times, zeros.
 ghost use mathlib.Core.Path.{_≡_};
+ghost use mathlib.Core.List.{[], _∷_};
 ghost use Prim.Native.Nat.{_+_, _*_, _≤_, _<_};
 ghost use lib.ListN.{length, set};
 ghost use Rattle.lists.specs.Lists.{over};
-ghost use Rattle.segment.specs.Check.{zeros};
-use ticks::Ticks90;
+ghost use Rattle.segment_rules.specs.Check.{ptsAndDts, zeros};
+use pes::Times;
+
+// The number that stands for a time where a unit has none: 2^33, which no time of 33 bits equals.
+const NO_TIME: u64 = 8589934592;
+
+// The lengths of the three outputs.
+pub(crate) struct Rooms {
+    pub bytes: usize,
+    pub lens: usize,
+    pub times: usize,
+}
+
+// The two numbers of a unit's times.
+pub(crate) struct TimePair {
+    pub pts: u64,
+    pub dts: u64,
+}
+
+// The numbers of these times.
+pub(crate) fn time_pair(times: Times) -> TimePair
+    ensures { λ r. ⌜ r .pts ∷ r .dts ∷ [] ≡ ptsAndDts times ⌝ }
+{
+    match times {
+        Times::Absent => TimePair {
+            pts: NO_TIME,
+            dts: NO_TIME,
+        },
+        Times::Stamps(pts, dts) => TimePair {
+            pts: pts.0,
+            dts: dts.0,
+        },
+    }
+}
 
 // The bytes of a payload, over the front of what is left of the output.
 pub(crate) fn copy(payload: &[u8], out: &mut [u8])
@@ -22,19 +55,19 @@ pub(crate) fn copy(payload: &[u8], out: &mut [u8])
 pub(crate) fn put_unit(
     unit: usize,
     bytes: usize,
-    pts: Ticks90,
-    dts: Ticks90,
+    pair: TimePair,
     lens: &mut [usize],
     times: &mut [u64],
 )
     requires { ⌜ (unit < length (now lens)) × (2 * unit + 1 < length (now times)) ⌝ }
     ensures { λ _. ⌜ now (lens .exit) ≡ set (now (lens .entry)) unit bytes ⌝ }
-    ensures { λ _. ⌜ now (times .exit) ≡ set (set (now (times .entry)) (2 * unit) (pts .0)) (2 * unit + 1) (dts .0) ⌝ }
+    ensures { λ _. ⌜ now (times .exit)
+        ≡ set (set (now (times .entry)) (2 * unit) (pair .pts)) (2 * unit + 1) (pair .dts) ⌝ }
 {
     lens[unit] = bytes;
     let at = 2 * unit;
-    times[at] = pts.0;
-    times[at + 1] = dts.0;
+    times[at] = pair.pts;
+    times[at + 1] = pair.dts;
 }
 
 fn clear_bytes(out: &mut [u8])

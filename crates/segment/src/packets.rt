@@ -2,26 +2,28 @@
 ghost use mathlib.Core.Path.{_≡_};
 ghost use Prim.Native.Nat.{_+_, _*_, _≤_};
 ghost use lib.ListN.{length};
-ghost use Rattle.packet.specs.Header.{fields};
-ghost use Rattle.segment.specs.State.{State, kindOf, counting};
-ghost use Rattle.segment.specs.Rules.{isAv1};
-ghost use Rattle.segment.specs.Check.{Outputs, roomsOf};
-ghost use Rattle.segment.specs.Parts.{Extracted, Fits, Stands, Follows, Goes, EndsAt, CountsUpTo, extractedFrom, payloadRule, readRule, Steps, stateOf};
+ghost use Rattle.descriptor.specs.Edition.{current};
+ghost use Rattle.segment_rules.specs.State.{counting};
+ghost use Rattle.segment_rules.specs.Rules.{isAv1};
+ghost use Rattle.segment_rules.specs.Check.{outputsOf};
+ghost use Rattle.segment.specs.Parts.{kindSays, roomsIn, Fits, CountsUpTo, packetAt, PayloadTurn, ContentTurn, ReadTurn, PacketTurn};
 use crate::extraction::Extraction;
 use crate::extraction::ExtractionTurn;
 use crate::extraction::add;
 use crate::extraction::start;
+use crate::sections::read_section;
 use crate::state::Kind;
 use crate::state::Outcome;
-use crate::state::Totals;
+use crate::state::Packet;
 use crate::state::at_place;
 use crate::tables::Tables;
-use crate::tables::check_tables;
+use crate::tables::check_counter;
+use crate::tables::is_pcr;
 use crate::tables::kind_of;
 use lists::part;
 use lists::rest;
-use packet::Header;
 use packet::PacketRead;
+use segment_rules::Totals;
 
 // The length of a packet.
 const PACKET_LENGTH: usize = 188;
@@ -35,7 +37,7 @@ pub(crate) struct Stepped {
 }
 
 fn is_av1(kind: Kind) -> bool
-    ensures { λ r. ⌜ r ≡ isAv1 kind ⌝ }
+    ensures { λ r. ⌜ r ≡ isAv1 (kindSays kind) ⌝ }
 {
     match kind {
         Kind::Null => false,
@@ -50,7 +52,7 @@ fn is_av1(kind: Kind) -> bool
 // One more packet of this kind.
 pub(crate) fn count_packet(kind: Kind, totals: Totals) -> Totals
     requires { ⌜ CountsUpTo totals ⌝ }
-    ensures { λ r. ⌜ r ≡ counting kind totals ⌝ }
+    ensures { λ r. ⌜ r ≡ counting (kindSays kind) totals ⌝ }
 {
     let mut next = totals;
     match kind {
@@ -64,48 +66,112 @@ pub(crate) fn count_packet(kind: Kind, totals: Totals) -> Totals
     next
 }
 
+// The packet with this index.
+fn packet_at(segment: &[u8], index: usize) -> &[u8]
+    requires { ⌜ index * 188 + 188 ≤ length (now segment) ⌝ }
+    ensures { λ r. ⌜ now r ≡ packetAt (now (segment .entry)) index ⌝ }
+{
+    part(segment, index * PACKET_LENGTH, PACKET_LENGTH)
+}
+
 // The AV1 payload of a packet, which starts a PES or goes on with one.
 fn take_payload(
-    index: usize,
+    packet: Packet,
     payload: &[u8],
-    start_flag: bool,
     pcr_seen: bool,
     extraction: Extraction,
     out: &mut [u8],
     lens: &mut [usize],
     times: &mut [u64],
 ) -> ExtractionTurn
-    requires { ⌜ Fits extraction (now out) (now lens) (now times) ⌝ }
-    ensures { λ r. ⌜ ((before : Outputs) (st : State) → st .pcrSeen ≡ «pcr_seen» → Stands before (extractedFrom st) extraction (now (out .entry)) (now (lens .entry)) (now (times .entry)) → Follows before st (payloadRule index (roomsOf before) «start_flag» (now (payload .entry)) st) r (now (out .exit)) (now (lens .exit)) (now (times .exit))) ⌝ }
+    requires { ⌜ Fits extraction (roomsIn (now out) (now lens) (now times)) ⌝ }
+    ensures { λ r. ⌜ PayloadTurn current (packet .header .start) (packet .index) (now (payload .entry)) «pcr_seen»
+        extraction
+        (outputsOf (now (out .entry)) (now (lens .entry)) (now (times .entry))) r
+        (outputsOf (now (out .exit)) (now (lens .exit)) (now (times .exit))) ⌝ }
 {
-    if start_flag {
-        return start(index, payload, pcr_seen, extraction, out, lens, times);
+    let header = packet.header;
+    if header.start {
+        return start(
+            packet.index,
+            payload,
+            pcr_seen,
+            extraction,
+            out,
+            lens,
+            times,
+        );
     }
-    add(index, payload, pcr_seen, extraction, out)
+    add(packet.index, payload, pcr_seen, extraction, out)
 }
 
-// A packet that passed 21, 22 and 23 and ends at this place of the segment: its tables, then its AV1 payload.
-fn step_read(
+// What a packet that passed 24 carries: a section, or the payload of a PES.
+fn take_content(
     segment: &[u8],
-    end: usize,
-    packet: &[u8],
-    index: usize,
-    header: Header,
+    packet: Packet,
     tables: Tables,
     extraction: Extraction,
     out: &mut [u8],
     lens: &mut [usize],
     times: &mut [u64],
 ) -> Stepped
-    requires { ⌜ (end ≤ length (now segment)) × (length (now packet) ≤ end) × Fits extraction (now out) (now lens) (now times) ⌝ }
-    ensures { λ r. ⌜ ((before : Outputs) (x : Extracted) → header ≡ fields (now (packet .entry)) → EndsAt (now (segment .entry)) end (now (packet .entry)) → Stands before x extraction (now (out .entry)) (now (lens .entry)) (now (times .entry)) → Goes (now (segment .entry)) (kindOf (stateOf (now (segment .entry)) tables x) (header .pid)) before (readRule index (now (packet .entry)) (kindOf (stateOf (now (segment .entry)) tables x) (header .pid)) (roomsOf before) (stateOf (now (segment .entry)) tables x)) r (now (out .exit)) (now (lens .exit)) (now (times .exit))) ⌝ }
+    requires { ⌜ (packet .index * 188 + 188 ≤ length (now segment))
+        × Fits extraction (roomsIn (now out) (now lens) (now times)) ⌝ }
+    ensures { λ r. ⌜ ContentTurn current (now (segment .entry)) packet tables extraction
+        (outputsOf (now (out .entry)) (now (lens .entry)) (now (times .entry))) r
+        (outputsOf (now (out .exit)) (now (lens .exit)) (now (times .exit))) ⌝ }
+    ensures { λ r. ⌜ r .kind ≡ packet .kind ⌝ }
 {
-    let payload = rest(packet, header.payload);
-    let at = end - payload.len();
-    let kind = kind_of(tables, header.pid);
-    let turn = check_tables(segment, at, payload, index, header, kind, tables);
+    let header = packet.header;
+    let kind = packet.kind;
+    let payload = rest(packet_at(segment, packet.index), header.payload);
+    if is_av1(kind) {
+        let pcr = tables.pcr;
+        let seen = is_pcr(pcr);
+        let taken = take_payload(packet, payload, seen, extraction, out, lens, times);
+        let next = taken.extraction;
+        let outcome = taken.outcome;
+        return Stepped {
+            tables,
+            extraction: next,
+            kind,
+            outcome,
+        };
+    }
+    let at = (packet.index * PACKET_LENGTH + PACKET_LENGTH) - payload.len();
+    let turn = read_section(segment, at, payload, header.start, kind, tables);
+    let read = turn.tables;
     let outcome = turn.outcome;
-    let checked = turn.tables;
+    Stepped {
+        tables: read,
+        extraction,
+        kind,
+        outcome: at_place(packet.index, outcome),
+    }
+}
+
+// A packet that passed 21, 22 and 23: its PCR and its counter, then what it carries.
+fn step_read(
+    segment: &[u8],
+    packet: Packet,
+    tables: Tables,
+    extraction: Extraction,
+    out: &mut [u8],
+    lens: &mut [usize],
+    times: &mut [u64],
+) -> Stepped
+    requires { ⌜ (packet .index * 188 + 188 ≤ length (now segment))
+        × Fits extraction (roomsIn (now out) (now lens) (now times)) ⌝ }
+    ensures { λ r. ⌜ ReadTurn current (now (segment .entry)) packet tables extraction
+        (outputsOf (now (out .entry)) (now (lens .entry)) (now (times .entry))) r
+        (outputsOf (now (out .exit)) (now (lens .exit)) (now (times .exit))) ⌝ }
+    ensures { λ r. ⌜ r .kind ≡ packet .kind ⌝ }
+{
+    let header = packet.header;
+    let kind = packet.kind;
+    let counted = check_counter(packet, tables);
+    let outcome = counted.outcome;
+    let checked = counted.tables;
     let Outcome::Passed = outcome else {
         return Stepped {
             tables: checked,
@@ -114,14 +180,6 @@ fn step_read(
             outcome,
         };
     };
-    if !is_av1(kind) {
-        return Stepped {
-            tables: checked,
-            extraction,
-            kind,
-            outcome,
-        };
-    }
     if !header.has_payload {
         return Stepped {
             tables: checked,
@@ -130,24 +188,7 @@ fn step_read(
             outcome,
         };
     }
-    let taken = take_payload(
-        index,
-        payload,
-        header.start,
-        checked.pcr_seen,
-        extraction,
-        out,
-        lens,
-        times,
-    );
-    let next = taken.extraction;
-    let verdict = taken.outcome;
-    Stepped {
-        tables: checked,
-        extraction: next,
-        kind,
-        outcome: verdict,
-    }
+    take_content(segment, packet, checked, extraction, out, lens, times)
 }
 
 // The packet with this index: the table of document 01 in its sequence.
@@ -160,13 +201,13 @@ pub(crate) fn step(
     lens: &mut [usize],
     times: &mut [u64],
 ) -> Stepped
-    requires { ⌜ (index * 188 + 188 ≤ length (now segment)) × Fits extraction (now out) (now lens) (now times) ⌝ }
-    ensures { λ r. ⌜ ((before : Outputs) (x : Extracted) → Stands before x extraction (now (out .entry)) (now (lens .entry)) (now (times .entry)) → Steps (now (segment .entry)) index before (stateOf (now (segment .entry)) tables x) r (now (out .exit)) (now (lens .exit)) (now (times .exit))) ⌝ }
+    requires { ⌜ (index * 188 + 188 ≤ length (now segment))
+        × Fits extraction (roomsIn (now out) (now lens) (now times)) ⌝ }
+    ensures { λ r. ⌜ PacketTurn current (now (segment .entry)) index tables extraction
+        (outputsOf (now (out .entry)) (now (lens .entry)) (now (times .entry))) r
+        (outputsOf (now (out .exit)) (now (lens .exit)) (now (times .exit))) ⌝ }
 {
-    let at = index * PACKET_LENGTH;
-    let end = at + PACKET_LENGTH;
-    let packet = part(segment, at, PACKET_LENGTH);
-    let read = packet::read(packet);
+    let read = packet::read(packet_at(segment, index));
     match read {
         PacketRead::Refused(refused) => Stepped {
             tables,
@@ -174,17 +215,14 @@ pub(crate) fn step(
             kind: Kind::Unlisted,
             outcome: at_place(index, Outcome::Refused(refused)),
         },
-        PacketRead::Header(header) => step_read(
-            segment,
-            end,
-            packet,
-            index,
-            header,
-            tables,
-            extraction,
-            out,
-            lens,
-            times,
-        ),
+        PacketRead::Header(header) => {
+            let kind = kind_of(tables, header.pid);
+            let packet = Packet {
+                index,
+                header,
+                kind,
+            };
+            step_read(segment, packet, tables, extraction, out, lens, times)
+        }
     }
 }

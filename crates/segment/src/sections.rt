@@ -1,17 +1,14 @@
 // PAT and PMT: the first of each is read, a later one compared with it.
 ghost use mathlib.Core.Path.{_≡_};
 ghost use mathlib.Core.List.{map};
-ghost use mathlib.Core.Option.{none, some};
 ghost use Prim.Native.Nat.{_≤_};
-ghost use lib.ListN.{length, getD};
+ghost use lib.ListN.{length};
 ghost use Rattle.lists.specs.Lists.{Bytes};
-ghost use Rattle.refusal.specs.Verdict.{passed, refused};
 ghost use Rattle.refusal.specs.Number.{numberOf};
-ghost use Rattle.pmt.specs.Answer.{noEntry};
-ghost use Rattle.segment.specs.declared.state.Kind.the-variants as kind;
-ghost use Rattle.segment.specs.State.{State};
-ghost use Rattle.segment.specs.Rules.{laterSection, patSection, pmtSection, sectionRead};
-ghost use Rattle.segment.specs.Parts.{Extracted, outcomeSays, sectionAt, LiesAt, firstPat, stateOf, patOf, pmtOf};
+ghost use Rattle.descriptor.specs.Edition.{current};
+ghost use Rattle.segment_rules.specs.State as state;
+ghost use Rattle.segment_rules.specs.Rules.{laterSection, patSection, pmtSection, sectionRead};
+ghost use Rattle.segment.specs.Parts.{Turns, LiesAt, CarriesOut, kindSays};
 use crate::counters::Counters;
 use crate::state::Kind;
 use crate::state::Outcome;
@@ -36,7 +33,7 @@ use refusal::Refused;
 
 // The tables as they were.
 fn pass(tables: Tables) -> TablesTurn
-    ensures { λ r. ⌜ ((segment : Bytes) (x : Extracted) → outcomeSays (r .outcome) (stateOf segment (r .tables) x) ≡ passed (stateOf segment tables x)) ⌝ }
+    ensures { λ r. ⌜ r ≡ record { tables = tables; outcome = Outcome.Passed } ⌝ }
 {
     TablesTurn {
         tables,
@@ -45,7 +42,7 @@ fn pass(tables: Tables) -> TablesTurn
 }
 
 fn refuse(why: Refusal, tables: Tables) -> TablesTurn
-    ensures { λ r. ⌜ ((segment : Bytes) (x : Extracted) → outcomeSays (r .outcome) (stateOf segment (r .tables) x) ≡ refused (numberOf why) 0) ⌝ }
+    ensures { λ r. ⌜ r ≡ record { tables = tables; outcome = Outcome.Refused (record { why = why; place = 0 }) } ⌝ }
 {
     TablesTurn {
         tables,
@@ -55,7 +52,8 @@ fn refuse(why: Refusal, tables: Tables) -> TablesTurn
 
 // A later section is equal to the first, or the refusal.
 fn later_section(section: &[u8], first: &[u8], why: Refusal) -> Outcome
-    ensures { λ r. ⌜ ((st : State) → outcomeSays r st ≡ laterSection (numberOf why) (now (first .entry)) (now (section .entry)) st) ⌝ }
+    ensures { λ r. ⌜ ((t : state.Tables) →
+        Turns r (laterSection (numberOf why) (now (first .entry)) (now (section .entry)) t) (λ u. u ≡ t)) ⌝ }
 {
     if lists::same(section, first) {
         return Outcome::Passed;
@@ -64,8 +62,9 @@ fn later_section(section: &[u8], first: &[u8], why: Refusal) -> Outcome
 }
 
 // The first PAT, whose section lies at this place of the segment; 25.
-fn first_pat(section: &[u8], at: usize, size: usize, tables: Tables) -> TablesTurn
-    ensures { λ r. ⌜ ((segment : Bytes) (x : Extracted) → sectionAt segment at size ≡ now (section .entry) → outcomeSays (r .outcome) (stateOf segment (r .tables) x) ≡ patSection none (now (section .entry)) (stateOf segment tables x)) ⌝ }
+fn first_pat(section: &[u8], at: usize, tables: Tables) -> TablesTurn
+    ensures { λ r. ⌜ ((segment : Bytes) → LiesAt segment at (now (section .entry)) → tables .pat ≡ PatSeen.None →
+        CarriesOut current segment tables r (λ t. patSection (t .pat) (now (section .entry)) t)) ⌝ }
 {
     let read = read_pat(section);
     match read {
@@ -80,28 +79,29 @@ fn first_pat(section: &[u8], at: usize, size: usize, tables: Tables) -> TablesTu
             let listed = old.listed;
             let counters = Counters { pat, map, listed };
             let pmt = tables.pmt;
+            let program_map = tables.map;
+            let pcr = tables.pcr;
+            let size = section.len();
             let named = Tables {
                 pat: PatSeen::First(PatFound { says, at, size }),
                 pmt,
+                map: program_map,
                 counters,
-                pcr_seen: tables.pcr_seen,
+                pcr,
             };
-            TablesTurn {
-                tables: named,
-                outcome: Outcome::Passed,
-            }
+            pass(named)
         }
     }
 }
 
-// The PAT section at this place of the segment; 25.
-fn pat_section(segment: &[u8], at: usize, size: usize, tables: Tables) -> TablesTurn
-    ensures { λ r. ⌜ ((x : Extracted) → outcomeSays (r .outcome) (stateOf (now (segment .entry)) (r .tables) x) ≡ patSection (patOf (now (segment .entry)) (tables .pat)) (sectionAt (now (segment .entry)) at size) (stateOf (now (segment .entry)) tables x)) ⌝ }
+// The PAT section, which lies at this place of the segment; 25.
+fn pat_section(segment: &[u8], at: usize, section: &[u8], tables: Tables) -> TablesTurn
+    ensures { λ r. ⌜ (LiesAt (now (segment .entry)) at (now (section .entry)) →
+        CarriesOut current (now (segment .entry)) tables r (λ t. patSection (t .pat) (now (section .entry)) t)) ⌝ }
 {
-    let section = part(segment, at, size);
     let pat = tables.pat;
     match pat {
-        PatSeen::None => first_pat(section, at, size, tables),
+        PatSeen::None => first_pat(section, at, tables),
         PatSeen::First(first) => {
             let earlier = part(segment, first.at, first.size);
             let outcome = later_section(section, earlier, Refusal::PAT);
@@ -123,19 +123,11 @@ fn pids_of(entries: [Entry; 12]) -> [u16; 12]
     pids
 }
 
-// The PID of the entry in a slot.
-fn pid_in(entries: [Entry; 12], slot: usize) -> u16
-    ensures { λ r. ⌜ r ≡ getD entries slot noEntry .pid ⌝ }
-{
-    if 12 <= slot {
-        return 0;
-    }
-    entries[slot].pid
-}
-
 // The first PMT of the PAT's program, whose section lies at this place of the segment; 26, 27, 28.
-fn first_pmt(section: &[u8], at: usize, size: usize, pat: PatFound, tables: Tables) -> TablesTurn
-    ensures { λ r. ⌜ ((segment : Bytes) (x : Extracted) → sectionAt segment at size ≡ now (section .entry) → outcomeSays (r .outcome) (stateOf segment (r .tables) x) ≡ pmtSection (some (firstPat segment pat)) none (now (section .entry)) (stateOf segment tables x)) ⌝ }
+fn first_pmt(section: &[u8], at: usize, pat: PatFound, tables: Tables) -> TablesTurn
+    ensures { λ r. ⌜ ((segment : Bytes) → LiesAt segment at (now (section .entry)) → tables .pmt ≡ PmtSeen.None →
+        tables .pat ≡ PatSeen.First pat →
+        CarriesOut current segment tables r (λ t. pmtSection current (t .pat) (t .pmt) (now (section .entry)) t)) ⌝ }
 {
     let program = pat.says;
     let read = read_pmt(section, program.number, program.map_pid);
@@ -147,48 +139,45 @@ fn first_pmt(section: &[u8], at: usize, size: usize, pat: PatFound, tables: Tabl
             outcome: Outcome::Refused(refused),
         },
         PmtAnswer::Map => {
-            let entries = map.entries;
-            let av1_pid = pid_in(entries, map.av1);
-            let pids = pids_of(entries);
             let old = tables.counters;
             let pat_counter = old.pat;
             let map_counter = old.map;
+            let entries = map.entries;
+            let pids = pids_of(entries);
             let listed = Streams::of(pids, map.count);
             let counters = Counters {
                 pat: pat_counter,
                 map: map_counter,
                 listed,
             };
-            let pcr_pid = map.pcr_pid;
-            let found = PmtFound {
-                pcr_pid,
-                av1_pid,
-                at,
-                size,
-            };
+            let size = section.len();
             let pat_seen = tables.pat;
+            let pcr = tables.pcr;
             let named = Tables {
                 pat: pat_seen,
-                pmt: PmtSeen::First(found),
+                pmt: PmtSeen::First(PmtFound { at, size }),
+                map,
                 counters,
-                pcr_seen: tables.pcr_seen,
+                pcr,
             };
-            TablesTurn {
-                tables: named,
-                outcome: Outcome::Passed,
-            }
+            pass(named)
         }
     }
 }
 
-// The PMT section at this place of the segment, after the PAT; 26, 27, 28.
-fn map_section(segment: &[u8], at: usize, size: usize, pat: PatFound, tables: Tables) -> TablesTurn
-    ensures { λ r. ⌜ ((x : Extracted) → outcomeSays (r .outcome) (stateOf (now (segment .entry)) (r .tables) x) ≡ pmtSection (some (firstPat (now (segment .entry)) pat)) (pmtOf (now (segment .entry)) (tables .pmt)) (sectionAt (now (segment .entry)) at size) (stateOf (now (segment .entry)) tables x)) ⌝ }
+// The PMT section, which lies at this place of the segment; 26, 27, 28. Before the PAT it is passed over.
+fn pmt_section(segment: &[u8], at: usize, section: &[u8], tables: Tables) -> TablesTurn
+    ensures { λ r. ⌜ (LiesAt (now (segment .entry)) at (now (section .entry)) →
+        CarriesOut current (now (segment .entry)) tables r
+        (λ t. pmtSection current (t .pat) (t .pmt) (now (section .entry)) t)) ⌝ }
 {
-    let section = part(segment, at, size);
+    let pat = tables.pat;
+    let PatSeen::First(found) = pat else {
+        return pass(tables);
+    };
     let pmt = tables.pmt;
     match pmt {
-        PmtSeen::None => first_pmt(section, at, size, pat, tables),
+        PmtSeen::None => first_pmt(section, at, found, tables),
         PmtSeen::First(first) => {
             let earlier = part(segment, first.at, first.size);
             let outcome = later_section(section, earlier, Refusal::PMT);
@@ -197,38 +186,31 @@ fn map_section(segment: &[u8], at: usize, size: usize, pat: PatFound, tables: Ta
     }
 }
 
-// The PMT section at this place of the segment; 26, 27, 28.
-fn pmt_section(segment: &[u8], at: usize, size: usize, tables: Tables) -> TablesTurn
-    ensures { λ r. ⌜ ((x : Extracted) → outcomeSays (r .outcome) (stateOf (now (segment .entry)) (r .tables) x) ≡ pmtSection (patOf (now (segment .entry)) (tables .pat)) (pmtOf (now (segment .entry)) (tables .pmt)) (sectionAt (now (segment .entry)) at size) (stateOf (now (segment .entry)) tables x)) ⌝ }
-{
-    let pat = tables.pat;
-    match pat {
-        PatSeen::None => pass(tables),
-        PatSeen::First(found) => map_section(segment, at, size, found, tables),
-    }
-}
-
 // The payload on PID 0 that lies at this place of the segment; 25.
 fn pat_payload(segment: &[u8], at: usize, payload: &[u8], start: bool, tables: Tables) -> TablesTurn
     requires { ⌜ at ≤ length (now segment) ⌝ }
-    ensures { λ r. ⌜ ((x : Extracted) → LiesAt (now (segment .entry)) at (now (payload .entry)) → outcomeSays (r .outcome) (stateOf (now (segment .entry)) (r .tables) x) ≡ sectionRead kind.Pat start (now (payload .entry)) (stateOf (now (segment .entry)) tables x)) ⌝ }
+    ensures { λ r. ⌜ (LiesAt (now (segment .entry)) at (now (payload .entry)) →
+        CarriesOut current (now (segment .entry)) tables r
+        (sectionRead current state.Pat start (now (payload .entry)))) ⌝ }
 {
     let found = find_section(payload, start);
     match found {
         Found::Misplaced => refuse(Refusal::PAT, tables),
-        Found::Section(size) => pat_section(segment, at + 1, size, tables),
+        Found::Section(size) => pat_section(segment, at + 1, part(payload, 1, size), tables),
     }
 }
 
 // The payload on the map PID that lies at this place of the segment; 26, 27, 28.
 fn pmt_payload(segment: &[u8], at: usize, payload: &[u8], start: bool, tables: Tables) -> TablesTurn
     requires { ⌜ at ≤ length (now segment) ⌝ }
-    ensures { λ r. ⌜ ((x : Extracted) → LiesAt (now (segment .entry)) at (now (payload .entry)) → outcomeSays (r .outcome) (stateOf (now (segment .entry)) (r .tables) x) ≡ sectionRead kind.Map start (now (payload .entry)) (stateOf (now (segment .entry)) tables x)) ⌝ }
+    ensures { λ r. ⌜ (LiesAt (now (segment .entry)) at (now (payload .entry)) →
+        CarriesOut current (now (segment .entry)) tables r
+        (sectionRead current state.Map start (now (payload .entry)))) ⌝ }
 {
     let found = find_section(payload, start);
     match found {
         Found::Misplaced => refuse(Refusal::PMT, tables),
-        Found::Section(size) => pmt_section(segment, at + 1, size, tables),
+        Found::Section(size) => pmt_section(segment, at + 1, part(payload, 1, size), tables),
     }
 }
 
@@ -242,7 +224,9 @@ pub(crate) fn read_section(
     tables: Tables,
 ) -> TablesTurn
     requires { ⌜ at ≤ length (now segment) ⌝ }
-    ensures { λ r. ⌜ ((x : Extracted) → LiesAt (now (segment .entry)) at (now (payload .entry)) → outcomeSays (r .outcome) (stateOf (now (segment .entry)) (r .tables) x) ≡ sectionRead kind start (now (payload .entry)) (stateOf (now (segment .entry)) tables x)) ⌝ }
+    ensures { λ r. ⌜ (LiesAt (now (segment .entry)) at (now (payload .entry)) →
+        CarriesOut current (now (segment .entry)) tables r
+        (sectionRead current (kindSays kind) start (now (payload .entry)))) ⌝ }
 {
     match kind {
         Kind::Null => pass(tables),

@@ -1,10 +1,12 @@
-// What the packets of a segment have said so far, as the code keeps it: a section by where it lies in the segment, a unit by where it lies in the output.
+// What the packets of a segment have said so far, as the code keeps it: a section by where it lies in the segment, a
+// unit by where it lies in the output.
 ghost use mathlib.Core.Path.{_≡_};
-ghost use Rattle.segment.specs.State.{noneYet};
+ghost use Rattle.segment_rules.specs.State.{noneYet};
 ghost use Rattle.segment.specs.Parts.{placedAt};
-use pes::Header;
+use packet::Header;
 use psi::Program;
 use refusal::Refused;
+use segment_rules::Totals;
 
 // What a packet's PID is at that moment; of a listed one, its slot among the listed streams.
 pub(crate) enum Kind {
@@ -16,13 +18,11 @@ pub(crate) enum Kind {
     Unlisted,
 }
 
-// Packets in their five classes.
-pub struct Totals {
-    pub null: usize,
-    pub section: usize,
-    pub av1: usize,
-    pub other_listed: usize,
-    pub unlisted: usize,
+// A packet that passed 21, 22 and 23: its index, what its header says, and what its PID is.
+pub(crate) struct Packet {
+    pub index: usize,
+    pub header: Header,
+    pub kind: Kind,
 }
 
 // The first PAT: what it says, and where its section lies in the segment.
@@ -37,10 +37,8 @@ pub(crate) enum PatSeen {
     First(PatFound),
 }
 
-// The first PMT: the PIDs of the PCR and of the AV1 stream, and where its section lies in the segment.
+// The first PMT: where its section lies in the segment.
 pub(crate) struct PmtFound {
-    pub pcr_pid: u16,
-    pub av1_pid: u16,
     pub at: usize,
     pub size: usize,
 }
@@ -53,7 +51,7 @@ pub(crate) enum PmtSeen {
 // The PES that is open: the packet that began it, and its header.
 pub(crate) struct PesFound {
     pub first: usize,
-    pub header: Header,
+    pub header: pes::Header,
 }
 
 pub(crate) enum PesSeen {

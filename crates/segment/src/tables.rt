@@ -1,32 +1,32 @@
-// What a packet does to the tables: its PCR, its counter, its section.
+// What a packet's PID is, and what its PCR and its counter do to the tables.
 ghost use mathlib.Core.Path.{_≡_};
-ghost use mathlib.Core.Bool.{true};
-ghost use Prim.Native.Nat.{_≤_};
-ghost use lib.ListN.{length};
-ghost use Rattle.lists.specs.Lists.{Bytes};
-ghost use Rattle.packet.specs.Header.{fields, hasPayload};
-ghost use Rattle.packet.specs.Header.{payload as Header·payload};
-ghost use Rattle.segment.specs.State.{kindOf};
-ghost use Rattle.segment.specs.Rules.{pcrSeenAfter};
-ghost use Rattle.segment.specs.Parts.{Extracted, outcomeSays, stateOf, pmtOf, freshTables, listedIn, LiesAt, tablesRule};
+ghost use Rattle.pmt.specs.Answer.{noEntry};
+ghost use lib.ListN.{getD};
+ghost use Rattle.descriptor.specs.Edition.{current};
+ghost use Rattle.segment.specs.Parts.{freshTables, KindTurn, ListedTurn, PcrTurn, CounterTurn};
+ghost use Rattle.segment_rules.specs.Rules.{isPcr};
 use crate::counters::Counters;
 use crate::counters::fresh_counters;
-use crate::sections::read_section;
 use crate::state::Kind;
 use crate::state::Outcome;
+use crate::state::Packet;
 use crate::state::PatSeen;
 use crate::state::PmtSeen;
 use crate::state::at_place;
 use packet::Clock;
 use packet::Header;
 use packet::Slot;
+use pmt::Entry;
+use pmt::ProgramMap;
+use pmt::Video;
 
-// The first sections, the counters, and whether a PCR counted.
+// The first sections, what the first PMT says, the counters, and the last PCR that counted.
 pub(crate) struct Tables {
     pub pat: PatSeen,
     pub pmt: PmtSeen,
+    pub map: ProgramMap,
     pub counters: Counters,
-    pub pcr_seen: bool,
+    pub pcr: Clock,
 }
 
 // The tables after a packet, and the verdict on it.
@@ -42,20 +42,44 @@ const NULL_PID: u16 = 0x1FFF;
 pub(crate) fn fresh_tables() -> Tables
     ensures { λ r. ⌜ r ≡ freshTables ⌝ }
 {
+    let none = Entry {
+        pid: 0,
+        stream_type: 0,
+    };
+    let entries = [none; 12];
+    let map = ProgramMap {
+        pcr_pid: 0,
+        count: 0,
+        entries,
+        av1: 0,
+        video: Video::Absent,
+    };
+    let counters = fresh_counters();
     Tables {
         pat: PatSeen::None,
         pmt: PmtSeen::None,
-        counters: fresh_counters(),
-        pcr_seen: false,
+        map,
+        counters,
+        pcr: Clock::None,
     }
 }
 
-// What a listed PID is, or that it is not listed.
+// The PID of the entry in a slot.
+pub(crate) fn pid_in(entries: [Entry; 12], slot: usize) -> u16
+    ensures { λ r. ⌜ r ≡ getD entries slot noEntry .pid ⌝ }
+{
+    if 12 <= slot {
+        return 0;
+    }
+    entries[slot].pid
+}
+
+// What a listed PID is, or that it is not listed; the PAT was seen.
 fn listed_as(tables: Tables, pid: u16) -> Kind
-    ensures { λ r. ⌜ ((segment : Bytes) → r ≡ listedIn segment tables pid) ⌝ }
+    ensures { λ r. ⌜ ListedTurn current tables pid r ⌝ }
 {
     let pmt = tables.pmt;
-    let PmtSeen::First(found) = pmt else {
+    let PmtSeen::First(_) = pmt else {
         return Kind::Unlisted;
     };
     let counters = tables.counters;
@@ -64,7 +88,9 @@ fn listed_as(tables: Tables, pid: u16) -> Kind
     match slot {
         Slot::None => Kind::Unlisted,
         Slot::At(i) => {
-            if pid == found.av1_pid {
+            let map = tables.map;
+            let entries = map.entries;
+            if pid == pid_in(entries, map.av1) {
                 return Kind::Av1(i);
             }
             Kind::Listed(i)
@@ -74,7 +100,7 @@ fn listed_as(tables: Tables, pid: u16) -> Kind
 
 // What a PID is at that moment.
 pub(crate) fn kind_of(tables: Tables, pid: u16) -> Kind
-    ensures { λ r. ⌜ ((segment : Bytes) (x : Extracted) → r ≡ kindOf (stateOf segment tables x) pid) ⌝ }
+    ensures { λ r. ⌜ KindTurn current tables pid r ⌝ }
 {
     if pid == NULL_PID {
         return Kind::Null;
@@ -93,70 +119,59 @@ pub(crate) fn kind_of(tables: Tables, pid: u16) -> Kind
     listed_as(tables, pid)
 }
 
-// A PCR counted up to this packet.
-fn pcr_seen(tables: Tables, header: Header) -> bool
-    ensures { λ r. ⌜ ((segment p : Bytes) → header ≡ fields p → r ≡ pcrSeenAfter p (tables .«pcr_seen») (pmtOf segment (tables .pmt))) ⌝ }
+// A PCR counted.
+pub(crate) fn is_pcr(pcr: Clock) -> bool
+    ensures { λ r. ⌜ r ≡ isPcr pcr ⌝ }
 {
-    if tables.pcr_seen {
-        return true;
-    }
-    let pmt = tables.pmt;
-    let PmtSeen::First(found) = pmt else {
-        return false;
-    };
-    if header.pid != found.pcr_pid {
-        return false;
-    }
-    let pcr = header.pcr;
     match pcr {
         Clock::Pcr(_) => true,
         Clock::None => false,
     }
 }
 
-// A packet with this index, header and payload, which lies at this place of the segment: its PCR counts; 24; 25 to 28.
-pub(crate) fn check_tables(
-    segment: &[u8],
-    at: usize,
-    payload: &[u8],
-    index: usize,
-    header: Header,
-    kind: Kind,
-    tables: Tables,
-) -> TablesTurn
-    requires { ⌜ at ≤ length (now segment) ⌝ }
-    ensures { λ r. ⌜ ((p : Bytes) (x : Extracted) → header ≡ fields p → (hasPayload p ≡ true → now (payload .entry) ≡ Header·payload p) → LiesAt (now (segment .entry)) at (now (payload .entry)) → outcomeSays (r .outcome) (stateOf (now (segment .entry)) (r .tables) x) ≡ tablesRule index p kind (stateOf (now (segment .entry)) tables x)) ⌝ }
+// The last PCR that counted up to this packet.
+fn last_pcr(tables: Tables, header: Header) -> Clock
+    ensures { λ r. ⌜ PcrTurn current tables header r ⌝ }
 {
-    let seen = pcr_seen(tables, header);
+    let earlier = tables.pcr;
+    let pmt = tables.pmt;
+    let PmtSeen::First(_) = pmt else {
+        return earlier;
+    };
+    let map = tables.map;
+    if header.pid != map.pcr_pid {
+        return earlier;
+    }
+    let pcr = header.pcr;
+    match pcr {
+        Clock::Pcr(_) => pcr,
+        Clock::None => earlier,
+    }
+}
+
+// The packet's PCR counts, and its counter is checked; 24.
+pub(crate) fn check_counter(packet: Packet, tables: Tables) -> TablesTurn
+    ensures { λ r. ⌜ CounterTurn current packet tables r ⌝ }
+{
+    let header = packet.header;
+    let pcr = last_pcr(tables, header);
     let old = tables.counters;
+    let kind = packet.kind;
     let checked = old.check(kind, header.counted());
     let pat = tables.pat;
     let pmt = tables.pmt;
+    let map = tables.map;
     let counters = checked.counters;
+    let outcome = checked.outcome;
     let counted = Tables {
         pat,
         pmt,
+        map,
         counters,
-        pcr_seen: seen,
+        pcr,
     };
-    let outcome = checked.outcome;
-    let Outcome::Passed = outcome else {
-        return TablesTurn {
-            tables: counted,
-            outcome: at_place(index, outcome),
-        };
-    };
-    if !header.has_payload {
-        return TablesTurn {
-            tables: counted,
-            outcome: Outcome::Passed,
-        };
-    }
-    let turn = read_section(segment, at, payload, header.start, kind, counted);
-    let read = turn.tables;
-    let verdict = turn.outcome;
     TablesTurn {
-        tables: read,
-        outcome: at_place(index, verdict),
+        tables: counted,
+        outcome: at_place(packet.index, outcome),
     }
 }

@@ -1,13 +1,10 @@
 // The check of a whole segment.
 ghost use mathlib.Core.Path.{_≡_};
 ghost use mathlib.Core.Bool.{false};
-ghost use mathlib.Core.List.{List};
-ghost use lib.ListN.{length};
-ghost use Rattle.lists.specs.Lists.{Bytes};
-ghost use Rattle.segment.specs.State.{AccessUnit, packetCount};
-ghost use Rattle.segment.specs.Check.{Outputs, segmentLengthWrong, roomsOf, accepted, ending, outputsAfter, checkSegment, outputsOf};
-ghost use Rattle.segment.specs.Answer.{summarised, checking, checkSays};
-ghost use Rattle.segment.specs.Parts.{Extracted, Fits, Stands, Runs, Judges, JudgesBy, patOf, pmtOf, stateOf};
+ghost use Rattle.descriptor.specs.Edition.{current};
+ghost use Rattle.segment_rules.specs.Check.{outputsOf, segmentLengthWrong, roomsOf, outputsAfter, checkSegment};
+ghost use Rattle.segment.specs.Answer.{checking, checkSays};
+ghost use Rattle.segment.specs.Parts.{roomsIn, Fits, AcceptTurn, EndTurn, RunTurn, WholeTurn};
 use crate::extraction::Extraction;
 use crate::extraction::close;
 use crate::extraction::fresh_extraction;
@@ -17,12 +14,13 @@ use crate::packets::step;
 use crate::state::Outcome;
 use crate::state::PatSeen;
 use crate::state::PmtSeen;
-use crate::state::Totals;
 use crate::state::none_yet;
 use crate::tables::Tables;
 use crate::tables::fresh_tables;
+use crate::tables::pid_in;
 use refusal::Refusal;
 use refusal::Refused;
+use segment_rules::Totals;
 
 // The length of a packet, and the most packets of a segment.
 const PACKET_LENGTH: usize = 188;
@@ -67,7 +65,9 @@ fn length_wrong(segment: &[u8]) -> bool
 // The packets in order.
 fn run(segment: &[u8], out: &mut [u8], lens: &mut [usize], times: &mut [u64]) -> Ran
     requires { ⌜ segmentLengthWrong (now segment) ≡ false ⌝ }
-    ensures { λ r. ⌜ Runs (now (segment .entry)) (outputsOf (now (out .entry)) (now (lens .entry)) (now (times .entry))) r (now (out .exit)) (now (lens .exit)) (now (times .exit)) ⌝ }
+    ensures { λ r. ⌜ RunTurn current (now (segment .entry))
+        (outputsOf (now (out .entry)) (now (lens .entry)) (now (times .entry))) r
+        (outputsOf (now (out .exit)) (now (lens .exit)) (now (times .exit))) ⌝ }
 {
     let count = segment.len() / PACKET_LENGTH;
     let mut tables = fresh_tables();
@@ -101,24 +101,23 @@ fn run(segment: &[u8], out: &mut [u8], lens: &mut [usize], times: &mut [u64]) ->
 
 // All packets, which have passed: 33.
 fn accept(tables: Tables, units: usize, packets: usize, totals: Totals) -> SegmentCheck
-    ensures { λ r. ⌜ ((segment : Bytes) (us : List AccessUnit) → units ≡ length us → packets ≡ packetCount totals → checkSays r ≡ summarised (accepted (patOf segment (tables .pat)) (pmtOf segment (tables .pmt)) us totals)) ⌝ }
+    ensures { λ r. ⌜ AcceptTurn current tables units packets totals r ⌝ }
 {
-    let none = SegmentCheck::Refused(Refused {
-        why: Refusal::NO_TABLES,
-        place: packets,
-    });
+    let none = SegmentCheck::Refused(Refusal::NO_TABLES.at(packets));
     let pat = tables.pat;
     let PatSeen::First(first) = pat else {
         return none;
     };
     let pmt = tables.pmt;
-    let PmtSeen::First(map) = pmt else {
+    let PmtSeen::First(_) = pmt else {
         return none;
     };
     let program = first.says;
+    let map = tables.map;
+    let entries = map.entries;
     SegmentCheck::Accepted(Summary {
         program: program.number,
-        pid: map.av1_pid,
+        pid: pid_in(entries, map.av1),
         units,
         totals,
     })
@@ -132,8 +131,10 @@ fn finish(
     lens: &mut [usize],
     times: &mut [u64],
 ) -> SegmentCheck
-    requires { ⌜ Fits (ran .extraction) (now out) (now lens) (now times) ⌝ }
-    ensures { λ r. ⌜ ((segment : Bytes) (before : Outputs) (x : Extracted) → packets ≡ packetCount (ran .totals) → Stands before x (ran .extraction) (now (out .entry)) (now (lens .entry)) (now (times .entry)) → JudgesBy r before (ending (record { state = stateOf segment (ran .tables) x; totals = ran .totals })) (now (out .entry)) (now (lens .exit)) (now (times .exit))) ⌝ }
+    requires { ⌜ Fits (ran .extraction) (roomsIn (now out) (now lens) (now times)) ⌝ }
+    ensures { λ r. ⌜ EndTurn current ran packets
+        (outputsOf (now (out .entry)) (now (lens .entry)) (now (times .entry))) r
+        (outputsOf (now (out .entry)) (now (lens .exit)) (now (times .exit))) ⌝ }
 {
     let last = ran.extraction;
     let closed = close(last, out, lens, times);
@@ -151,13 +152,12 @@ fn finish(
 
 // The verdict on a segment, and its units in the outputs.
 fn judge(segment: &[u8], out: &mut [u8], lens: &mut [usize], times: &mut [u64]) -> SegmentCheck
-    ensures { λ r. ⌜ Judges (now (segment .entry)) (outputsOf (now (out .entry)) (now (lens .entry)) (now (times .entry))) r (now (out .exit)) (now (lens .exit)) (now (times .exit)) ⌝ }
+    ensures { λ r. ⌜ WholeTurn current (now (segment .entry))
+        (outputsOf (now (out .entry)) (now (lens .entry)) (now (times .entry))) r
+        (outputsOf (now (out .exit)) (now (lens .exit)) (now (times .exit))) ⌝ }
 {
     if length_wrong(segment) {
-        return SegmentCheck::Refused(Refused {
-            why: Refusal::SEGMENT_LENGTH,
-            place: 0,
-        });
+        return SegmentCheck::Refused(Refusal::SEGMENT_LENGTH.at(0));
     }
     let ran = run(segment, out, lens, times);
     let outcome = ran.outcome;
@@ -167,11 +167,15 @@ fn judge(segment: &[u8], out: &mut [u8], lens: &mut [usize], times: &mut [u64]) 
     }
 }
 
-// The check of a segment: its units over the front of out, their lengths over the front of lens, their times in turn over the front of times; where the
-// segment is refused, zeros throughout all three.
+// The check of a segment: its units over the front of out, their lengths over the front of lens, their times in turn
+// over the front of times; where the segment is refused, zeros throughout all three.
 pub fn check(segment: &[u8], out: &mut [u8], lens: &mut [usize], times: &mut [u64]) -> SegmentCheck
-    ensures { λ r. ⌜ checkSays r ≡ checking (now (segment .entry)) (roomsOf (outputsOf (now (out .entry)) (now (lens .entry)) (now (times .entry)))) ⌝ }
-    ensures { λ _. ⌜ outputsOf (now (out .exit)) (now (lens .exit)) (now (times .exit)) ≡ outputsAfter (checkSegment (now (segment .entry)) (roomsOf (outputsOf (now (out .entry)) (now (lens .entry)) (now (times .entry))))) (outputsOf (now (out .entry)) (now (lens .entry)) (now (times .entry))) ⌝ }
+    ensures { λ r. ⌜ checkSays r ≡ checking current
+        (roomsOf (outputsOf (now (out .entry)) (now (lens .entry)) (now (times .entry)))) (now (segment .entry)) ⌝ }
+    ensures { λ _. ⌜ outputsOf (now (out .exit)) (now (lens .exit)) (now (times .exit))
+        ≡ outputsAfter (checkSegment current
+        (roomsOf (outputsOf (now (out .entry)) (now (lens .entry)) (now (times .entry)))) (now (segment .entry)))
+        (outputsOf (now (out .entry)) (now (lens .entry)) (now (times .entry))) ⌝ }
 {
     let answer = judge(segment, out, lens, times);
     match answer {

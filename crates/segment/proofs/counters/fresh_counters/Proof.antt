@@ -13,7 +13,7 @@ none-requires : tie.Need-none-requires
 none-requires c κs = search needs
 
 returns : tie.Need-returns
-returns c = ap₂ (λ (s : Stream) (l : Streams). record { pat = s; map = s; listed = l }) (c .before .named .ensures) (c .none .ensures)
+returns c = ap₂ (λ (s : Stream) (l : Streams). record { pat = s; map = s; listed = l }) (c .before .named .ensures .0) (c .none .ensures)
 
 pub fresh-counters-spec : {M : Type 1} → statement M
 fresh-counters-spec = tie.close (tie.spec named-requires none-requires returns)

@@ -3,9 +3,12 @@ use borrow.Author.Needs.{needs}
 use borrow.Author.Tests.{not-true, not-false}
 use native.Mathlib.Omega.{arith}
 use Prim.Native.Nat.{_+_}
-use mathlib.Core.Path.{_∙_}
+use mathlib.Core.Path.{sym, ap, _∙_}
 use Rattle.lists.proofs.Parts.{tail-placed}
-use Rattle.segment.proofs.Extracting.{refused-follows, adds-closed, adds-unseen, adds-bytes, adds}
+use Rattle.descriptor.specs.Edition.{current}
+use Rattle.segment.specs.declared.extraction.ExtractionTurn.{ExtractionTurn}
+use Rattle.segment.proofs.Turning.{turn-refused}
+use Rattle.segment.proofs.Extracting.{adds-closed, adds-unseen, adds-bytes, adds-right}
 use Rattle.segment.proofs.extraction.add.Statement.{statement}
 use Rattle.segment.proofs.extraction.add.Tie as tie
 
@@ -19,13 +22,20 @@ refuse-requires : tie.Need-refuse-requires
 refuse-requires c κs = search needs
 
 returns : tie.Need-returns
-returns c before st ls ts p s = refused-follows before st _ _ _ _ _ (c .refuse .ensures) (adds-closed _ _ st s (c .before .enum-told .given .1))
+returns c lens times before p st is k s =
+    turn-refused _ _ (c .refuse .result .outcome) _ (ap (λ (t : ExtractionTurn). t .outcome) (c .refuse .ensures))
+    (sym (adds-closed current (c .before .before .before .before .before .args .index) p
+    (c .before .before .before .before .before .args .payload .now) st is s (c .before .enum-told .given .1)))
 
 refuse-requires-2 : tie.Need-refuse-requires-2
 refuse-requires-2 c κs = search needs
 
 returns-2 : tie.Need-returns-2
-returns-2 c before st ls ts p s = refused-follows before st _ _ _ _ _ (c .refuse2 .ensures) (adds-unseen _ _ st s _ (c .before .before .before .pes .given .1) (p ∙ not-true _ (c .before .if1 .taken)))
+returns-2 c lens times before p st is k s =
+    turn-refused _ _ (c .refuse2 .result .outcome) _ (ap (λ (t : ExtractionTurn). t .outcome) (c .refuse2 .ensures))
+    (sym (adds-unseen current (c .before .before .before .before .before .before .before .args .index) p
+    (c .before .before .before .before .before .before .before .args .payload .now) st is s _ (c .before .before .before .pes .given .1)
+    (k ∙ not-true _ (c .before .if1 .taken))))
 
 add-written : tie.Need-add-written
 add-written c = search needs
@@ -37,8 +47,11 @@ refuse-requires-3 : tie.Need-refuse-requires-3
 refuse-requires-3 c κs = search needs
 
 returns-3 : tie.Need-returns-3
-returns-3 c before st ls ts p s =
-    refused-follows before st _ _ _ _ _ (c .refuse3 .ensures) (adds-bytes _ _ st s _ (c .before .before .before .before .before .pes .given .1) (p ∙ not-false _ (c .before .before .before .if1 .left)) (omega arith))
+returns-3 c lens times before p st is k s =
+    turn-refused _ _ (c .refuse3 .result .outcome) _ (ap (λ (t : ExtractionTurn). t .outcome) (c .refuse3 .ensures))
+    (sym (adds-bytes current (c .before .before .before .before .before .before .before .before .before .args .index) p
+    (c .before .before .before .before .before .before .before .before .before .args .payload .now) st is s _
+    (c .before .before .before .before .before .pes .given .1) (k ∙ not-false _ (c .before .before .before .if1 .left)) (omega arith)))
 
 sub-copy : tie.Need-sub-copy
 sub-copy c = search needs
@@ -59,11 +72,14 @@ same-length : tie.Need-same-length
 same-length c = search needs
 
 returns-4 : tie.Need-returns-4
-returns-4 c before st ls ts p s =
-    let start = c .before .before .before .before .before .before .before .before .before .before .before .before .before in
-    let e = start .args .extraction in
-    adds _ _ st s _ (c .before .before .before .before .before .before .before .before .before .pes .given .1) (p ∙ not-false _ (c .before .before .before .before .before .before .before .if1 .left)) (omega arith)
-    (tail-placed (e .start + e .bytes) (start .args .out .now) (start .args .payload .now) _ (start .pre) (c .before .before .before .copy .ensures))
+returns-4 c lens times before p st is k s =
+    let begin = c .before .before .before .before .before .before .before .before .before .before .before .before .before in
+    let a = begin .args in
+    let e = a .extraction in
+    adds-right current (a .index) p (a .payload .now) st is s _
+    (c .before .before .before .before .before .before .before .before .before .pes .given .1)
+    (k ∙ not-false _ (c .before .before .before .before .before .before .before .if1 .left)) (omega arith)
+    (tail-placed (e .start + e .bytes) (a .out .now) (a .payload .now) _ (begin .pre) (c .before .before .before .copy .ensures))
 
 pub add-spec : {M : Type 1} → statement M
 add-spec =

@@ -4,7 +4,7 @@ use borrow.Author.Tests.{eq-eqb, ne-eqb}
 use mathlib.Core.Bool.{not}
 use mathlib.Core.Path.{refl, ap}
 use Rattle.lists.proofs.Tests.{and-by-false, and-by-true}
-use Rattle.segment.specs.Rules.{lengthDiffers}
+use Rattle.segment_rules.specs.Rules.{lengthDiffers}
 use Rattle.segment.proofs.extraction.length_wrong.Statement.{statement}
 use Rattle.segment.proofs.extraction.length_wrong.Tie as tie
 

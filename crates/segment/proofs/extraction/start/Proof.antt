@@ -1,9 +1,11 @@
 -- The open PES closes; where that passed, the opening goes on from the state that it left.
 use borrow.Author.Needs.{needs}
 use native.Mathlib.Omega.{arith}
-use mathlib.Core.Path.{refl, _∙_}
-use Rattle.segment.specs.Check.{roomsOf}
-use Rattle.segment.proofs.Extracting.{starts-refused, starts}
+use mathlib.Core.Path.{refl, ap, _∙_}
+use Rattle.descriptor.specs.Edition.{current}
+use Rattle.segment_rules.specs.Rules.{isPcr}
+use Rattle.segment_rules.specs.Check.{outputsOf}
+use Rattle.segment.proofs.Extracting.{starts-refused, starts-opens}
 use Rattle.segment.proofs.extraction.start.Statement.{statement}
 use Rattle.segment.proofs.extraction.start.Tie as tie
 
@@ -26,10 +28,23 @@ same-length-3 : tie.Need-same-length-3
 same-length-3 c = search needs
 
 returns : tie.Need-returns
-returns c before st p s = starts-refused _ _ before st _ _ _ _ (c .before .before .before .before .before .before .close .ensures .0 before st s) _ (roomsOf before) _ _ _ (c .enum-told2 .given .1)
+returns c before p st is k s =
+    let a = c .before .before .before .before .before .before .before .before .before .before .before .before .before .before .args in
+    let closed = c .before .before .before .before .before .before .close in
+    starts-refused current (a .index) p (a .payload .now) st before is (closed .result)
+    (outputsOf (a .out .now) (closed .last .1 .1 .0) (closed .last .1 .1 .1 .0))
+    (closed .ensures .0 before (st .extraction) s) _ (c .enum-told2 .given .1) _
 
 open-requires : tie.Need-open-requires
-open-requires c κs = omega (arith, c .before .before .before .before .before .before .before .before .close .ensures .1 .1, c .before .before .before .before .before .before .before .before .before .before .before .before .before .before .before .before .pre .inBytes)
+open-requires c κs = (
+  omega (
+    arith,
+    c .before .before .before .before .before .before .before .before .close .ensures .1 .1,
+    c .before .before .before
+        .before .before .before .before .before .before .before .before .before .before .before .before .before .pre .inBytes,
+  ),
+  refl,
+)
 
 same-length-4 : tie.Need-same-length-4
 same-length-4 c = search needs
@@ -41,11 +56,19 @@ same-length-6 : tie.Need-same-length-6
 same-length-6 c = search needs
 
 returns-2 : tie.Need-returns-2
-returns-2 c before st p s =
+returns-2 c before p st is k s =
+    let a = c .before .before .before .before .before .before .before .before .before .before .before .before .before .before .before
+    .before .before .before .before .args in
     let closed = c .before .before .before .before .before .before .before .before .before .before .before .close in
-    let passed = c .before .before .before .before .before .enum-told .given .1 in
-    starts _ (c .before .before .before .before .before .before .before .before .before .before .before .before .before .before .before .before .before .before .before .args .payload .now) before st (closed .result) _ _ _ (closed .ensures .0 before st s) (roomsOf before) (c .before .before .«open» .result) _ _ _ passed
-    (λ st′ k s′. c .before .before .«open» .ensures before st′ _ _ refl refl (k ∙ p) (closed .ensures .1 .0 passed) s′)
+    let went = c .before .before .before .before .before .enum-told .given .1 in
+    let lens = closed .last .1 .1 .0 in
+    let times = closed .last .1 .1 .1 .0 in
+    let opened = c .before .before .«open» in
+    starts-opens current (a .index) p (a .payload .now) st before is (closed .result) (outputsOf (a .out .now) lens times)
+    (closed .ensures .0 before (st .extraction) s) (opened .result) _ went
+    (λ st1 same u. opened .ensures before lens times p st1 (record { bytes = refl; lens = refl; times = refl }) is
+    (ap (λ t. isPcr (t .pcr)) same ∙ k)
+    (closed .ensures .1 .0 went) u)
 
 pub start-spec : {M : Type 1} → statement M
 start-spec =

@@ -1,8 +1,9 @@
 -- Case by case of the kind.
-use mathlib.Core.Path.{sym, ap}
-use Rattle.segment.specs.declared.state.Kind.{Kind}
-use Rattle.segment.specs.State.{counting}
 use borrow.Author.Needs.{needs}
+use mathlib.Core.Path.{sym, ap}
+use Rattle.segment_rules.specs.State.{counting}
+use Rattle.segment.specs.declared.state.Kind.{Kind}
+use Rattle.segment.specs.Parts.{kindSays}
 use Rattle.segment.proofs.packets.count_packet.Statement.{statement}
 use Rattle.segment.proofs.packets.count_packet.Tie as tie
 
@@ -44,27 +45,27 @@ add-next-6 c = search needs
 
 returns : tie.Need-returns
 unfolding counting
-returns c = ap (λ (k : Kind). counting k (c .before .before .before .args .totals)) (sym (c .before .enum-told .given .1))
+returns c = ap (λ (k : Kind). counting (kindSays k) (c .before .before .before .args .totals)) (sym (c .before .enum-told .given .1))
 
 returns-2 : tie.Need-returns-2
 unfolding counting
-returns-2 c = ap (λ (k : Kind). counting k (c .before .before .before .args .totals)) (sym (c .before .enum-told2 .given .1))
+returns-2 c = ap (λ (k : Kind). counting (kindSays k) (c .before .before .before .args .totals)) (sym (c .before .enum-told2 .given .1))
 
 returns-3 : tie.Need-returns-3
 unfolding counting
-returns-3 c = ap (λ (k : Kind). counting k (c .before .before .before .args .totals)) (sym (c .before .enum-told3 .given .1))
+returns-3 c = ap (λ (k : Kind). counting (kindSays k) (c .before .before .before .args .totals)) (sym (c .before .enum-told3 .given .1))
 
 returns-4 : tie.Need-returns-4
 unfolding counting
-returns-4 c = ap (λ (k : Kind). counting k (c .before .before .before .args .totals)) (sym (c .before .enum-told4 .given .1))
+returns-4 c = ap (λ (k : Kind). counting (kindSays k) (c .before .before .before .args .totals)) (sym (c .before .enum-told4 .given .1))
 
 returns-5 : tie.Need-returns-5
 unfolding counting
-returns-5 c = ap (λ (k : Kind). counting k (c .before .before .before .args .totals)) (sym (c .before .enum-told5 .given .1))
+returns-5 c = ap (λ (k : Kind). counting (kindSays k) (c .before .before .before .args .totals)) (sym (c .before .enum-told5 .given .1))
 
 returns-6 : tie.Need-returns-6
 unfolding counting
-returns-6 c = ap (λ (k : Kind). counting k (c .before .before .before .args .totals)) (sym (c .before .enum-told6 .given .1))
+returns-6 c = ap (λ (k : Kind). counting (kindSays k) (c .before .before .before .args .totals)) (sym (c .before .enum-told6 .given .1))
 
 pub count-packet-spec : {M : Type 1} → statement M
 count-packet-spec =

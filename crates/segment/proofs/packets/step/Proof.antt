@@ -1,23 +1,15 @@
--- The header is read; a packet that passed 21, 22 and 23 goes on with its tables and payload.
-use Prim.Native.Nat.{_*_}
-use mathlib.Core.Path.{ap}
-use native.Mathlib.Omega.{arith}
-use lib.ListN.{length, drop, length-take}
-use Rattle.segment.specs.declared.state.Kind.the-variants.{Unlisted}
-use Rattle.segment.specs.Parts.{stateOf}
-use Rattle.segment.proofs.Stepping.{header-refused, header-fields, header-passed, packet-ends}
+-- The header is read; a packet that passed 21, 22 and 23 goes on with its counter and content.
 use borrow.Author.Needs.{needs}
+use mathlib.Core.Path.{refl}
+use Rattle.descriptor.specs.Edition.{current}
+use Rattle.segment_rules.specs.Check.{roomsOf}
+use Rattle.segment.specs.Parts.{packetAt}
+use Rattle.segment.proofs.Stepping.{header-refused, header-right, packet-kind}
 use Rattle.segment.proofs.packets.step.Statement.{statement}
 use Rattle.segment.proofs.packets.step.Tie as tie
 
-mul-at : tie.Need-mul-at
-mul-at c = search needs
-
-add-end : tie.Need-add-end
-add-end c = search needs
-
-part-requires : tie.Need-part-requires
-part-requires c κs = search needs
+packet-at-requires : tie.Need-packet-at-requires
+packet-at-requires c κs = search needs
 
 read-requires : tie.Need-read-requires
 read-requires c κs = search needs
@@ -31,19 +23,19 @@ at-place-requires c κs = search needs
 enum-known-read-2 : tie.Need-enum-known-read-2
 enum-known-read-2 c = search needs
 
+kind-of-requires : tie.Need-kind-of-requires
+kind-of-requires c κs = search needs
+
 step-read-requires : tie.Need-step-read-requires
-step-read-requires c κs =
-    let k = c .before .before .before .before .before .before .before .before .before .before .before .before in
-    let n = ap length (c .before .before .before .before .before .before .before .part .ensures) in
-    (k .pre .0, omega (arith, n, length-take 188 (drop (k .args .index * 188) (k .args .segment .now))), k .pre .1)
+step-read-requires c κs = search needs
 
 returns : tie.Need-returns
-returns c before x s =
+returns c before st n s =
     let a = c .before .before .before .before .before .before .before .before .before .before .args in
-    let part = c .before .before .before .before .before .part in
-    let read = c .before .before .before .before .read in
-    header-refused (a .segment .now) (a .index) before (stateOf (a .segment .now) (a .tables) x) (read .result) (part .result .now) (part .ensures) (read .ensures) _ (c .before .before .read2 .given .1) (c .at-place .result)
-    (c .at-place .ensures) (a .tables) (a .extraction) Unlisted (a .out .now) (a .lens .now) (a .times .now)
+    header-refused current (roomsOf before) (a .segment .now) (a .index) st (c .before .before .before .before .read .result)
+    (c .before .before .before .before .before .packet-at .result .now) (c .before .before .before .before .before .packet-at .ensures)
+    (c .before .before .before .before .read .ensures) _ _
+    (c .before .before .read2 .given .1) (c .at-place .result) (c .at-place .ensures) _
 
 same-length : tie.Need-same-length
 same-length c = search needs
@@ -55,30 +47,33 @@ same-length-3 : tie.Need-same-length-3
 same-length-3 c = search needs
 
 returns-2 : tie.Need-returns-2
-returns-2 c before x s =
-    let k = c .before .before .before .before .before .before .before .before .before .before .before .before .before .before .before .before .before .before .before in
-    let a = k .args in
-    let part = c .before .before .before .before .before .before .before .before .before .before .before .before .before .before .part in
-    let read = c .before .before .before .before .before .before .before .before .before .before .before .before .before .read in
-    let told = c .before .before .before .before .before .before .before .before .before .before .before .read3 .given .1 in
+returns-2 c before st n s =
+    let a = c .before .before .before .before .before .before .before .before .before .before .before .before .before .before .before
+    .before .before .before .before .before .args in
     let done = c .before .before .before .before .before .before .step-read in
-    let st = stateOf (a .segment .now) (a .tables) x in
-    header-passed (a .segment .now) (a .index) before st (read .result) (part .result .now) (part .ensures) (read .ensures) _ told (done .result) (done .last .1 .1 .1 .1 .1 .1 .1 .0) (done .last .1 .1 .1 .1 .1 .1 .1 .1 .0)
-    (done .last .1 .1 .1 .1 .1 .1 .1 .1 .1 .0)
-    (done .ensures before x (header-fields (a .segment .now) (a .index) before st (read .result) (part .result .now) (part .ensures) (read .ensures) _ told)
-    (packet-ends (a .segment .now) (part .result .now) (a .index) (k .pre .0) (part .ensures)) s)
+    let right = header-right current (roomsOf before) (a .segment .now) (a .index) st
+    (c .before .before .before .before .before .before .before .before .before .before .before .before .before .before .read .result)
+    (c .before .before .before .before .before .before .before .before .before .before .before .before .before .before .before .packet-at
+    .result .now) (c .before .before .before .before .before .before .before .before .before .before .before .before .before .before .before
+    .packet-at .ensures) (c .before .before .before .before .before .before .before .before .before .before .before .before .before .before
+    .read .ensures) _ (c .before .before .before .before .before .before .before .before .before .before .before .before .read3 .given .1)
+    in
+    let kind = c .before .before .before .before .before .before .before .before .before .before .kind-of .ensures (a .segment .now)
+    (st .tables) n (s .tables) in
+    packet-kind current (roomsOf before) (packetAt (a .segment .now) (a .index)) (a .index) st _
+    (c .before .before .before .before .before .before .before .before .before .before .kind-of .result) (done .result) _ right (kind .0)
+    (done .ensures .1) (done .ensures .0 before (packetAt (a .segment .now) (a .index)) refl right (kind .1) st n s)
 
 pub step-spec : {M : Type 1} → statement M
 step-spec =
     tie.close
     (tie.spec
-    mul-at
-    add-end
-    part-requires
+    packet-at-requires
     read-requires
     enum-known-read
     at-place-requires
     enum-known-read-2
+    kind-of-requires
     step-read-requires
     returns
     same-length

@@ -1,6 +1,6 @@
 -- By the payload start.
-use Rattle.segment.proofs.Extracting.{payload-starts, payload-adds}
 use borrow.Author.Needs.{needs}
+use mathlib.Core.Path.{_∙_}
 use Rattle.segment.proofs.packets.take_payload.Statement.{statement}
 use Rattle.segment.proofs.packets.take_payload.Tie as tie
 
@@ -17,20 +17,28 @@ same-length-3 : tie.Need-same-length-3
 same-length-3 c = search needs
 
 returns : tie.Need-returns
-returns c before st p s =
-    let a = c .before .before .before .before .before .before .before .before .before .before .before .before .before .before .before .args in
-    payload-starts before st _ (a .payload .now) _ (c .before .before .before .before .before .before .start .result) _ _ _ (c .before .before .before .before .before .before .before .before .before .before .if1 .taken) (c .before .before .before .before .before .before .start .ensures before st p s)
+returns c before p st is k s =
+    c .before .before .before .before .before .before .start .ensures before p st (record {
+      carries =
+          is .carries;
+      starts = is .starts ∙ c .before .before .before .before .before .before .before .before .before .before .if1 .taken;
+      same = is .same;
+    }) k s
 
 add-requires : tie.Need-add-requires
-add-requires c κs = c .before .before .before .before .before .before .pre .inBytes
+add-requires c κs = c .before .before .before .before .before .before .before .pre .inBytes
 
 same-length-4 : tie.Need-same-length-4
 same-length-4 c = search needs
 
 returns-2 : tie.Need-returns-2
-returns-2 c before st p s =
-    let a = c .before .before .before .before .before .before .before .before .before .args in
-    payload-adds before st _ (a .payload .now) _ (c .before .before .add .result) _ _ _ (c .before .before .before .before .if1 .left) (c .before .before .add .ensures before st _ _ p s)
+returns-2 c before p st is k s =
+    c .before .before .add .ensures _ _ before p st (record {
+      carries =
+          is .carries;
+      starts = is .starts ∙ c .before .before .before .before .if1 .left;
+      same = is .same;
+    }) k s
 
 pub take-payload-spec : {M : Type 1} → statement M
 take-payload-spec =

@@ -1,5 +1,10 @@
 -- By what the reading of the PAT answers: the first PAT is remembered by its place.
 use borrow.Author.Needs.{needs}
+use mathlib.Core.Path.{sym, subst}
+use Rattle.descriptor.specs.Edition.{current}
+use Rattle.segment_rules.specs.Rules.{patSection}
+use Rattle.segment.specs.declared.tables.TablesTurn.{TablesTurn}
+use Rattle.segment.specs.Parts.{Turns, TablesStand}
 use Rattle.segment.proofs.Reading.{pat-refused, pat-read}
 use Rattle.segment.proofs.sections.first_pat.Statement.{statement}
 use Rattle.segment.proofs.sections.first_pat.Tie as tie
@@ -16,15 +21,29 @@ enum-known-read-2 c = search needs
 named-requires : tie.Need-named-requires
 named-requires c κs = search needs
 
+pass-requires : tie.Need-pass-requires
+pass-requires c κs = search needs
+
 returns : tie.Need-returns
-returns c =
-    λ segment x e. pat-refused _ _ _ _ (c .before .read .given .1) (c .before .before .before .read-pat .ensures)
+returns c segment lies e t h s = pat-refused h s _ e _ _ (c .before .read .given .1) (c .before .before .before .read-pat .ensures)
 
 returns-2 : tie.Need-returns-2
-returns-2 c =
-    let n = c .before in
-    let p = n .before .before .before .before in
-    λ segment x e. pat-read _ _ _ _ _ _ (p .read2 .given .1) (p .before .before .read-pat .ensures) (n .named .ensures) e
+returns-2 c segment lies e t h s =
+    let a = c .before .before .before .before .before .before .before .before .before .before .before .args in
+    subst (λ (x : TablesTurn). Turns (x .outcome) (patSection (t .pat) (a .section .now) t) (TablesStand current segment (x .tables)))
+    (sym (c .pass .ensures))
+    (pat-read h s (a .section .now) e (a .at) _ _ _ lies (c .before .before .before .before .before .before .before .read2 .given .1)
+    (c .before .before .before .before .before .before .before .before .before .read-pat .ensures)
+    (c .before .before .before .named .ensures .1))
 
 pub first-pat-spec : {M : Type 1} → statement M
-first-pat-spec = tie.close (tie.spec read-pat-requires enum-known-read enum-known-read-2 named-requires returns returns-2)
+first-pat-spec =
+    tie.close
+    (tie.spec
+    read-pat-requires
+    enum-known-read
+    enum-known-read-2
+    named-requires
+    pass-requires
+    returns
+    returns-2)

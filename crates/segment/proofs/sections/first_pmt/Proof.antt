@@ -1,5 +1,10 @@
--- By what the reading of the PMT answers: the first PMT is remembered by its place, and its PIDs are those of the slots.
+-- By what the reading of the PMT answers: its map is kept, and the place of its section.
 use borrow.Author.Needs.{needs}
+use mathlib.Core.Path.{sym, subst}
+use Rattle.descriptor.specs.Edition.{current}
+use Rattle.segment_rules.specs.Rules.{pmtSection}
+use Rattle.segment.specs.declared.tables.TablesTurn.{TablesTurn}
+use Rattle.segment.specs.Parts.{Turns, TablesStand}
 use Rattle.segment.proofs.Mapping.{pmt-refused, pmt-read}
 use Rattle.segment.proofs.sections.first_pmt.Statement.{statement}
 use Rattle.segment.proofs.sections.first_pmt.Tie as tie
@@ -13,26 +18,32 @@ enum-known-answer c = search needs
 enum-told : tie.Need-enum-told
 enum-told c = search needs
 
-pid-in-requires : tie.Need-pid-in-requires
-pid-in-requires c κs = search needs
-
 pids-of-requires : tie.Need-pids-of-requires
 pids-of-requires c κs = search needs
 
 of-requires : tie.Need-of-requires
 of-requires c κs = search needs
 
+pass-requires : tie.Need-pass-requires
+pass-requires c κs = search needs
+
 returns : tie.Need-returns
-returns c =
-    let r = c .before .before .before .before in
-    λ segment x e. pmt-refused _ _ _ _ _ (r .read-pmt .ensures .0) _ (c .before .answer .given .1)
+returns c segment lies k e t h s =
+    let a = c .before .before .before .before .before .before .before .args in
+    let read = c .before .before .before .before .read-pmt in
+    sym (pmt-refused s (a .section .now) (a .pat) e k (read .result .answer) (read .result .map) (read .ensures .0) _
+    (c .before .answer .given .1))
 
 returns-2 : tie.Need-returns-2
-returns-2 c =
-    let p = c .before .before .before .before in
-    let a = p .before .before .before in
-    let r = a .before .before .before in
-    λ segment x e. pmt-read _ _ _ _ _ (r .read-pmt .ensures .0) _ _ _ _ (a .enum-told .given .1) e (p .before .pid-in .ensures) (p .pids-of .ensures) (c .of .ensures)
+returns-2 c segment lies k e t h s =
+    let a = c .before .before .before .before .before .before .before .before .before .before .before .before .before .args in
+    let read = c .before .before .before .before .before .before .before .before .before .before .read-pmt in
+    subst (λ (x : TablesTurn). Turns (x .outcome) (pmtSection current (t .pat) (t .pmt) (a .section .now) t)
+    (TablesStand current segment (x .tables))) (sym (c .pass .ensures))
+    (pmt-read s (a .section .now) (a .pat) e k (read .result .answer) (read .result .map) (read .ensures .0) (a .at)
+    (c .before .before .pids-of .result) (c .before .of .result) lies
+    (c .before .before .before .before .before .before .before .enum-told .given .1) (c .before .before .pids-of .ensures)
+    (c .before .of .ensures))
 
 pub first-pmt-spec : {M : Type 1} → statement M
 first-pmt-spec =
@@ -41,8 +52,8 @@ first-pmt-spec =
     read-pmt-requires
     enum-known-answer
     enum-told
-    pid-in-requires
     pids-of-requires
     of-requires
+    pass-requires
     returns
     returns-2)

@@ -1,7 +1,10 @@
--- A section that is found lies in the segment one byte behind its payload's beginning.
-use mathlib.Core.Path.{sym, _∙_}
+-- A section that is found is a part of the payload, and lies in the segment one byte behind the payload's beginning.
 use borrow.Author.Needs.{needs}
-use Rattle.segment.proofs.Reading.{pat-misplaced, pat-placed}
+use mathlib.Core.Path.{sym, _∙_}
+use Rattle.descriptor.specs.Edition.{current}
+use Rattle.segment_rules.specs.Rules.{sectionRead, patSection}
+use Rattle.segment.proofs.Reading.{section-lies, pat-misplaced, pat-placed, refuses, carries-as}
+use Rattle.segment_rules.specs.State as state
 use Rattle.segment.proofs.sections.pat_payload.Statement.{statement}
 use Rattle.segment.proofs.sections.pat_payload.Tie as tie
 
@@ -20,20 +23,28 @@ enum-known-found c = search needs
 add-pat-section : tie.Need-add-pat-section
 add-pat-section c = search needs
 
+part-requires : tie.Need-part-requires
+part-requires c κs = search needs
+
 pat-section-requires : tie.Need-pat-section-requires
 pat-section-requires c κs = search needs
 
 returns : tie.Need-returns
-returns c =
-    let f = c .before .before .before in
-    λ x e. c .refuse .ensures _ x ∙ pat-misplaced _ _ _ (sym (f .find-section .ensures) ∙ c .before .enum-told .given .1)
+returns c lies =
+    let a = c .before .before .before .before .before .before .args in
+    refuses (sectionRead current state.Pat (a .start) (a .payload .now)) (c .refuse .result) _ (c .refuse .ensures)
+    (λ t s. pat-misplaced current (a .start) (a .payload .now) t
+    (sym (c .before .before .before .find-section .ensures) ∙ c .before .enum-told .given .1))
 
 returns-2 : tie.Need-returns-2
-returns-2 c =
-    let n = c .before .before in
-    let f = n .before .before in
-    let args = f .before .before .before .args in
-    λ x e. c .pat-section .ensures x ∙ pat-placed _ _ _ (args .segment .now) (args .at) _ (sym (f .find-section .ensures) ∙ n .found .given .1) e
+returns-2 c lies =
+    let a = c .before .before .before .before .before .before .before .before .args in
+    let section = c .before .part .result .now in
+    let found = sym (c .before .before .before .before .before .find-section .ensures) ∙ c .before .before .before .found .given .1 in
+    carries-as (sectionRead current state.Pat (a .start) (a .payload .now)) (c .pat-section .result) (λ t. patSection (t .pat) section t)
+    (λ t. pat-placed current (a .start) (a .payload .now) t _ section found (c .before .part .ensures))
+    (c .pat-section .ensures (section-lies (a .segment .now) (a .payload .now) (a .at) _ (a .start) section lies found
+    (c .before .part .ensures)))
 
 pub pat-payload-spec : {M : Type 1} → statement M
 pat-payload-spec =
@@ -44,6 +55,7 @@ pat-payload-spec =
     refuse-requires
     enum-known-found
     add-pat-section
+    part-requires
     pat-section-requires
     returns
     returns-2)

@@ -1,12 +1,8 @@
--- By whether a PAT was seen: the first is read, a later one compared.
-use mathlib.Core.Path.{sym, _∙_}
+-- The first PAT is read; a later one is compared with the bytes at the place of the first.
 use borrow.Author.Needs.{needs}
-use Rattle.segment.proofs.Reading.{pat-first, pat-later}
+use Rattle.segment.proofs.Reading.{pat-later}
 use Rattle.segment.proofs.sections.pat_section.Statement.{statement}
 use Rattle.segment.proofs.sections.pat_section.Tie as tie
-
-part-requires : tie.Need-part-requires
-part-requires c κs = search needs
 
 enum-told : tie.Need-enum-told
 enum-told c = search needs
@@ -17,32 +13,28 @@ first-pat-requires c κs = search needs
 enum-known-pat : tie.Need-enum-known-pat
 enum-known-pat c = search needs
 
-part-requires-2 : tie.Need-part-requires-2
-part-requires-2 c κs = search needs
+part-requires : tie.Need-part-requires
+part-requires c κs = search needs
 
 later-section-requires : tie.Need-later-section-requires
 later-section-requires c κs = search needs
 
 returns : tie.Need-returns
-returns c =
-    let p = c .before .before .before in
-    λ x. c .first-pat .ensures _ x (sym (p .part .ensures)) ∙ pat-first _ _ _ _ (p .part .ensures) _ (c .before .enum-told .given .1)
+returns c lies = c .first-pat .ensures _ lies (c .before .enum-told .given .1)
 
 returns-2 : tie.Need-returns-2
-returns-2 c =
-    let s = c .before .before .before in
-    λ x. c .later-section .ensures _
-    ∙ pat-later _ _ _ _ (s .before .before .part .ensures) _ _ _ (s .pat .given .1) (c .before .part2 .ensures)
+returns-2 c lies t h s =
+    pat-later h s (c .before .before .before .before .before .before .before .args .section .now) _ _ (c .later-section .result)
+    (c .before .before .before .pat .given .1) (c .before .part .ensures) (c .later-section .ensures t)
 
 pub pat-section-spec : {M : Type 1} → statement M
 pat-section-spec =
     tie.close
     (tie.spec
-    part-requires
     enum-told
     first-pat-requires
     enum-known-pat
-    part-requires-2
+    part-requires
     later-section-requires
     returns
     returns-2)

@@ -45,8 +45,12 @@ loop-again c =
     let entries = c .before .before .args .t1 in
     let i = c .before .loop .i in
     let as-many : length entries ≡ 12 = search (needs, unmapped) in
-    let twelve = c .before .loop .inv .1 in
-    (omega arith, length-set l i _ ∙ twelve, one-pid entries l i (omega (arith, as-many)) (omega (arith, twelve)) _ (c .before .loop .inv .2))
+    let twelve = c .before .loop .inv .1 in (
+      omega arith,
+      length-set l i _ ∙ twelve,
+      one-pid entries l i (omega (arith, as-many)) (omega (arith, twelve)) _
+          (c .before .loop .inv .2),
+    )
 
 returns : tie.Need-returns Inv-loop μ-loop
 returns c =

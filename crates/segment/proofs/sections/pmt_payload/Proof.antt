@@ -1,7 +1,10 @@
--- A section that is found lies in the segment one byte behind its payload's beginning.
-use mathlib.Core.Path.{sym, _∙_}
+-- A section that is found is a part of the payload, and lies in the segment one byte behind the payload's beginning.
 use borrow.Author.Needs.{needs}
-use Rattle.segment.proofs.Reading.{pmt-misplaced, pmt-placed}
+use mathlib.Core.Path.{sym, _∙_}
+use Rattle.descriptor.specs.Edition.{current}
+use Rattle.segment_rules.specs.Rules.{sectionRead, pmtSection}
+use Rattle.segment.proofs.Reading.{section-lies, pmt-misplaced, pmt-placed, refuses, carries-as}
+use Rattle.segment_rules.specs.State as state
 use Rattle.segment.proofs.sections.pmt_payload.Statement.{statement}
 use Rattle.segment.proofs.sections.pmt_payload.Tie as tie
 
@@ -20,20 +23,29 @@ enum-known-found c = search needs
 add-pmt-section : tie.Need-add-pmt-section
 add-pmt-section c = search needs
 
+part-requires : tie.Need-part-requires
+part-requires c κs = search needs
+
 pmt-section-requires : tie.Need-pmt-section-requires
 pmt-section-requires c κs = search needs
 
 returns : tie.Need-returns
-returns c =
-    let f = c .before .before .before in
-    λ x e. c .refuse .ensures _ x ∙ pmt-misplaced _ _ _ (sym (f .find-section .ensures) ∙ c .before .enum-told .given .1)
+returns c lies =
+    let a = c .before .before .before .before .before .before .args in
+    refuses (sectionRead current state.Map (a .start) (a .payload .now)) (c .refuse .result) _ (c .refuse .ensures)
+    (λ t s. pmt-misplaced current (a .start) (a .payload .now) t
+    (sym (c .before .before .before .find-section .ensures) ∙ c .before .enum-told .given .1))
 
 returns-2 : tie.Need-returns-2
-returns-2 c =
-    let n = c .before .before in
-    let f = n .before .before in
-    let args = f .before .before .before .args in
-    λ x e. c .pmt-section .ensures x ∙ pmt-placed _ _ _ (args .segment .now) (args .at) _ (sym (f .find-section .ensures) ∙ n .found .given .1) e
+returns-2 c lies =
+    let a = c .before .before .before .before .before .before .before .before .args in
+    let section = c .before .part .result .now in
+    let found = sym (c .before .before .before .before .before .find-section .ensures) ∙ c .before .before .before .found .given .1 in
+    carries-as (sectionRead current state.Map (a .start) (a .payload .now)) (c .pmt-section .result)
+    (λ t. pmtSection current (t .pat) (t .pmt) section t)
+    (λ t. pmt-placed current (a .start) (a .payload .now) t _ section found (c .before .part .ensures))
+    (c .pmt-section .ensures (section-lies (a .segment .now) (a .payload .now) (a .at) _ (a .start) section lies found
+    (c .before .part .ensures)))
 
 pub pmt-payload-spec : {M : Type 1} → statement M
 pmt-payload-spec =
@@ -44,6 +56,7 @@ pmt-payload-spec =
     refuse-requires
     enum-known-found
     add-pmt-section
+    part-requires
     pmt-section-requires
     returns
     returns-2)

@@ -1,10 +1,11 @@
 -- The counters are fresh, and nothing was seen.
+use borrow.Author.Needs.{needs}
 use mathlib.Core.Path.{ap}
+use Rattle.pmt.specs.Answer.{noMap}
 use Rattle.segment.specs.declared.counters.Counters.{Counters}
 use Rattle.segment.specs.declared.state.PatSeen.the-variants as pat
 use Rattle.segment.specs.declared.state.PmtSeen.the-variants as pmt
-use mathlib.Core.Bool.{false}
-use borrow.Author.Needs.{needs}
+use Rattle.packet.specs.declared.header.Clock.the-variants as clock
 use Rattle.segment.proofs.tables.fresh_tables.Statement.{statement}
 use Rattle.segment.proofs.tables.fresh_tables.Tie as tie
 
@@ -12,7 +13,9 @@ fresh-counters-requires : tie.Need-fresh-counters-requires
 fresh-counters-requires c κs = search needs
 
 returns : tie.Need-returns
-returns c = ap (λ (k : Counters). record { pat = pat.None; pmt = pmt.None; counters = k; «pcr_seen» = false }) (c .fresh-counters .ensures)
+returns c =
+    ap (λ (k : Counters). record { pat = pat.None; pmt = pmt.None; map = noMap; counters = k; pcr = clock.None })
+    (c .fresh-counters .ensures)
 
 pub fresh-tables-spec : {M : Type 1} → statement M
 fresh-tables-spec = tie.close (tie.spec fresh-counters-requires returns)

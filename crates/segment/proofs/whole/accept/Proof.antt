@@ -1,8 +1,14 @@
 -- By what was seen of the PAT and of the PMT.
-use Rattle.segment.proofs.Ending.{no-pat, no-pmt, both}
 use borrow.Author.Needs.{needs}
+use mathlib.Core.Path.{ap, _∙_}
+use Rattle.refusal.specs.declared.Refused.{Refused}
+use Rattle.refusal.specs.Number.{refusedBy}
+use Rattle.segment.proofs.Ending.{without-pat, without-pmt, with-both}
 use Rattle.segment.proofs.whole.accept.Statement.{statement}
 use Rattle.segment.proofs.whole.accept.Tie as tie
+
+at-requires : tie.Need-at-requires
+at-requires c κs = search needs
 
 enum-known-pat : tie.Need-enum-known-pat
 enum-known-pat c = search needs
@@ -11,21 +17,38 @@ enum-told : tie.Need-enum-told
 enum-told c = search needs
 
 returns : tie.Need-returns
-returns c segment us u n = no-pat segment (c .before .before .args .tables) us (c .before .before .args .totals) _ n (c .enum-told .given .1)
-
-enum-known-pmt : tie.Need-enum-known-pmt
-enum-known-pmt c = search needs
+returns c segment t us u s =
+    ap (λ (q : Refused). refusedBy q) (c .before .before .at .ensures) ∙ without-pat s _ us _ (c .enum-told .given .1)
 
 enum-told-2 : tie.Need-enum-told-2
 enum-told-2 c = search needs
 
+enum-told-3 : tie.Need-enum-told-3
+enum-told-3 c = search needs
+
 returns-2 : tie.Need-returns-2
-returns-2 c segment us u n = no-pmt segment (c .before .before .before .before .before .args .tables) us (c .before .before .before .before .before .args .totals) _ (c .before .before .before .pat .given .1) _ n (c .enum-told2 .given .1)
+returns-2 c segment t us u s =
+    ap (λ (q : Refused). refusedBy q) (c .before .before .before .before .before .at .ensures) ∙ without-pmt s _ us _ _
+    (c .before .before .before .pat .given .1) (c .enum-told3 .given .1)
+
+pid-in-requires : tie.Need-pid-in-requires
+pid-in-requires c κs = search needs
 
 returns-3 : tie.Need-returns-3
-returns-3 c segment us u n = both segment (c .before .before .before .before .before .before .before .args .tables) us (c .before .before .before .before .before .before .before .args .totals) _ (c .before .before .before .before .before .pat .given .1) _ (c .before .before .pmt .given .1) _ u
+returns-3 c segment t us u s =
+    with-both s _ us _ _ (c .before .before .before .before .before .before .before .pat .given .1) _
+    (c .before .before .before .before .enum-told2 .given .1) _ _ (c .pid-in .ensures) u
 
 pub accept-spec : {M : Type 1} → statement M
 accept-spec =
     tie.close
-    (tie.spec enum-known-pat enum-told returns enum-known-pmt enum-told-2 returns-2 returns-3)
+    (tie.spec
+    at-requires
+    enum-known-pat
+    enum-told
+    returns
+    enum-told-2
+    enum-told-3
+    returns-2
+    pid-in-requires
+    returns-3)

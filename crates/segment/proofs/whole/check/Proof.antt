@@ -1,7 +1,8 @@
 -- The verdict and the units are the judge's; where it refused, the outputs are cleared.
-use Rattle.segment.specs.Check.{checkSegment, roomsOf, outputsOf}
-use Rattle.segment.proofs.Ending.{answers, accepted-leaves, refused-leaves}
 use borrow.Author.Needs.{needs}
+use Rattle.descriptor.specs.Edition.{current}
+use Rattle.segment_rules.specs.Check.{outputsOf, roomsOf, checkSegment}
+use Rattle.segment.proofs.Ending.{answers, accepted-leaves, refused-leaves}
 use Rattle.segment.proofs.whole.check.Statement.{statement}
 use Rattle.segment.proofs.whole.check.Tie as tie
 
@@ -28,14 +29,16 @@ same-length-3 c = search needs
 
 returns : tie.Need-returns
 returns c =
-    let a = c .before .before .before .before .before .before .before .before .before .before .before .before .before .before .before .before .args in
+    let a = c .before .before .before .before .before .before .before .before .before .before .before .before .before .before .before
+    .before .args in
     let before = outputsOf (a .out .now) (a .lens .now) (a .times .now) in
-    let verdict = checkSegment (a .segment .now) (roomsOf before) in
+    let verdict = checkSegment current (roomsOf before) (a .segment .now) in
     let judged = c .before .before .before .before .before .before .before .before .judge in
-    let out = judged .last .1 .0 in
-    let lens = judged .last .1 .1 .0 in
-    let times = judged .last .1 .1 .1 .0 in
-    (answers (judged .result) before verdict out lens times (judged .ensures), accepted-leaves (judged .result) _ (c .enum-told .given .1) before verdict out lens times (judged .ensures))
+    let now = outputsOf (judged .last .1 .0) (judged .last .1 .1 .0) (judged .last .1 .1 .1 .0) in (
+      answers (judged .result) before verdict now (judged .ensures),
+      accepted-leaves (judged .result) _ (c .enum-told .given .1) before
+          verdict now (judged .ensures),
+    )
 
 same-length-4 : tie.Need-same-length-4
 same-length-4 c = search needs
@@ -48,17 +51,21 @@ same-length-6 c = search needs
 
 returns-2 : tie.Need-returns-2
 returns-2 c =
-    let a = c .before .before .before .before .before .before .before .before .before .before .before .before .before .before .before .before .before .before .before .before .before .before .before .before .before .before .args in
+    let a = c .before .before .before .before .before .before .before .before .before .before .before .before .before .before .before
+    .before .before .before .before .before .before .before .before .before .before .before .args in
     let before = outputsOf (a .out .now) (a .lens .now) (a .times .now) in
-    let verdict = checkSegment (a .segment .now) (roomsOf before) in
-    let judged = c .before .before .before .before .before .before .before .before .before .before .before .before .before .before .before .before .before .before .judge in
+    let verdict = checkSegment current (roomsOf before) (a .segment .now) in
+    let judged = c .before .before .before .before .before .before .before .before .before .before .before .before .before .before .before
+    .before .before .before .judge in
     let out = judged .last .1 .0 in
     let lens = judged .last .1 .1 .0 in
     let times = judged .last .1 .1 .1 .0 in
     let cleared = c .before .before .before .before .before .before .clear in (
-      answers (judged .result) before verdict out lens times (judged .ensures),
-      refused-leaves (judged .result) _ (c .before .before .before .before .before .before .before .before .before .before .enum-told2 .given .1) before verdict out lens times (cleared .last .0) (cleared .last .1 .0) (cleared .last .1 .1 .0) (judged .ensures) (cleared .ensures .0) (cleared .ensures .1 .0) (cleared .ensures .1 .1)
-          (judged .kept .1 .0) (judged .kept .1 .1 .0) (judged .kept .1 .1 .1 .0),
+      answers (judged .result) before verdict (outputsOf out lens times) (judged .ensures),
+      refused-leaves (judged .result) _ (c .before .before .before .before .before .before .before .before .before .before .enum-told2
+          .given .1) before verdict out lens times (cleared .last .0) (cleared .last .1 .0) (cleared .last .1 .1 .0) (judged .ensures)
+          (cleared .ensures .0) (cleared .ensures .1 .0) (cleared .ensures .1 .1) (judged .kept .1 .0) (judged .kept .1 .1 .0)
+          (judged .kept .1 .1 .1 .0),
     )
 
 pub check-spec : {M : Type 1} → statement M

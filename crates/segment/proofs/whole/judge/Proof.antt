@@ -1,22 +1,25 @@
 -- 20, the packets in order, the end.
-use mathlib.Core.Path.{refl, sym, _∙_}
-use Rattle.segment.specs.Check.{roomsOf, outputsOf}
-use Rattle.segment.proofs.Standing.{stands-fits}
-use Rattle.segment.proofs.Running.{run-total}
-use Rattle.segment.proofs.Looping.{run-passed, run-stopped}
-use Rattle.segment.proofs.Ending.{length-refused, run-refused, run-ended}
 use borrow.Author.Needs.{needs}
+use mathlib.Core.Path.{sym, _∙_}
+use Rattle.descriptor.specs.Edition.{current}
+use Rattle.segment_rules.specs.Check.{outputsOf}
+use Rattle.segment.proofs.Holding.{stands-fits}
+use Rattle.segment.proofs.Ending.{length-refused, run-refused, ran, all-packets, run-ended}
 use Rattle.segment.proofs.whole.judge.Statement.{statement}
 use Rattle.segment.proofs.whole.judge.Tie as tie
 
 length-wrong-requires : tie.Need-length-wrong-requires
 length-wrong-requires c κs = search needs
 
+at-requires : tie.Need-at-requires
+at-requires c κs = search needs
+
 returns : tie.Need-returns
 returns c =
-    let a = c .before .before .before .before .before .before .args in
+    let a = c .before .before .before .before .before .before .before .args in
     let before = outputsOf (a .out .now) (a .lens .now) (a .times .now) in
-    length-refused (a .segment .now) before (a .out .now) (a .lens .now) (a .times .now) (record { why = record { number = 20 }; place = 0 }) refl (sym (c .before .length-wrong .ensures) ∙ c .if1 .taken)
+    length-refused current (a .segment .now) before before (c .at .result) (c .at .ensures)
+    (sym (c .before .before .length-wrong .ensures) ∙ c .before .if1 .taken)
 
 run-requires : tie.Need-run-requires
 run-requires c κs = sym (c .before .before .before .before .length-wrong .ensures) ∙ c .before .before .before .if1 .left
@@ -29,13 +32,16 @@ enum-told c = search needs
 
 finish-requires : tie.Need-finish-requires
 finish-requires c κs =
-    let a = c .before .before .before .before .before .before .before .before .before .before .before .before .before .before .before .before .before .before .before .before .before .args in
+    let a = c .before .before .before .before .before .before .before .before .before .before .before .before .before .before .before
+    .before .before .before .before .before .before .args in
     let before = outputsOf (a .out .now) (a .lens .now) (a .times .now) in
     let done = c .before .before .before .before .before .before .before .before .before .before .before .run in
-    let out = done .last .1 .0 in
-    let lens = done .last .1 .1 .0 in
-    let times = done .last .1 .1 .1 .0 in
-    stands-fits (run-passed (a .segment .now) before (done .result) out lens times (done .result .outcome) (c .before .before .before .enum-told .given .1) (done .ensures) .2)
+    let now = outputsOf (done .last .1 .0) (done .last .1 .1 .0) (done .last .1 .1 .1 .0) in
+    let right = sym (c .before .before .before .before .before .before .before .before .before .before .before .before .before .before
+    .before .before .length-wrong .ensures) ∙ c .before .before .before .before .before .before .before .before .before .before .before
+    .before .before .before .before .if1 .left in
+    stands-fits (ran current (a .segment .now) before now right (done .result) (done .ensures)
+    (c .before .before .before .enum-told .given .1) .2 .0 .extraction)
 
 same-length : tie.Need-same-length
 same-length c = search needs
@@ -48,14 +54,14 @@ same-length-3 c = search needs
 
 returns-2 : tie.Need-returns-2
 returns-2 c =
-    let a = c .before .before .before .before .before .before .before .before .before .before .before .before .before .before .before .before .before .before .before .args in
+    let a = c .before .before .before .before .before .before .before .before .before .before .before .before .before .before .before
+    .before .before .before .before .args in
     let before = outputsOf (a .out .now) (a .lens .now) (a .times .now) in
     let done = c .before .before .before .before .before .before .before .before .before .run in
-    let out = done .last .1 .0 in
-    let lens = done .last .1 .1 .0 in
-    let times = done .last .1 .1 .1 .0 in
-    run-refused (a .segment .now) before out lens times (sym (c .before .before .before .before .before .before .before .before .before .before .before .before .before .before .length-wrong .ensures) ∙ c .before .before .before .before .before .before .before .before .before .before .before .before .before .if1 .left) (c .before .outcome .given .0 .0)
-    (run-stopped (a .segment .now) before (done .result) out lens times (done .result .outcome) _ (c .before .outcome .given .1) (done .ensures))
+    let now = outputsOf (done .last .1 .0) (done .last .1 .1 .0) (done .last .1 .1 .1 .0) in
+    run-refused current (a .segment .now) before now (sym (c .before .before .before .before .before .before .before .before .before .before
+    .before .before .before .before .length-wrong .ensures) ∙ c .before .before .before .before .before .before .before .before .before
+    .before .before .before .before .if1 .left) (done .result) (done .ensures) _ now (c .before .outcome .given .1)
 
 same-length-4 : tie.Need-same-length-4
 same-length-4 c = search needs
@@ -68,22 +74,29 @@ same-length-6 c = search needs
 
 returns-3 : tie.Need-returns-3
 returns-3 c =
-    let a = c .before .before .before .before .before .before .before .before .before .before .before .before .before .before .before .before .before .before .before .before .before .before .before .before .before .before .args in
+    let a = c .before .before .before .before .before .before .before .before .before .before .before .before .before .before .before
+    .before .before .before .before .before .before .before .before .before .before .before .args in
     let before = outputsOf (a .out .now) (a .lens .now) (a .times .now) in
-    let done = c .before .before .before .before .before .before .before .before .before .before .before .before .before .before .before .before .run in
+    let done = c .before .before .before .before .before .before .before .before .before .before .before .before .before .before .before
+    .before .run in
+    let now = outputsOf (done .last .1 .0) (done .last .1 .1 .0) (done .last .1 .1 .1 .0) in
+    let right = sym (c .before .before .before .before .before .before .before .before .before .before .before .before .before .before
+    .before .before .before .before .before .before .before .length-wrong .ensures) ∙ c .before .before .before .before .before .before
+    .before .before .before .before .before .before .before .before .before .before .before .before .before .before .if1 .left in
+    let told = c .before .before .before .before .before .before .before .before .enum-told .given .1 in
     let ended = c .before .before .before .before .finish in
-    let out = done .last .1 .0 in
-    let lens = done .last .1 .1 .0 in
-    let times = done .last .1 .1 .1 .0 in
-    let f = run-passed (a .segment .now) before (done .result) out lens times (done .result .outcome) (c .before .before .before .before .before .before .before .before .enum-told .given .1) (done .ensures) in
-    run-ended (a .segment .now) before out (ended .last .1 .1 .1 .0) (ended .last .1 .1 .1 .1 .0) (sym (c .before .before .before .before .before .before .before .before .before .before .before .before .before .before .before .before .before .before .before .before .before .length-wrong .ensures) ∙ c .before .before .before .before .before .before .before .before .before .before .before .before .before .before .before .before .before .before .before .before .if1 .left) (ended .result) _ (f .1)
-    (ended .ensures (a .segment .now) before (f .0) (run-total (a .segment .now) (roomsOf before) _ (f .1)) (f .2))
+    let all = ran current (a .segment .now) before now right (done .result) (done .ensures) told in
+    run-ended current (a .segment .now) before now right (done .result) (done .ensures) told (ended .result)
+    (outputsOf (done .last .1 .0) (ended .last .1 .1 .1 .0) (ended .last .1 .1 .1 .1 .0))
+    (ended .ensures (a .segment .now) before (all .0) (all-packets current (a .segment .now) before now right (done .result) (done .ensures)
+    told) (all .2 .1) (all .2 .0))
 
 pub judge-spec : {M : Type 1} → statement M
 judge-spec =
     tie.close
     (tie.spec
     length-wrong-requires
+    at-requires
     returns
     run-requires
     enum-known-outcome

@@ -1,18 +1,18 @@
 -- As many packets as the index says have passed, and the run of the rest from here is the whole run (`Running`).
+use borrow.Author.Needs.{needs}
+use native.Mathlib.Omega.{arith}
 use Prim.Native.Nat.{_-_}
 use mathlib.Core.Path.{refl, _∙_}
-use native.Mathlib.Omega.{arith}
-use borrow.Author.Needs.{needs}
-use Rattle.segment.specs.Check.{outputsOf}
-use Rattle.segment.proofs.Running.{Running}
-use Rattle.segment.proofs.Standing.{stands-fits, same-bytes, same-lens, same-times}
-use Rattle.segment.proofs.Looping.{count-within, begins, goes-on, stops-there, comes-to-end}
+use Rattle.descriptor.specs.Edition.{current}
+use Rattle.segment_rules.specs.Check.{outputsOf}
+use Rattle.segment.proofs.Holding.{same-bytes, same-lens, same-times, stands-fits}
+use Rattle.segment.proofs.Looping.{count-within, Running, begins, goes-on, stops-there, comes-to-end}
 use Rattle.segment.proofs.whole.run.Statement.{statement}
 use Rattle.segment.proofs.whole.run.Tie as tie
 
 abbrev Inv-loop : tie.InvT-loop
 Inv-loop segment out₀ lens₀ times₀ count tables₀ extraction₀ totals₀ index₀ out lens times tables extraction totals index =
-    Running segment (outputsOf out₀ lens₀ times₀) tables extraction totals index out lens times
+    Running current segment (outputsOf out₀ lens₀ times₀) (outputsOf out lens times) tables extraction totals index
 
 abbrev μ-loop : tie.MeasureT-loop
 μ-loop segment out₀ lens₀ times₀ count tables₀ extraction₀ totals₀ index₀ out lens times tables extraction totals index = count - index
@@ -29,12 +29,13 @@ none-yet-requires c κs = search needs
 loop-holds : tie.Need-loop-holds Inv-loop μ-loop
 loop-holds c =
     let a = c .before .before .before .before .before .before .before .args in
-    begins (a .segment .now) (outputsOf (a .out .now) (a .lens .now) (a .times .now)) _ _ _ (c .before .before .fresh-tables .ensures) (c .before .fresh-extraction .ensures) (c .none-yet .ensures)
+    begins current (a .segment .now) (outputsOf (a .out .now) (a .lens .now) (a .times .now)) _ _ _
+    (c .before .before .fresh-tables .ensures) (c .before .fresh-extraction .ensures) (c .none-yet .ensures)
 
 step-requires : tie.Need-step-requires Inv-loop μ-loop
 step-requires c κs =
     let l = c .before .before .before .before .loop in
-    (omega (arith, c .before .before .before .loop-test .taken), stands-fits (l .inv .stands))
+    (omega (arith, c .before .before .before .loop-test .taken), stands-fits (l .inv .stands .extraction))
 
 enum-told : tie.Need-enum-told Inv-loop μ-loop
 enum-told c = search needs
@@ -43,59 +44,95 @@ enum-told-2 : tie.Need-enum-told-2 Inv-loop μ-loop
 enum-told-2 c = search needs
 
 same-length : tie.Need-same-length Inv-loop μ-loop
-same-length c = c .before .before .before .before .before .before .before .before .step .kept .1 .1 .1 .1 .0 ∙ same-bytes (c .before .before .before .before .before .before .before .before .before .before .before .before .before .loop .inv .stands)
+same-length c =
+    c .before .before .before .before .before .before .before .before .step .kept .1 .1 .1 .1 .0 ∙ same-bytes
+    (c .before .before .before .before .before .before .before .before .before .before .before .before .before .loop .inv .stands
+    .extraction)
 
 same-length-2 : tie.Need-same-length-2 Inv-loop μ-loop
-same-length-2 c = c .before .before .before .before .before .before .before .before .step .kept .1 .1 .1 .1 .1 .0 ∙ same-lens (c .before .before .before .before .before .before .before .before .before .before .before .before .before .loop .inv .stands)
+same-length-2 c =
+    c .before .before .before .before .before .before .before .before .step .kept .1 .1 .1 .1 .1 .0 ∙ same-lens
+    (c .before .before .before .before .before .before .before .before .before .before .before .before .before .loop .inv .stands
+    .extraction)
 
 same-length-3 : tie.Need-same-length-3 Inv-loop μ-loop
-same-length-3 c = c .before .before .before .before .before .before .before .before .step .kept .1 .1 .1 .1 .1 .1 .0 ∙ same-times (c .before .before .before .before .before .before .before .before .before .before .before .before .before .loop .inv .stands)
+same-length-3 c =
+    c .before .before .before .before .before .before .before .before .step .kept .1 .1 .1 .1 .1 .1 .0 ∙ same-times
+    (c .before .before .before .before .before .before .before .before .before .before .before .before .before .loop .inv .stands
+    .extraction)
 
 returns : tie.Need-returns Inv-loop μ-loop
 returns c =
-    let a = c .before .before .before .before .before .before .before .before .before .before .before .before .before .before .before .before .before .before .before .before .before .args in
+    let a = c .before .before .before .before .before .before .before .before .before .before .before .before .before .before .before
+    .before .before .before .before .before .before .args in
     let l = c .before .before .before .before .before .before .before .before .before .before .before .before .before .loop in
     let done = c .before .before .before .before .before .before .before .before .step in
     let before = outputsOf (a .out .now) (a .lens .now) (a .times .now) in
-    stops-there (a .segment .now) before (l .tables) (l .extraction) (l .totals) (l .index) (l .out) (l .lens) (l .times) (l .inv) (c .before .before .before .before .before .before .before .before .before .before .before .before .loop-test .taken) (done .result)
-    (done .last .1 .1 .1 .1 .0) (done .last .1 .1 .1 .1 .1 .0) (done .last .1 .1 .1 .1 .1 .1 .0) (done .ensures before (l .inv .extracted) (l .inv .stands)) (done .result .outcome) _ (c .enum-told2 .given .1) refl _ _ _ _
+    stops-there current (a .segment .now) before (outputsOf (l .out) (l .lens) (l .times)) (l .tables) (l .extraction) (l .totals)
+    (l .index) (l .inv) (c .before .before .before .before .before .before .before .before .before .before .before .before .loop-test
+    .taken) (done .result)
+    (outputsOf (done .last .1 .1 .1 .1 .0) (done .last .1 .1 .1 .1 .1 .0) (done .last .1 .1 .1 .1 .1 .1 .0)) (done .ensures) _
+    (c .enum-told2 .given .1)
+    (record { tables = l .tables; extraction = l .extraction; totals = l .totals; outcome = done .result .outcome })
+    (outputsOf (done .last .1 .1 .1 .1 .0) (done .last .1 .1 .1 .1 .1 .0) (done .last .1 .1 .1 .1 .1 .1 .0)) refl
 
 count-packet-requires : tie.Need-count-packet-requires Inv-loop μ-loop
 count-packet-requires c κs =
-    let k = c .before .before .before .before .before .before .before .before .before .before .before .before .before .before .before .before .before .before .before .before .before .before .before in
-    omega (arith, c .before .before .before .before .before .before .before .before .before .before .before .before .before .before .before .loop .inv .counts, c .before .before .before .before .before .before .before .before .before .before .before .before .before .before .loop-test .taken, count-within (k .args .segment .now) (k .pre))
+    let begin = c .before .before .before .before .before .before .before .before .before .before .before .before .before .before .before
+    .before .before .before .before .before .before .before .before in
+    omega (
+      arith,
+      c .before .before .before .before .before .before .before .before .before .before .before .before .before .before .before
+          .loop .inv .counts,
+      c .before .before .before .before .before .before .before .before .before .before .before .before .before .before
+          .loop-test .taken,
+      count-within (begin .args .segment .now) (begin .pre),
+    )
 
 add-index : tie.Need-add-index Inv-loop μ-loop
 add-index c =
-    let k = c .before .before .before .before .before .before .before .before .before .before .before .before .before .before .before .before .before .before .before .before .before .before .before .before in
-    omega (arith, c .before .before .before .before .before .before .before .before .before .before .before .before .before .before .before .loop-test .taken, count-within (k .args .segment .now) (k .pre))
+    let begin = c .before .before .before .before .before .before .before .before .before .before .before .before .before .before .before
+    .before .before .before .before .before .before .before .before .before in
+    omega (
+      arith,
+      c .before .before .before .before .before .before .before .before .before .before .before .before .before .before .before
+          .loop-test .taken,
+      count-within (begin .args .segment .now) (begin .pre),
+    )
 
 loop-less : tie.Need-loop-less Inv-loop μ-loop
 loop-less c = search needs
 
 loop-again : tie.Need-loop-again Inv-loop μ-loop
 loop-again c =
-    let a = c .before .before .before .before .before .before .before .before .before .before .before .before .before .before .before .before .before .before .before .before .before .before .before .before .args in
-    let l = c .before .before .before .before .before .before .before .before .before .before .before .before .before .before .before .before .loop in
+    let a = c .before .before .before .before .before .before .before .before .before .before .before .before .before .before .before
+    .before .before .before .before .before .before .before .before .before .args in
+    let l = c .before .before .before .before .before .before .before .before .before .before .before .before .before .before .before
+    .before .loop in
     let done = c .before .before .before .before .before .before .before .before .before .before .before .step in
     let before = outputsOf (a .out .now) (a .lens .now) (a .times .now) in
-    goes-on (a .segment .now) before (l .tables) (l .extraction) (l .totals) (l .index) (l .out) (l .lens) (l .times) (l .inv) (c .before .before .before .before .before .before .before .before .before .before .before .before .before .before .before .loop-test .taken) (done .result)
-    (done .last .1 .1 .1 .1 .0) (done .last .1 .1 .1 .1 .1 .0) (done .last .1 .1 .1 .1 .1 .1 .0) (done .ensures before (l .inv .extracted) (l .inv .stands)) (c .before .before .before .enum-told .given .1) _ (c .count-packet .ensures)
+    goes-on current (a .segment .now) before (outputsOf (l .out) (l .lens) (l .times)) (l .tables) (l .extraction) (l .totals) (l .index)
+    (l .inv) (c .before .before .before .before .before .before .before .before .before .before .before .before .before .before .before
+    .loop-test .taken) (done .result)
+    (outputsOf (done .last .1 .1 .1 .1 .0) (done .last .1 .1 .1 .1 .1 .0) (done .last .1 .1 .1 .1 .1 .1 .0)) (done .ensures)
+    (c .before .before .before .enum-told .given .1) _ (c .count-packet .ensures)
 
 same-length-4 : tie.Need-same-length-4 Inv-loop μ-loop
-same-length-4 c = same-bytes (c .before .loop .inv .stands)
+same-length-4 c = same-bytes (c .before .loop .inv .stands .extraction)
 
 same-length-5 : tie.Need-same-length-5 Inv-loop μ-loop
-same-length-5 c = same-lens (c .before .loop .inv .stands)
+same-length-5 c = same-lens (c .before .loop .inv .stands .extraction)
 
 same-length-6 : tie.Need-same-length-6 Inv-loop μ-loop
-same-length-6 c = same-times (c .before .loop .inv .stands)
+same-length-6 c = same-times (c .before .loop .inv .stands .extraction)
 
 returns-2 : tie.Need-returns-2 Inv-loop μ-loop
 returns-2 c =
     let a = c .before .before .before .before .before .before .before .before .before .args in
     let l = c .before .loop in
-    comes-to-end (a .segment .now) (outputsOf (a .out .now) (a .lens .now) (a .times .now)) (l .tables) (l .extraction) (l .totals) (l .index) (l .out) (l .lens) (l .times) (l .inv) (c .loop-test .left)
+    comes-to-end current (a .segment .now) (outputsOf (a .out .now) (a .lens .now) (a .times .now))
+    (outputsOf (l .out) (l .lens) (l .times)) (l .tables) (l .extraction) (l .totals) (l .index) (l .inv)
+    (c .loop-test .left)
 
 pub run-spec : {M : Type 1} → statement M
 run-spec =

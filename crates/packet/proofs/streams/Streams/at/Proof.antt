@@ -16,7 +16,7 @@ named-requires c κs = search needs
 returns : tie.Need-returns
 returns c =
     let s = c .before .before .args .t1 in
-    c .named .ensures ∙ sym (List·getD-eq-default (listed s) _ (past-count s _ (c .before .if1 .taken)))
+    c .named .ensures .0 ∙ sym (List·getD-eq-default (listed s) _ (past-count s _ (c .before .if1 .taken)))
 
 named-requires-2 : tie.Need-named-requires-2
 named-requires-2 c κs = search needs
@@ -25,7 +25,7 @@ returns-2 : tie.Need-returns-2
 returns-2 c =
     let s = c .before .before .before .args .t1 in
     let twelve : length (s .records) ≡ 12 = search (needs, unmapped) in
-    c .named2 .ensures ∙ sym (List·getD-eq-default (listed s) _ (past-records s (c .before .before .before .args .slot) (omega arith)))
+    c .named2 .ensures .0 ∙ sym (List·getD-eq-default (listed s) _ (past-records s (c .before .before .before .args .slot) (omega arith)))
 
 mul-result : tie.Need-mul-result
 mul-result c = search needs

@@ -5,13 +5,13 @@ use native.Mathlib.Omega.{arith}
 use borrow.Author.Needs.{needs}
 use lib.ListN.{length, drop}
 use Rattle.lists.proofs.Parts.{unmapped}
-use Rattle.packet.specs.Streams.{listed, lookUpFrom, lookUp}
+use Rattle.packet.specs.Streams.{listed, pidsIn, lookUpFrom, lookUp}
 use Rattle.packet.proofs.Slots.{past-count, past-records, slot-end, slot-here, slot-next}
 use Rattle.packet.proofs.streams.Streams.look_up.Statement.{statement}
 use Rattle.packet.proofs.streams.Streams.look_up.Tie as tie
 
 abbrev Inv-loop : tie.InvT-loop
-Inv-loop pid self count slot₀ slot = (slot ≤ 12) × (lookUp pid (listed self) ≡ lookUpFrom slot pid (drop slot (listed self)))
+Inv-loop pid self count slot₀ slot = (slot ≤ 12) × (lookUp pid (pidsIn (listed self)) ≡ lookUpFrom slot pid (drop slot (pidsIn (listed self))))
 
 abbrev μ-loop : tie.MeasureT-loop
 μ-loop pid self count slot₀ slot = 12 - slot

@@ -7,7 +7,7 @@ named-requires : tie.Need-named-requires
 named-requires c κs = search needs
 
 returns : tie.Need-returns
-returns c = rw (c .named .ensures)
+returns c = rw (c .named .ensures .0)
 
 pub none-spec : {M : Type 1} → statement M
 none-spec = tie.close (tie.spec named-requires returns)

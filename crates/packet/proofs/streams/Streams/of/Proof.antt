@@ -7,13 +7,13 @@ use borrow.Author.Needs.{needs}
 use lib.ListN.{length, take, set, length-set}
 use lib.Seq.{take-all}
 use Rattle.packet.specs.declared.counter.Stream.{Stream}
-use Rattle.packet.specs.Counter.{named}
+use Rattle.packet.specs.Counter.{namedStream}
 use Rattle.packet.proofs.Slots.{with-records, one-named}
 use Rattle.packet.proofs.streams.Streams.of.Statement.{statement}
 use Rattle.packet.proofs.streams.Streams.of.Tie as tie
 
 abbrev Inv-loop : tie.InvT-loop
-Inv-loop count pids records₀ i₀ records i = (i ≤ 12) × (length records ≡ 12) × (take i records ≡ map named (take i pids))
+Inv-loop count pids records₀ i₀ records i = (i ≤ 12) × (length records ≡ 12) × (take i records ≡ map namedStream (take i pids))
 
 abbrev μ-loop : tie.MeasureT-loop
 μ-loop count pids records₀ i₀ records i = 12 - i
@@ -53,7 +53,7 @@ loop-again c =
     let as-many : length pids ≡ 12 = search needs in
     let twelve = c .before .before .loop .inv .1 in
     let one-more = one-named pids l i (omega arith) (omega (arith, twelve)) (c .before .before .loop .inv .2) in
-    (omega arith, length-set l i _ ∙ twelve, ap (λ (s : Stream). take (i + 1) (set l i s)) (c .named2 .ensures) ∙ one-more)
+    (omega arith, length-set l i _ ∙ twelve, ap (λ (s : Stream). take (i + 1) (set l i s)) (c .named2 .ensures .0) ∙ one-more)
 
 returns : tie.Need-returns Inv-loop μ-loop
 returns c =
@@ -62,7 +62,7 @@ returns c =
     let i = c .before .loop .i in
     let as-many : length pids ≡ 12 = search needs in
     ap (with-records (c .before .before .before .args .count))
-    (sym (take-all i l (omega (arith, c .before .loop .inv .1))) ∙ c .before .loop .inv .2 ∙ ap (map named) (take-all i pids (omega arith)))
+    (sym (take-all i l (omega (arith, c .before .loop .inv .1))) ∙ c .before .loop .inv .2 ∙ ap (map namedStream) (take-all i pids (omega arith)))
 
 pub of-spec : {M : Type 1} → statement M
 of-spec =

@@ -1,9 +1,9 @@
 -- Case by case of the kind, each by its own function.
-use mathlib.Core.Path.{sym, ap, _∙_}
-use Rattle.segment.specs.declared.state.Kind.{Kind}
-use Rattle.segment.specs.Rules.{countersAfter}
-use Rattle.segment.specs.Parts.{countersOf}
 use borrow.Author.Needs.{needs}
+use mathlib.Core.Path.{refl, sym, subst}
+use Rattle.segment.specs.declared.state.Kind.{Kind}
+use Rattle.segment.specs.Parts.{CountersChecked}
+use Rattle.segment.specs.declared.state.Outcome.the-variants as outcome
 use Rattle.segment.proofs.counters.Counters.check.Statement.{statement}
 use Rattle.segment.proofs.counters.Counters.check.Tie as tie
 
@@ -38,28 +38,34 @@ enum-told-4 : tie.Need-enum-told-4
 enum-told-4 c = search needs
 
 returns : tie.Need-returns
-unfolding countersAfter
-returns c = ap (λ (k : Kind). countersAfter k (c .before .before .args .packet) (countersOf (c .before .before .args .self))) (sym (c .enum-told .given .1))
+returns c =
+    subst (λ (k : Kind). CountersChecked k (c .before .before .args .self) (c .before .before .args .packet)
+    (record { counters = c .before .before .args .self; outcome = outcome.Passed })) (sym (c .enum-told .given .1)) refl
 
 returns-2 : tie.Need-returns-2
-unfolding countersAfter
-returns-2 c = c .check-pat .ensures ∙ ap (λ (k : Kind). countersAfter k (c .before .before .before .args .packet) (countersOf (c .before .before .before .args .self))) (sym (c .before .enum-told2 .given .1))
+returns-2 c =
+    subst (λ (k : Kind). CountersChecked k (c .before .before .before .args .self) (c .before .before .before .args .packet)
+    (c .check-pat .result)) (sym (c .before .enum-told2 .given .1)) (c .check-pat .ensures)
 
 returns-3 : tie.Need-returns-3
-unfolding countersAfter
-returns-3 c = c .check-map .ensures ∙ ap (λ (k : Kind). countersAfter k (c .before .before .before .args .packet) (countersOf (c .before .before .before .args .self))) (sym (c .before .enum-told3 .given .1))
+returns-3 c =
+    subst (λ (k : Kind). CountersChecked k (c .before .before .before .args .self) (c .before .before .before .args .packet)
+    (c .check-map .result)) (sym (c .before .enum-told3 .given .1)) (c .check-map .ensures)
 
 returns-4 : tie.Need-returns-4
-unfolding countersAfter
-returns-4 c = c .check-listed .ensures ∙ ap (λ (k : Kind). countersAfter k (c .before .before .before .before .args .packet) (countersOf (c .before .before .before .before .args .self))) (sym (c .before .before .kind .given .1))
+returns-4 c =
+    subst (λ (k : Kind). CountersChecked k (c .before .before .before .before .args .self) (c .before .before .before .before .args .packet)
+    (c .check-listed .result)) (sym (c .before .before .kind .given .1)) (c .check-listed .ensures)
 
 returns-5 : tie.Need-returns-5
-unfolding countersAfter
-returns-5 c = c .check-listed2 .ensures ∙ ap (λ (k : Kind). countersAfter k (c .before .before .before .before .args .packet) (countersOf (c .before .before .before .before .args .self))) (sym (c .before .before .kind2 .given .1))
+returns-5 c =
+    subst (λ (k : Kind). CountersChecked k (c .before .before .before .before .args .self) (c .before .before .before .before .args .packet)
+    (c .check-listed2 .result)) (sym (c .before .before .kind2 .given .1)) (c .check-listed2 .ensures)
 
 returns-6 : tie.Need-returns-6
-unfolding countersAfter
-returns-6 c = ap (λ (k : Kind). countersAfter k (c .before .before .args .packet) (countersOf (c .before .before .args .self))) (sym (c .enum-told4 .given .1))
+returns-6 c =
+    subst (λ (k : Kind). CountersChecked k (c .before .before .args .self) (c .before .before .args .packet)
+    (record { counters = c .before .before .args .self; outcome = outcome.Passed })) (sym (c .enum-told4 .given .1)) refl
 
 pub check-spec : {M : Type 1} → statement M
 check-spec =

@@ -1,6 +1,11 @@
--- The record of the slot is checked and put back (`listed-by`).
-use Rattle.segment.proofs.Counting.{listed-by}
+-- The record of the slot is checked (`record-by`) and put back.
 use borrow.Author.Needs.{needs}
+use mathlib.Core.Path.{sym, ap, subst}
+use Rattle.packet.specs.Counter.{Stands}
+use Rattle.packet.specs.declared.counter.Stream.{Stream}
+use Rattle.packet.specs.declared.streams.Streams.{Streams}
+use Rattle.segment.specs.Parts.{withListedRecord}
+use Rattle.segment.proofs.Counting.{record-by}
 use Rattle.segment.proofs.counters.Counters.check_listed.Statement.{statement}
 use Rattle.segment.proofs.counters.Counters.check_listed.Tie as tie
 
@@ -17,10 +22,13 @@ outcome-of-requires : tie.Need-outcome-of-requires
 outcome-of-requires c κs = search needs
 
 returns : tie.Need-returns
-returns c =
-    let self = c .before .before .before .before .before .before .before .args .self in
-    listed-by self _ _ (c .before .before .before .before .check .result) _ _ (c .before .before .before .before .before .at .ensures) (c .before .put-back .ensures) (c .outcome-of .ensures) (c .before .before .before .before .check .ensures .0)
+returns c r p s e =
+    let a = c .before .before .before .before .before .before .before .args in
+    let one = c .before .before .before .before .check in
+    record-by (withListedRecord (a .self) (a .slot)) (one .result) r p (c .outcome-of .result)
+    (record { pat = a .self .pat; map = a .self .map; listed = c .before .put-back .result }) (c .outcome-of .ensures)
+    (ap (λ (l : Streams). record { pat = a .self .pat; map = a .self .map; listed = l }) (c .before .put-back .ensures))
+    (one .ensures .0 r p (subst (λ (x : Stream). Stands x r) (sym (c .before .before .before .before .before .at .ensures)) s) e)
 
 pub check-listed-spec : {M : Type 1} → statement M
-check-listed-spec =
-    tie.close (tie.spec at-requires check-requires put-back-requires outcome-of-requires returns)
+check-listed-spec = tie.close (tie.spec at-requires check-requires put-back-requires outcome-of-requires returns)

@@ -1,0 +1,148 @@
+-- Small segments, checked by the definitions themselves: the statement holds by computation. Assumes nothing.
+use Prim.Native.Nat.{ℕ, zero, suc, _+_, _-_, _/_, _%_}
+use mathlib.Core.Path.{_≡_, refl}
+use mathlib.Core.List.{List, [], _∷_, _++_, map, flatten}
+use lib.ListN.{length, take, replicate}
+use Rattle.lists.specs.Lists.{Bytes, pick, same, all, any, those}
+use Rattle.refusal.specs.Verdict.{Verdict, passed, refused, _>>=_, _>>_, given, atPlace, inTurn}
+use Rattle.refusal.proofs.Verdicts.{All}
+use Rattle.emulation.specs.Payload as emulation
+use Rattle.obu.specs.Header as obu
+use Rattle.obu.specs.Leb128 as leb128
+use Rattle.obu.specs.Order as order
+use Rattle.tsobu.specs.StartCodes as codes
+use Rattle.tsobu.specs.TsObu as tsobu
+use Rattle.unit.specs.Unit as unit
+use Rattle.descriptor.specs.Descriptor as descriptor
+use Rattle.descriptor.specs.Edition.{current}
+use Rattle.packet.specs.Header as packet
+use Rattle.packet.specs.Counter as counter
+use Rattle.crc.specs.Crc as crc
+use Rattle.psi.specs.Section as section
+use Rattle.psi.specs.Pat as pat
+use Rattle.pmt.specs.Pmt as pmt
+use Rattle.pes.specs.Pes as pes
+use Rattle.segment_rules.specs.State as state
+use Rattle.segment_rules.specs.Rules as rules
+use Rattle.segment_rules.specs.Rules.{Rooms}
+use Rattle.segment_rules.specs.Check as check
+use Rattle.segment_rules.specs.Check.{Accepted, lengths, timesInTurn, checkSegment}
+
+-- so many bytes of a number, the lowest last
+unfoldable pub bytesBefore : ℕ → ℕ → Bytes → Bytes
+bytesBefore zero x s = s
+bytesBefore (suc n) x s = bytesBefore n (x / 256) (x % 256 ∷ s)
+
+abbrev pub bytes : ℕ → ℕ → Bytes
+bytes n x = bytesBefore n x []
+
+-- ---- packets
+-- a section on a PID, of which these are the packet's second and third byte; its counter is 0
+abbrev pub carrying : ℕ → ℕ → Bytes → Bytes
+carrying high low s = take 188 (0x47 ∷ high ∷ low ∷ 0x10 ∷ 0x00 ∷ s ++ replicate 183 0xFF)
+
+-- PID 0: program 1 has the map PID 0x100
+unfoldable pub patPacket : Bytes
+patPacket = carrying 0x40 0x00 (bytes 16 0x00B00D0001C100000001E100E8F95E7D)
+
+-- PID 0x100: the PCR PID and the AV1 entry are 0x101; the AV1 entry has a video descriptor; 0x110 is listed too
+unfoldable pub pmtPacket : Bytes
+pmtPacket = carrying 0x41 0x00 (bytes 38 0x02B0230001C10000E101F00006E101F00C050441563031800481080CC00FE110F0009254BE06)
+
+-- an AV1 entry and twelve entries behind it
+abbrev pub another : ℕ → Bytes
+another n = 0x0F ∷ 0xE1 ∷ n ∷ 0xF0 ∷ 0x00 ∷ []
+
+abbrev pub twelveMore : Bytes
+twelveMore =
+    flatten (map another (0x10 ∷ 0x11 ∷ 0x12 ∷ 0x13 ∷ 0x14 ∷ 0x15 ∷ 0x16 ∷ 0x17 ∷ 0x18 ∷ 0x19 ∷ 0x1A ∷ 0x1B ∷ []))
+
+unfoldable pub longPacket : Bytes
+longPacket = carrying 0x41 0x00 (bytes 23 0x02B0540001C10000E101F00006E101F006050441563031 ++ twelveMore ++ bytes 4 0x5FAB9DDD)
+
+-- PID 0x101, a PCR and no payload, with this counter
+unfoldable pub clockPacket : ℕ → Bytes
+clockPacket n = take 188 (0x47 ∷ 0x01 ∷ 0x01 ∷ (0x20 + n) ∷ 0xB7 ∷ 0x10 ∷ bytes 6 0x0000AFC87E05 ++ replicate 176 0xFF)
+
+-- PID 0x101, a payload behind an adaptation field that fills the packet, with this counter
+unfoldable pub pesPacket : ℕ → Bytes → Bytes
+pesPacket n w = 0x47 ∷ 0x41 ∷ 0x01 ∷ (0x30 + n) ∷ (183 - length w) ∷ 0x00 ∷ replicate (182 - length w) 0xFF ++ w
+
+-- a PES with a PTS of 900, and one with a PTS of 1800 and a DTS of 1350, each with a unit of a temporal delimiter and a frame
+abbrev pub carriedUnit : Bytes
+carriedUnit = bytes 10 0x00000112000000013000
+
+unfoldable pub pes900 : Bytes
+pes900 = bytes 14 0x000001BD00008480052100010709 ++ carriedUnit
+
+unfoldable pub pes1800 : Bytes
+pes1800 = bytes 19 0x000001BD000084C00A3100010E111100010A8D ++ carriedUnit
+
+-- payload on another PID, with this counter
+unfoldable pub otherPacket : ℕ → ℕ → ℕ → Bytes
+otherPacket high low n = 0x47 ∷ high ∷ low ∷ (0x10 + n) ∷ replicate 184 0x00
+
+-- ---- segments, and their answers
+-- of a refusal its number and its place; of acceptance 0, the program number, the AV1 PID, the five totals, the units' lengths and their
+-- times
+abbrev pub answerOf : Verdict Accepted → List ℕ
+answerOf (refused number place) = number ∷ place ∷ []
+answerOf (passed a) =
+    0 ∷ a .program ∷ a .map .av1 .pid
+    ∷ a .totals .null ∷ a .totals .section ∷ a .totals .av1 ∷ a .totals .«other_listed» ∷ a .totals .unlisted
+    ∷ lengths (a .units) ++ timesInTurn (a .units)
+
+pub record Example : Type 0 where
+  pub packets : List Bytes
+  pub answer : List ℕ
+
+abbrev pub rooms : Rooms
+rooms = record { bytes = 1000; lens = 10; times = 20 }
+
+unfoldable pub examples : List Example
+examples =
+    -- two units, and a packet of each other class
+    record {
+      packets =
+          patPacket
+          ∷ pmtPacket
+          ∷ clockPacket 7
+          ∷ otherPacket 0x1F 0xFF 0
+          ∷ pesPacket 8 pes900
+          ∷ otherPacket 0x01 0x10 3
+          ∷ otherPacket 0x02 0x00 0
+          ∷ otherPacket 0x01 0x10 4
+          ∷ pesPacket 9 pes1800
+          ∷ [];
+      answer = 0 ∷ 1 ∷ 0x101 ∷ 1 ∷ 2 ∷ 3 ∷ 2 ∷ 1 ∷ 10 ∷ 10 ∷ 900 ∷ 900 ∷ 1800 ∷ 1350 ∷ [];
+    }
+    -- 24: a counter is left out
+    ∷ record {
+      packets = patPacket ∷ pmtPacket ∷ clockPacket 7 ∷ pesPacket 8 pes900 ∷ pesPacket 10 pes1800 ∷ [];
+      answer = 24 ∷ 4 ∷ [];
+    }
+    -- 27: thirteen entries
+    ∷ record { packets = patPacket ∷ longPacket ∷ []; answer = 27 ∷ 1 ∷ [] }
+    -- 31: no PCR comes before the payload
+    ∷ record { packets = patPacket ∷ pmtPacket ∷ pesPacket 8 pes900 ∷ clockPacket 8 ∷ []; answer = 31 ∷ 2 ∷ [] }
+    -- 33: no PMT
+    ∷ record { packets = patPacket ∷ []; answer = 33 ∷ 1 ∷ [] }
+    ∷ []
+
+pub examples-checked : All (λ e. answerOf (checkSegment current rooms (flatten (e .packets))) ≡ e .answer) examples
+unfolding bytesBefore patPacket pmtPacket longPacket clockPacket pesPacket pes900 pes1800 otherPacket examples
+    flatten pick same all any those _>>=_ _>>_ given atPlace inTurn
+    emulation.above3 emulation.forbidden emulation.legal emulation.unescape obu.fixedBytes obu.sizeOf obu.headerWith obu.sizedHeader
+    obu.headerOf obu.judged leb128.lowFirst leb128.lebWithin leb128.inRange leb128.leb128 order.kindOfNumber order.afterFrame order.inTiles
+    order.atFrame order.beforeFrame order.orderRefusal codes.atStartCode codes.split unit.sum tsobu.tsobuRefusal unit.readUnit
+    descriptor.versionWrong descriptor.zerosWrong descriptor.wrong packet.packetsOf packet.adaptationFlags packet.pcr packet.headerLength
+    packet.payload packet.fieldsWrong counter.due counter.counterRight counter.check counter.checkedIn crc.bitStep crc.bitsStep
+    crc.byteStep crc.crcFrom section.misplaced section.fieldsWrong section.crcWrong section.commonWrong pat.programs pat.mapPidInRange
+    pat.oneProgram pat.readPat pmt.descriptorsWithin pmt.pidWrong pmt.entry pmt.entriesAfter pmt.videoWrong pmt.registrationFirst
+    pmt.registrationLater pmt.isAv1 pmt.strayRegistration pmt.oneAv1 pmt.av1Entry pmt.readPmt pes.leastLengthByte pes.timeStampWrong
+    pes.timesWrong pes.headerWrong pes.dts pes.timesOf check.segmentLengthWrong check.accepted check.ending check.step check.run
+    check.checkSegment check.ptsAndDts rules.inSequence rules.onTables rules.onUnits rules.countingPcr rules.laterSection rules.patSection
+    rules.pmtSection rules.sectionRead rules.lengthDiffers rules.closeOpen rules.closeIfOpen rules.rule rules.rule21 rules.rule22
+    rules.rule23 rules.pcrCounts rules.checked rules.rule24 rules.rules25to28 rules.closing rules.rule29 rules.rule30 rules.rule31
+    rules.rule34 rules.rule8 rules.addedTo rules.carried rules.packetRules state.isMapPid state.listedAs state.kindOf state.counting
+examples-checked = (refl, (refl, (refl, (refl, (refl, tt)))))

@@ -1,0 +1,15 @@
+pub mod Sequence
+pub mod Keeping
+pub mod Accepting
+pub mod ByKind
+pub mod Running
+pub mod Thirteen
+pub mod Following
+pub mod Naming
+pub mod Examples
+pub mod Moving
+pub mod Fitting
+pub mod Outputs
+pub mod Clocks
+pub mod Numbers
+pub mod Covering

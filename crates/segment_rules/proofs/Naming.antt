@@ -1,0 +1,216 @@
+-- The records of a run are those of the PIDs that its sections name: PID 0, the map PID, the listed PIDs (`packet-named`, `run-named`); so
+-- a null packet and one of an unlisted PID have no record (`null-unrecorded`, `unlisted-unrecorded`). Assumes nothing.
+use Prim.Native.Nat.{ℕ}
+use mathlib.Core.Bool.{Bool, true, false}
+use mathlib.Core.Path.{_≡_, refl, sym, ap, _∙_, subst}
+use mathlib.Core.List.{List, [], _∷_, _++_, map}
+use mathlib.Core.Option.{Option, none, some}
+use native.Mathlib.Omega.{arith}
+use borrow.Author.Tests.{ne-eqb, eqb-false, ltb-false}
+use lib.Dec.{eqb}
+use Rattle.lists.specs.Lists.{Bytes, pick, any}
+use Rattle.lists.proofs.Tests.{or-neither, clash}
+use Rattle.refusal.specs.Verdict.{passed, atPlace}
+use Rattle.refusal.proofs.Verdicts.{All}
+use Rattle.descriptor.specs.Edition.{Edition}
+use Rattle.packet.specs.Header.{pid, nullPid, hasPayload, payload, payloadUnitStartIndicator}
+use Rattle.packet.specs.Counter.{StreamRecord, named, pidsOf, recordOf, checkedIn}
+use Rattle.packet.proofs.Counters.{recordAfter, checked-record, checked-pids, new-record, no-record}
+use Rattle.psi.proofs.MapPid.{map-pid-in-range}
+use Rattle.pmt.specs.Pmt.{pids}
+use Rattle.pmt.proofs.ListedPids.{listed-not-null}
+use Rattle.segment_rules.specs.State.{FirstPat, FirstPmt, Tables, State, Kind, Null, Pat}
+use Rattle.segment_rules.specs.State.{Map, Av1, Listed, Unlisted, isMapPid, listedAs, kindOf}
+use Rattle.segment_rules.specs.Rules.{Rooms, inSequence, rule, laterSection, patSection, pmtSection, sectionRead, clocked, checked}
+use Rattle.segment_rules.specs.Rules.{pcrCounts, rule21, rule22, rule23, rule24, rules25to28, closing, rule29, rule30}
+use Rattle.segment_rules.specs.Rules.{rule31, rule34, rule8, carried, upTo24, after24, packetRules}
+use Rattle.segment_rules.specs.Check.{Progress, step, run, start}
+use Rattle.segment_rules.specs.Named.{namedPids, PatFirst, Named}
+use Rattle.segment_rules.proofs.Keeping.{passed-at, Holds, holds-at, holds-pick, holds-then, holds-after, holds-each}
+use Rattle.segment_rules.proofs.Keeping.{Keeps, sequence-keeps, rule-keeps, tables-kept, tables-step}
+
+-- ---- PIDs of records
+pids-append : (a b : List StreamRecord) → pidsOf (a ++ b) ≡ pidsOf a ++ pidsOf b
+pids-append [] b = refl
+pids-append (r ∷ a) b = ap (λ (l : List ℕ). r .pid ∷ l) (pids-append a b)
+
+pids-named : (l : List ℕ) → pidsOf (map named l) ≡ l
+pids-named [] = refl
+pids-named (n ∷ l) = ap (λ (m : List ℕ). n ∷ m) (pids-named l)
+
+-- ---- what keeps it
+-- the counter's check names no PID
+pub checked-named : (i : ℕ) (p : Bytes) (t : Tables) → Named t → Holds Named (checked i p t)
+unfolding checked
+checked-named i p t h =
+    holds-each Named _ _
+    (λ records e. let k = passed-at i (checkedIn (t .records) p) records e in
+    record {
+      patFirst = h .patFirst;
+      pids = checked-pids p (t .records) records k ∙ h .pids;
+      null = checked-record nullPid p (t .records) records k ∙ ap (λ (o : Option StreamRecord). recordAfter nullPid p o) (h .null);
+    })
+
+module _ (t : Tables) (h : Named t) where
+  -- more PIDs are named, of which none is 0x1FFF
+  also-named : (new : List ℕ) → All (λ n. eqb n nullPid ≡ false) new → recordOf nullPid (t .records ++ map named new) ≡ none
+  also-named new k =
+      new-record nullPid (t .records) (map named new) (h .null)
+      ∙ no-record nullPid (map named new) (subst (All (λ n. eqb n nullPid ≡ false)) (sym (pids-named new)) k)
+
+  all-pids : (new : List ℕ) → pidsOf (t .records ++ map named new) ≡ namedPids (t .pat) (t .pmt) ++ new
+  all-pids new = pids-append (t .records) (map named new) ∙ ap (λ (l : List ℕ). l ++ pidsOf (map named new)) (h .pids)
+      ∙ ap (λ (l : List ℕ). namedPids (t .pat) (t .pmt) ++ l) (pids-named new)
+
+  later-named : (number : ℕ) (first section : Bytes) → Holds Named (laterSection number first section t)
+  unfolding laterSection
+  later-named number first section = holds-then Named _ _ (λ _ _. h)
+
+  -- the first PAT names the map PID
+  no-pmt : (pat : Option FirstPat) (pmt : Option FirstPmt) → pat ≡ none → PatFirst pat pmt → pmt ≡ none
+  no-pmt none none e f = refl
+  no-pmt none (some pmt) e f = absurd f
+  no-pmt (some pat) pmt e f = let z : _≡_ {A = ℕ} 0 1 = cc in absurd (omega arith)
+
+  pat-named : (pat : Option FirstPat) → t .pat ≡ pat → (section : Bytes) → Holds Named (patSection pat section t)
+  unfolding patSection
+  pat-named none e section =
+      holds-each Named _ _
+      (λ program r. let first : FirstPat = record { section = section; says = program } in
+      let m = program .«map_pid» in
+      let nonePmt = no-pmt (t .pat) (t .pmt) e (h .patFirst) in
+      record {
+        patFirst = tt;
+        pids =
+            all-pids (m ∷ []) ∙ ap (λ (x : Option FirstPat). namedPids x (t .pmt) ++ (m ∷ [])) e
+            ∙ ap (namedPids (some first)) (sym nonePmt);
+        null = also-named (m ∷ [])
+            (ne-eqb m nullPid (λ z. absurd (omega (arith, ltb-false 0x1FFE m (map-pid-in-range section program r)))), tt);
+      })
+  pat-named (some first) e section = later-named 25 (first .section) section
+
+  -- the first PMT names the listed PIDs
+  pmt-named : (edition : Edition) (pat : Option FirstPat) (pmt : Option FirstPmt) → t .pat ≡ pat → t .pmt ≡ pmt → (section : Bytes)
+      → Holds Named (pmtSection edition pat pmt section t)
+  unfolding pmtSection
+  pmt-named edition none pmt e f section = h
+  pmt-named edition (some pat) none e f section =
+      holds-each Named _ _
+      (λ m r. let first : FirstPmt = record { section = section; says = m } in
+      record {
+        patFirst = subst (λ (x : Option FirstPat). PatFirst x (some first)) (sym e) tt;
+        pids =
+            all-pids (pids (m .entries))
+            ∙ ap (λ (x : Option FirstPat). namedPids x (t .pmt) ++ pids (m .entries)) e
+            ∙ ap (λ (x : Option FirstPmt). namedPids (some pat) x ++ pids (m .entries)) f
+            ∙ ap (λ (x : Option FirstPat). namedPids x (some first)) (sym e);
+        null = also-named (pids (m .entries)) (listed-not-null edition (pat .says .number) (pat .says .«map_pid») section m r);
+      })
+  pmt-named edition (some pat) (some first) e f section = later-named 26 (first .section) section
+
+  section-named : (edition : Edition) (kind : Kind) (b : Bool) (w : Bytes) → Holds Named (sectionRead edition kind b w t)
+  unfolding sectionRead
+  section-named edition Null b w = h
+  section-named edition Pat b w = holds-then Named _ _ (λ _ _. pat-named (t .pat) refl _)
+  section-named edition Map b w = holds-then Named _ _ (λ _ _. pmt-named edition (t .pat) (t .pmt) refl refl _)
+  section-named edition Av1 b w = h
+  section-named edition Listed b w = h
+  section-named edition Unlisted b w = h
+
+-- ---- a packet, a run
+abbrev NamedIn : State → Type 0
+NamedIn st = Named (st .tables)
+
+pub clocked-named : (i : ℕ) (p : Bytes) (t : Tables) → Named t → Named (clocked i p t)
+clocked-named i p t h = record { patFirst = h .patFirst; pids = h .pids; null = h .null }
+
+module _ (edition : Edition) (rooms : Rooms) where
+  module _ (i : ℕ) (p : Bytes) where
+    off : (number : ℕ) (givenWhen : State → Bool) → Keeps NamedIn (rule i p number givenWhen)
+    off number givenWhen = rule-keeps NamedIn i p number givenWhen
+
+    to-24 : Keeps NamedIn (inSequence (upTo24 i p))
+    unfolding rule21 rule22 rule23 pcrCounts rule24
+    to-24 =
+        sequence-keeps NamedIn (upTo24 i p)
+        (off 21 _, (off 22 _, (off 23 _, (tables-step Named _ (clocked-named i p), (tables-step Named _ (checked-named i p), tt)))))
+
+    module _ (kind : Kind) where
+      section-kept : (t : Tables) → Named t
+          → Holds Named (pick (hasPayload p) (atPlace i (sectionRead edition kind (payloadUnitStartIndicator p) (payload p) t)) (passed t))
+      section-kept t k = holds-pick Named _ _ _ (holds-at Named i _ (section-named t k edition kind _ _)) k
+
+      then-tables : Keeps NamedIn (inSequence (after24 edition rooms i p kind))
+      unfolding rules25to28 closing rule29 rule30 rule31 rule34 rule8 carried
+      then-tables =
+          sequence-keeps NamedIn (after24 edition rooms i p kind) (
+            tables-step Named _ section-kept,
+            (tables-kept Named _, (off 29 _, (off 30 _, (off 31 _, (off 34 _, (off 8 _, (tables-kept Named _, tt))))))),
+          )
+
+      pub packet-named : Keeps NamedIn (packetRules edition rooms i p kind)
+      unfolding packetRules
+      packet-named st h = holds-after NamedIn NamedIn (inSequence (upTo24 i p) st) _ (to-24 st h) then-tables
+
+  abbrev NamedBy : Progress → Type 0
+  NamedBy g = Named (g .state .tables)
+
+  step-named : (g : Progress) (p : Bytes) → NamedBy g → Holds NamedBy (step edition rooms g p)
+  unfolding step
+  step-named g p h = holds-after NamedBy NamedIn _ _ (packet-named (g .index) p (kindOf (g .state .tables) (pid p)) (g .state) h)
+      (λ st k. k)
+
+  runs-named : (g : Progress) (ps : List Bytes) → NamedBy g → Holds NamedBy (run edition rooms g ps)
+  unfolding run
+  runs-named g [] h = h
+  runs-named g (p ∷ ps) h = holds-after NamedBy NamedBy (step edition rooms g p) _ (step-named g p h) (λ g′ k. runs-named g′ ps k)
+
+  pub run-named : (ps : List Bytes) (g : Progress) → run edition rooms start ps ≡ passed g → Named (g .state .tables)
+  unfolding recordOf pick
+  run-named ps g e = subst (Holds NamedBy) e (runs-named start ps (record { patFirst = tt; pids = refl; null = refl }))
+
+-- ---- which PIDs have no record
+-- "PID 0x1FFF"
+pub null-unrecorded : (t : Tables) → Named t → recordOf nullPid (t .records) ≡ none
+null-unrecorded t h = h .null
+
+-- "other PIDs are skipped"
+isUnlisted : Kind → Bool
+isUnlisted Null = false
+isUnlisted Pat = false
+isUnlisted Map = false
+isUnlisted Av1 = false
+isUnlisted Listed = false
+isUnlisted Unlisted = true
+
+picked : (b : Bool) (k rest : Kind) → isUnlisted k ≡ false → pick b k rest ≡ Unlisted → (b ≡ false) × (rest ≡ Unlisted)
+unfolding pick isUnlisted
+picked true k rest h e = clash (sym h ∙ ap isUnlisted e) refl
+picked false k rest h e = (refl, e)
+
+other : (m n : ℕ) → eqb n m ≡ false → eqb m n ≡ false
+other m n e = ne-eqb m n (λ z. eqb-false n m e (sym z))
+
+others : (n : ℕ) (l : List ℕ) → any (eqb n) l ≡ false → All (λ m. eqb m n ≡ false) l
+unfolding any
+others n [] e = tt
+others n (m ∷ l) e = let k = or-neither (eqb n m) (any (eqb n) l) e in (other m n (k .0), others n l (k .1))
+
+-- none of the named PIDs is this one
+none-named : (n : ℕ) (pat : Option FirstPat) (pmt : Option FirstPmt) → eqb n 0 ≡ false → isMapPid pat n ≡ false → listedAs pmt n ≡ Unlisted
+    → All (λ m. eqb m n ≡ false) (namedPids pat pmt)
+unfolding isMapPid listedAs isUnlisted
+none-named n none pmt z m l = (other 0 n z, tt)
+none-named n (some pat) none z m l = (other 0 n z, (other (pat .says .«map_pid») n m, tt))
+none-named n (some pat) (some pmt) z m l =
+    let k = picked _ Av1 _ refl l in
+    let q = picked _ Listed _ refl (k .1) in
+    (other 0 n z, (other (pat .says .«map_pid») n m, others n (pids (pmt .says .entries)) (q .0)))
+
+pub unlisted-unrecorded : (t : Tables) (n : ℕ) → Named t → kindOf t n ≡ Unlisted → recordOf n (t .records) ≡ none
+unfolding kindOf isUnlisted
+unlisted-unrecorded t n h e =
+    let a = picked _ Null _ refl e in
+    let b = picked _ Pat _ refl (a .1) in
+    let c = picked _ Map _ refl (b .1) in
+    no-record n (t .records) (subst (All (λ m. eqb m n ≡ false)) (sym (h .pids)) (none-named n (t .pat) (t .pmt) (b .0) (c .0) (c .1)))
