@@ -1,35 +1,108 @@
-# run: prove, build, and show something; test: the gate; lib: the library and its header; bench: speed, as ratios; fmt: the layout of all files.
+# `make help` says what there is. What is made stands under build/ (ours) and target/ (rt's).
 LIB := build/lib
+VERSION := $(shell sed -n 's/^.define AV1TS_VERSION //p' include/av1ts.h)
+SHARED := libav1ts.so.0.$(VERSION)
+CFLAGS ?= -O2 -Wall -Wextra
+PREFIX ?= /usr/local
+DESTDIR ?=
+INSTALLED := $(DESTDIR)$(PREFIX)
+EXAMPLES := $(patsubst examples/%.c,build/examples/%,$(wildcard examples/*.c))
 
-.PHONY: run test lib bench fmt
+.DEFAULT_GOAL := help
+.PHONY: help run demo lib install uninstall dist quick test soak bench fmt clean
 
-run: lib
-	rt check
-	gcc -I $(LIB) examples/payload.c $(LIB)/libav1ts.a -o build/payload
-	@echo "An OBU is escaped into the payload that a transport stream carries, and comes back:"
-	build/payload 32 04 00 00 01 80
-	@echo "A carried unit of two OBUs is listed:"
-	printf '\000\000\001\022\000\000\000\001\060\252\000\000' | target/bin/lister
-	@echo "A sample segment is checked, and its access units are found:"
-	target/bin/segment_report < crates/segment_report/stdin
+help:
+	@echo "make run              prove every crate, make the library, show what it does; what the prover says goes to build/log"
+	@echo "make demo [FILE=f.ts] show what it does, with no proving where the library is made; with FILE, the verdict on that file alone"
+	@echo "make lib              build/lib: libav1ts.a, libav1ts.so, av1ts.h"
+	@echo "make install          the library, its header and a pkg-config file to PREFIX (/usr/local), below DESTDIR; make uninstall removes them"
+	@echo "make dist             an archive of the library for those who have no kit"
+	@echo "make quick CRATE=unit one crate: its proof, the edits that must fail, and the tests that concern it"
+	@echo "make test             the gate: everything from nothing, with all edits and tests, which takes long; its last line is 'N passed, M failed'"
+	@echo "make soak [SECONDS=n] hostile calls over guard pages, for so long (600)"
+	@echo "make bench            speed beside plain C and memcpy"
+	@echo "make fmt              lay out all files"
+	@echo "make clean            remove build/ and target/, what is proved too"
+
+run:
+	@tools/need rt gcc make
+	@echo "Proving the library and its programs. The first time takes some minutes; build/log/prove.log has what the prover says."
+	@tools/prove
+	@tools/staticlib av1ts proved
+	@$(MAKE) --no-print-directory files demo
+
+demo: $(LIB)/libav1ts.a $(EXAMPLES)
+	@tools/demo $(FILE)
+
+lib:
+	@tools/need rt gcc make
+	@tools/staticlib av1ts
+	@$(MAKE) --no-print-directory files
+
+# The library is there, whether or not a crate has changed since.
+$(LIB)/libav1ts.a:
+	@$(MAKE) --no-print-directory lib
+
+# build/lib, from the archive that is made: the shared library asks of a program that it was built for this version of the header.
+.PHONY: files
+files: $(LIB)/libav1ts.so
+	@:
+
+$(LIB)/libav1ts.so: target/staticlib/libav1ts.a include/av1ts.h
+	@mkdir -p $(LIB)
+	@rm -f $(LIB)/libav1ts.so*
+	@cp target/staticlib/libav1ts.a include/av1ts.h $(LIB)/
+	@echo 'AV1TS_$(VERSION) { global: av1ts_*; local: *; };' >$(LIB)/versions
+	@gcc -shared -Wl,-soname,libav1ts.so.0 -Wl,--version-script,$(LIB)/versions -o $(LIB)/$(SHARED) \
+	    -Wl,--whole-archive $(LIB)/libav1ts.a -Wl,--no-whole-archive
+	@rm -f $(LIB)/versions
+	@ln -sf $(SHARED) $(LIB)/libav1ts.so.0
+	@ln -sf libav1ts.so.0 $(LIB)/libav1ts.so
+
+install: $(LIB)/libav1ts.a
+	@mkdir -p $(INSTALLED)/include $(INSTALLED)/lib/pkgconfig
+	install -m 644 $(LIB)/av1ts.h $(INSTALLED)/include/
+	install -m 644 $(LIB)/libav1ts.a $(INSTALLED)/lib/
+	install -m 755 $(LIB)/$(SHARED) $(INSTALLED)/lib/
+	ln -sf $(SHARED) $(INSTALLED)/lib/libav1ts.so.0
+	ln -sf libav1ts.so.0 $(INSTALLED)/lib/libav1ts.so
+	sed -e 's|@PREFIX@|$(PREFIX)|' -e 's|@VERSION@|0.$(VERSION)|' packaging/av1ts.pc.in >$(INSTALLED)/lib/pkgconfig/av1ts.pc
+
+uninstall:
+	rm -f $(INSTALLED)/include/av1ts.h $(INSTALLED)/lib/libav1ts.a $(INSTALLED)/lib/libav1ts.so $(INSTALLED)/lib/libav1ts.so.0 \
+	    $(INSTALLED)/lib/$(SHARED) $(INSTALLED)/lib/pkgconfig/av1ts.pc
+
+dist: lib
+	@tools/dist 0.$(VERSION)
+
+build/examples/%: examples/%.c examples/hex.h examples/words.h $(LIB)/libav1ts.a
+	@mkdir -p build/examples
+	@gcc $(CFLAGS) -I $(LIB) $< $(LIB)/libav1ts.a -o $@ || { echo "If build/lib is older than the sources: make lib"; false; }
+
+quick:
+	@tools/need rt gcc g++ make cargo rustc python3
+	@tools/quick $(CRATE)
 
 test:
-	.ci/run
+	@.ci/run
 
-# libav1ts.a, libav1ts.so and av1ts.h together
-lib:
-	rt staticlib av1ts
-	mkdir -p $(LIB)
-	cp target/staticlib/libav1ts.a include/av1ts.h $(LIB)/
-	gcc -shared -o $(LIB)/libav1ts.so -Wl,--whole-archive $(LIB)/libav1ts.a -Wl,--no-whole-archive
+SECONDS ?= 600
+soak: $(LIB)/libav1ts.a
+	@tools/need gcc
+	@tests/boundary/run $(SECONDS)
 
 # libmeasured.a has inner functions with C names, for this measurement alone
 bench: lib
-	rt staticlib measured
-	mkdir -p build/bench
-	cp target/staticlib/libmeasured.a build/bench/
+	@tools/need cargo rustc
+	@tools/staticlib measured
+	@mkdir -p build/bench
+	@cp target/staticlib/libmeasured.a build/bench/
 	cargo run --quiet --release --package bench
 
 fmt:
+	@tools/need rt cargo
 	rt fmt
 	cargo fmt
+
+clean:
+	rm -rf build target

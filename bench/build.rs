@@ -35,7 +35,7 @@ fn sources() -> Vec<PathBuf> {
     let entries = fs::read_dir("c").unwrap_or_else(|e| stop(&format!("cannot list folder c: {e}")));
     let mut files: Vec<PathBuf> = entries
         .filter_map(|entry| Some(entry.ok()?.path()))
-        .filter(|path| path.extension().is_some_and(|e| e == "c"))
+        .filter(|path| matches!(path.extension(), Some(e) if e == "c"))
         .collect();
     files.sort();
     files

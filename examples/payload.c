@@ -1,32 +1,35 @@
 /* Escapes the OBU that is given in hexadecimal on the command line, and unescapes the payload again.
- *   payload 10 00 00 01 */
-#include <stdio.h>
-#include <stdlib.h>
+ *   payload 32 04 00 00 01 80 */
+#include "hex.h"
+#include "words.h"
 
-#include "av1ts.h"
-
-static void print(const char *name, const uint8_t *bytes, uint64_t count) {
-    printf("%-8s", name);
-    for (uint64_t i = 0; i < count; i++)
-        printf(" %02X", bytes[i]);
-    printf("\n");
+static int refused(av1ts_answer answer) {
+    if (answer.number == AV1TS_NOT_REFUSED)
+        return 0;
+    printf("refused %llu at %llu: %s\n", (unsigned long long)answer.number, (unsigned long long)answer.place, words(answer.number));
+    return 1;
 }
 
 int main(int argc, char **argv) {
-    uint8_t obu[64], payload[96], back[64];
-    size_t length = argc - 1 < 64 ? (size_t)(argc - 1) : 64;
-    for (size_t i = 0; i < length; i++)
-        obu[i] = (uint8_t)strtoul(argv[i + 1], NULL, 16);
+    uint8_t obu[256], payload[384], back[256];
+    if (argc == 1) {
+        fprintf(stderr, "usage: %s BYTE..   the bytes of an OBU in hexadecimal, as 32 04 00 00 01 80\n", argv[0]);
+        return 2;
+    }
+    size_t length = bytes_given(argc, argv, obu, sizeof obu);
 
     av1ts_answer escaped = av1ts_escape(obu, length, payload, sizeof payload);
-    av1ts_answer unescaped = av1ts_unescape(payload, escaped.count, back, sizeof back);
-    if (escaped.number != 0 || unescaped.number != 0) {
-        printf("refused %llu\n", (unsigned long long)(escaped.number + unescaped.number));
+    if (refused(escaped))
         return 1;
-    }
-    print("OBU", obu, length);
-    print("payload", payload, escaped.count);
-    print("OBU", back, unescaped.count);
+    av1ts_answer unescaped = av1ts_unescape(payload, escaped.count, back, sizeof back);
+    if (refused(unescaped))
+        return 1;
+    printf("OBU     ");
+    print_bytes(obu, length);
+    printf("payload ");
+    print_bytes(payload, escaped.count);
+    printf("OBU     ");
+    print_bytes(back, unescaped.count);
     printf("inserted %llu, dropped %llu\n", (unsigned long long)(escaped.count - length), (unsigned long long)unescaped.dropped);
     return 0;
 }

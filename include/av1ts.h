@@ -1,7 +1,7 @@
 /* AV1 in MPEG-2 transport streams. The interface of libav1ts.a.
  *
  * Every function takes every input and returns. It reads and writes only inside the buffers it is lent, which must not overlap. A buffer is a
- * pointer and a length; where the length is 0 the pointer is not read, and may be null.
+ * pointer and a length; a null pointer with length 0 is fine for every one of them, input or output: where the length is 0 the pointer is not used.
  *
  * number 0 says that nothing was refused. Success writes from the front of each output and the rest of it keeps its old bytes. Otherwise number and place
  * say what was refused and where, every other field is 0 and every output keeps its old bytes. Two functions differ: a refused av1ts_walk_step has the
@@ -16,6 +16,57 @@
 /* The version of this interface. It goes up by one where a function changes what it takes or a struct grows at its end: a program that was built with
  * another version of this header is to be built anew. CHANGELOG.md says what changed. */
 #define AV1TS_VERSION 2
+
+/* How it grows. A struct grows at its end and nowhere else: a field that is there keeps its name, its place and its meaning. A number keeps its meaning; new
+ * ones come with new functions, or where CHANGELOG.md says so, so a caller handles a number that it does not know as a refusal.
+ * A newer library and an older program: answers are returned by value, so the two must agree on their size. The shared library (libav1ts.so.0) therefore has its
+ * version at every symbol, as in av1ts_escape@AV1TS_2, and the loader stops a program that was built with another version before its first line runs ("version
+ * `AV1TS_2' not found"): build it anew with the library's own header. The static library is handed out with its header, and a program has both from one place. */
+
+/* The refusals: what number says where it is not 0. docs/REFUSALS.md has each in words, with an example and what to do about it. */
+enum {
+    AV1TS_NOT_REFUSED = 0,
+
+    /* units and descriptors */
+    AV1TS_REFUSED_OBU_COUNT = 1,         /* no OBU to write, or more than 64 */
+    AV1TS_REFUSED_LENGTH = 2,            /* a length over its limit, or lengths that don't add up */
+    AV1TS_REFUSED_EMPTY_OBU = 3,         /* an OBU of no bytes */
+    AV1TS_REFUSED_OBU_HEADER = 4,        /* forbidden bit, or extension byte missing */
+    AV1TS_REFUSED_OBU_SIZE = 5,          /* bad leb128, size wrong, or a delimiter with content */
+    AV1TS_REFUSED_TILE_LIST = 6,         /* a tile list */
+    AV1TS_REFUSED_ORDER = 7,             /* order of the OBUs broken */
+    AV1TS_REFUSED_NO_ROOM = 8,           /* an output is too short */
+    AV1TS_REFUSED_NO_START_CODE = 9,     /* no start code at the head */
+    AV1TS_REFUSED_ILLEGAL_PAYLOAD = 10,  /* an illegal payload */
+    AV1TS_REFUSED_DESCRIPTOR = 40,       /* no AV1 video descriptor */
+    AV1TS_REFUSED_DESCRIPTOR_FIELD = 41, /* a descriptor's field past its width */
+    AV1TS_REFUSED_OBU_CONTENT = 42,      /* a header without content, or a reduced still picture */
+
+    /* segments */
+    AV1TS_REFUSED_SEGMENT_LENGTH = 20,     /* no bytes, not whole packets, or too many */
+    AV1TS_REFUSED_SYNC_BYTE = 21,          /* first byte of a packet not 0x47 */
+    AV1TS_REFUSED_TRANSPORT_ERROR = 22,    /* transport_error_indicator */
+    AV1TS_REFUSED_PACKET_HEADER = 23,      /* packet header or adaptation field wrong */
+    AV1TS_REFUSED_CONTINUITY_COUNTER = 24, /* counter wrong */
+    AV1TS_REFUSED_PAT = 25,                /* PAT wrong */
+    AV1TS_REFUSED_PMT = 26,                /* PMT wrong */
+    AV1TS_REFUSED_ENTRY_COUNT = 27,        /* more than 12 entries in the PMT */
+    AV1TS_REFUSED_AV1_ENTRY = 28,          /* not exactly one AV1 entry, or it is against the rule */
+    AV1TS_REFUSED_PES_HEADER = 29,         /* PES header wrong, or payload before any PES start */
+    AV1TS_REFUSED_NO_TIMES = 30,           /* PTS_DTS_flags 00 */
+    AV1TS_REFUSED_NO_PCR = 31,             /* payload with no PCR yet */
+    AV1TS_REFUSED_PES_LENGTH = 32,         /* PES length wrong */
+    AV1TS_REFUSED_NO_TABLES = 33,          /* no PAT or no PMT */
+    AV1TS_REFUSED_UNIT_COUNT = 34,         /* a 1,025th unit */
+
+    /* the transport buffer */
+    AV1TS_REFUSED_ARRIVAL_TIME = 46,  /* a time goes back, or jumps over a second */
+    AV1TS_REFUSED_REPLAY_BOUNDS = 47, /* rate, byte count, arrival count or state out of bounds */
+
+    /* mastering figures */
+    AV1TS_REFUSED_MASTERING_FORM = 48,  /* content not of the form of metadata_hdr_mdcv */
+    AV1TS_REFUSED_MASTERING_BOUNDS = 49 /* a figure past its bound */
+};
 
 #ifdef __cplusplus
 extern "C" {

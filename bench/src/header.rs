@@ -17,7 +17,7 @@ pub fn measure(repeats: Repeats, rows: &mut Vec<Row>) -> Result<(), String> {
 
 /// Each packet by a call of its own, which gives the fields.
 fn read_row(segment: &[u8], repeats: usize) -> Result<Row, String> {
-    let (packets, _) = segment.as_chunks::<PACKET_BYTES>();
+    let packets = whole_packets(segment);
     let case = Case {
         function: "read_header",
         kind: "packets",
@@ -32,6 +32,12 @@ fn read_row(segment: &[u8], repeats: usize) -> Result<Row, String> {
         |packet, _| plain::header(packet),
         |packet, out| copy(packet, out),
     )
+}
+
+/// The packets of a segment, each an array.
+fn whole_packets(segment: &[u8]) -> &[[u8; PACKET_BYTES]] {
+    // SAFETY: so many arrays of bytes lie in the segment, one behind the other.
+    unsafe { std::slice::from_raw_parts(segment.as_ptr().cast(), segment.len() / PACKET_BYTES) }
 }
 
 /// All packets in one call, which counts those that pass.

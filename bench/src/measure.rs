@@ -3,8 +3,8 @@
 use crate::plain::cpu_nanoseconds;
 use crate::table::Row;
 use av1ts::Answer;
+use std::arch::asm;
 use std::fmt::Debug;
-use std::hint::black_box;
 
 /// How often each candidate has a turn.
 #[derive(Clone, Copy)]
@@ -51,6 +51,13 @@ impl Times {
             memcpy: self.memcpy.min(other.memcpy),
         }
     }
+}
+
+/// Hands a value on without the compiler knowing it (`std::hint::black_box` came with Rust 1.66).
+fn opaque<T>(value: T) -> T {
+    // SAFETY: there is no instruction; the compiler takes the value's memory as read and written.
+    unsafe { asm!("/* {0} */", in(reg) &value, options(nostack, preserves_flags)) };
+    value
 }
 
 /// What is measured: a function on some inputs, which are handled one after the other.
@@ -146,7 +153,7 @@ impl<I> Case<'_, I> {
         let start = cpu_nanoseconds();
         while elapsed < TURN_NANOSECONDS {
             for input in self.inputs {
-                black_box(candidate(black_box(input), black_box(&mut *outputs)));
+                opaque(candidate(opaque(input), opaque(&mut *outputs)));
             }
             amount += self.amount;
             elapsed = cpu_nanoseconds() - start;

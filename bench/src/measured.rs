@@ -24,7 +24,7 @@ impl Outcome for Header {
     }
 }
 
-unsafe extern "C" {
+extern "C" {
     fn measured_crc32(bytes: *const u8, len: usize) -> u64;
     fn measured_header(packet: *const u8, len: usize) -> Header;
     fn measured_headers(segment: *const u8, len: usize) -> u64;

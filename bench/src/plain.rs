@@ -4,7 +4,7 @@ use crate::measured::Header;
 use crate::multiplex::PACKET_BYTES;
 use av1ts::Answer;
 
-unsafe extern "C" {
+extern "C" {
     fn plain_escape(obu: *const u8, len: usize, out: *mut u8, room: usize) -> Answer;
     fn plain_unescape(payload: *const u8, len: usize, out: *mut u8, room: usize) -> Answer;
     fn plain_write_unit(
@@ -95,9 +95,9 @@ pub fn headers(segment: &[u8]) -> u64 {
     unsafe { plain_headers(segment.as_ptr(), segment.len()) }
 }
 mod copy {
-    use std::ffi::c_uint;
+    use std::os::raw::c_uint;
 
-    unsafe extern "C" {
+    extern "C" {
         fn plain_copy_payloads(
             segment: *const u8,
             len: usize,

@@ -76,8 +76,9 @@ impl Bits {
 /// set, or the low four bits not zero where no delay is present. Other values pass."
 pub fn read(bytes: &[u8]) -> Result<Video, Refusal> {
     let wrong = |condition| Err(Refusal::new(40, 0, condition));
-    let &[tag, length, a, b, c, d] = bytes else {
-        return wrong("40: not six bytes");
+    let (tag, length, a, b, c, d) = match bytes {
+        &[tag, length, a, b, c, d] => (tag, length, a, b, c, d),
+        _ => return wrong("40: not six bytes"),
     };
     if tag != VIDEO_TAG {
         return wrong("40: tag");

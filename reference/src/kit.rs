@@ -1,7 +1,6 @@
 //! The test kit: a random generator, guarded buffers, and a suite's cases, labels and counts.
 
 use std::collections::HashMap;
-use std::sync::OnceLock;
 
 /// A deterministic random generator (splitmix64).
 pub struct Random {
@@ -37,7 +36,7 @@ impl Random {
 
     /// A length from 0 to `limit`, short ones as likely as long ones.
     pub fn length(&mut self, limit: usize) -> usize {
-        let bits = limit.ilog2() as usize + 1;
+        let bits = (usize::BITS - limit.leading_zeros()) as usize;
         let top = 1usize << self.below(bits + 1);
         self.below(top.min(limit + 1))
     }
@@ -59,34 +58,40 @@ pub trait Pattern: Copy + Default + PartialEq + 'static {
     fn pattern(kind: usize) -> &'static [Self];
 }
 
-fn make_pattern<T>(kind: usize, len: usize, from: fn(u64) -> T) -> Vec<T> {
+fn make_pattern<T>(kind: usize, len: usize, from: fn(u64) -> T) -> &'static [T] {
     let mut random = Random::new(7);
     let mut pattern = Vec::with_capacity(len);
     for _ in 0..len {
         let word = random.next();
         pattern.push(from(if kind == 0 { word } else { !word }));
     }
-    pattern
+    Box::leak(pattern.into_boxed_slice())
 }
 
 impl Pattern for u8 {
     fn pattern(kind: usize) -> &'static [u8] {
-        static PATTERNS: [OnceLock<Vec<u8>>; 2] = [const { OnceLock::new() }; 2];
-        PATTERNS[kind].get_or_init(|| make_pattern(kind, 13 << 20, |word| word as u8))
+        thread_local! {
+            static PATTERNS: [&'static [u8]; 2] = [0, 1].map(|kind| make_pattern(kind, 13 << 20, |word| word as u8));
+        }
+        PATTERNS.with(|patterns| patterns[kind])
     }
 }
 
 impl Pattern for usize {
     fn pattern(kind: usize) -> &'static [usize] {
-        static PATTERNS: [OnceLock<Vec<usize>>; 2] = [const { OnceLock::new() }; 2];
-        PATTERNS[kind].get_or_init(|| make_pattern(kind, 1 << 12, |word| word as usize))
+        thread_local! {
+            static PATTERNS: [&'static [usize]; 2] = [0, 1].map(|kind| make_pattern(kind, 1 << 12, |word| word as usize));
+        }
+        PATTERNS.with(|patterns| patterns[kind])
     }
 }
 
 impl Pattern for u64 {
     fn pattern(kind: usize) -> &'static [u64] {
-        static PATTERNS: [OnceLock<Vec<u64>>; 2] = [const { OnceLock::new() }; 2];
-        PATTERNS[kind].get_or_init(|| make_pattern(kind, 1 << 12, |word| word))
+        thread_local! {
+            static PATTERNS: [&'static [u64]; 2] = [0, 1].map(|kind| make_pattern(kind, 1 << 12, |word| word));
+        }
+        PATTERNS.with(|patterns| patterns[kind])
     }
 }
 

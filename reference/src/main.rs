@@ -13,10 +13,9 @@ const COUNTS: &str = include_str!("../counts.txt");
 
 fn stored_count(name: &str) -> Option<u64> {
     for line in COUNTS.lines() {
-        if let Some((stored, count)) = line.split_once(' ')
-            && stored == name
-        {
-            return count.trim().parse().ok();
+        match line.split_once(' ') {
+            Some((stored, count)) if stored == name => return count.trim().parse().ok(),
+            _ => {}
         }
     }
     None
@@ -24,7 +23,7 @@ fn stored_count(name: &str) -> Option<u64> {
 
 fn main() -> ExitCode {
     let mut chosen: Vec<String> = std::env::args().skip(1).collect();
-    let itself = chosen.first().is_some_and(|first| first == "--self");
+    let itself = matches!(chosen.first(), Some(first) if first == "--self");
     if itself {
         chosen.remove(0);
         suites::under_test::choose_itself();

@@ -92,8 +92,9 @@ pub fn double_bits(whole: u32, power: u32) -> u64 {
 /// Reading: the bits of ten doubles. "Refusals: 48 content not of this form".
 pub fn read(content: &[u8]) -> Result<[u64; 10], Refusal> {
     let wrong = |condition| Err(Refusal::new(48, 0, condition));
-    let Ok(metadata_type) = leb128(content) else {
-        return wrong("48: type is no leb128");
+    let metadata_type = match leb128(content) {
+        Ok(metadata_type) => metadata_type,
+        _ => return wrong("48: type is no leb128"),
     };
     if metadata_type.value != TYPE {
         return wrong("48: another type");

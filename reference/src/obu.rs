@@ -66,8 +66,9 @@ pub struct Leb128 {
 pub fn leb128(bytes: &[u8]) -> Result<Leb128, &'static str> {
     let mut value: u64 = 0;
     for i in 0..8 {
-        let Some(&byte) = bytes.get(i) else {
-            return Err("5: leb128 cut short");
+        let byte = match bytes.get(i) {
+            Some(&byte) => byte,
+            _ => return Err("5: leb128 cut short"),
         };
         value += u64::from(byte & 0x7F) << (7 * i);
         if byte & 0x80 == 0 {
@@ -113,8 +114,9 @@ pub struct Checked {
 /// Tries 3, 4, 5, 6 and 42 on one OBU, which has the given index.
 pub fn check(obu: &[u8], index: usize) -> Result<Checked, Refusal> {
     // "an OBU of no bytes"
-    let Some(&first) = obu.first() else {
-        return Err(Refusal::new(3, index, "3: no bytes"));
+    let first = match obu.first() {
+        Some(&first) => first,
+        _ => return Err(Refusal::new(3, index, "3: no bytes")),
     };
     let header = header(first);
     let mut rest = &obu[1..];

@@ -177,8 +177,9 @@ pub fn pmt(section: &[u8], pat: &Pat, index: usize) -> Result<Pmt, Refusal> {
         if 5 + length > rest.len() {
             return wrong!(Table::Pmt, index, "entry passes the section");
         }
-        let Some(descriptors) = descriptors(&rest[5..5 + length]) else {
-            return wrong!(Table::Pmt, index, "descriptors do not fill the entry");
+        let descriptors = match descriptors(&rest[5..5 + length]) {
+            Some(descriptors) => descriptors,
+            _ => return wrong!(Table::Pmt, index, "descriptors do not fill the entry"),
         };
         if entries.iter().any(|entry| entry.pid == pid) {
             return wrong!(Table::Pmt, index, "a PID twice");
@@ -226,10 +227,8 @@ fn av1_entry(entries: &[Entry], index: usize) -> Result<u16, Refusal> {
         }
     }
     // The registration now stands only at the front of loops, of entries with stream_type 0x06.
-    let registered = |entry: &&Entry| {
-        let first = entry.descriptors.first();
-        first.is_some_and(|descriptor| *descriptor == REGISTRATION)
-    };
+    let registered =
+        |entry: &&Entry| matches!(entry.descriptors.first(), Some(first) if *first == REGISTRATION);
     let av1: Vec<&Entry> = entries.iter().filter(registered).collect();
     let entry = match av1[..] {
         [] => return wrong("28: no AV1 entry"),

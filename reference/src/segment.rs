@@ -126,7 +126,7 @@ pub fn check(segment: &[u8], rooms: Rooms) -> Result<Accepted, Refusal> {
     if segment.is_empty() {
         return Err(Refusal::new(20, 0, "20: no bytes"));
     }
-    if !segment.len().is_multiple_of(packet::SIZE) {
+    if segment.len() % packet::SIZE != 0 {
         return Err(Refusal::new(20, 0, "20: not a multiple of 188"));
     }
     let count = segment.len() / packet::SIZE;
@@ -149,11 +149,13 @@ pub fn check(segment: &[u8], rooms: Rooms) -> Result<Accepted, Refusal> {
     }
     // "After the last packet the open PES closes first, then 33."
     check.close()?;
-    let Some((_, pat)) = check.pat else {
-        return Err(Refusal::new(33, count, "33: no PAT"));
+    let pat = match check.pat {
+        Some((_, pat)) => pat,
+        _ => return Err(Refusal::new(33, count, "33: no PAT")),
     };
-    let Some((_, pmt)) = check.pmt else {
-        return Err(Refusal::new(33, count, "33: no PMT"));
+    let pmt = match check.pmt {
+        Some((_, pmt)) => pmt,
+        _ => return Err(Refusal::new(33, count, "33: no PMT")),
     };
     Ok(Accepted {
         program: pat.program,
@@ -171,21 +173,14 @@ impl Check {
         if pid == 0 {
             return Class::Section;
         }
-        if let Some((_, pat)) = &self.pat
-            && pat.map_pid == pid
-        {
+        if matches!(&self.pat, Some((_, pat)) if pat.map_pid == pid) {
             return Class::Section;
         }
-        if let Some((_, pmt)) = &self.pmt
-            && pmt.pids.contains(&pid)
-        {
-            return if pmt.av1_pid == pid {
-                Class::Av1
-            } else {
-                Class::OtherListed
-            };
+        match &self.pmt {
+            Some((_, pmt)) if pmt.av1_pid == pid => Class::Av1,
+            Some((_, pmt)) if pmt.pids.contains(&pid) => Class::OtherListed,
+            _ => Class::Unlisted,
         }
-        Class::Unlisted
     }
 
     fn packet(&mut self, bytes: &[u8], index: usize) -> Result<(), Refusal> {
@@ -197,10 +192,8 @@ impl Check {
         }
         // "A PCR counts for 31 if on the PMT's PCR PID, in a packet after the PMT, at or before the
         // payload; PID 0x1FFF has none."
-        if let Some((_, pmt)) = &self.pmt
-            && pmt.pcr_pid == packet.pid
-            && packet.pcr.is_some()
-        {
+        let clock = matches!(&self.pmt, Some((_, pmt)) if pmt.pcr_pid == packet.pid);
+        if clock && packet.pcr.is_some() {
             self.pcr = true;
         }
         if packet.payload.is_none() {
@@ -219,8 +212,9 @@ impl Check {
     /// discontinuity_indicator is 1."
     fn counter(&mut self, packet: &Packet, class: Class, index: usize) -> Result<(), Refusal> {
         let last = self.counters.insert(packet.pid, packet.counter);
-        let Some(last) = last else {
-            return Ok(());
+        let last = match last {
+            Some(last) => last,
+            _ => return Ok(()),
         };
         let with_payload = packet.payload.is_some();
         let next = if with_payload { (last + 1) % 16 } else { last };
@@ -323,8 +317,9 @@ impl Check {
     /// "then 32 is tried, then the reading of its unit (1 to 7, 9, 10), with the index of the packet
     /// that began it." And 42: "a segment's reading gives it too".
     fn close(&mut self) -> Result<(), Refusal> {
-        let Some(open) = self.open.take() else {
-            return Ok(());
+        let open = match self.open.take() {
+            Some(open) => open,
+            _ => return Ok(()),
         };
         let unit = self.units.last().expect("an open PES has a unit");
         // "PES length not 0 and not the number of PES bytes after that field", which has six bytes

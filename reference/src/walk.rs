@@ -38,11 +38,14 @@ pub enum Step {
 pub fn step(unit: &[u8], at: usize) -> Step {
     let parts = payloads(unit);
     let here = |part: &Range<usize>| part.start - START_CODE.len() == at;
-    let Some(index) = parts.iter().position(here) else {
-        if at > 0 && at >= unit.len() {
-            return Step::End;
+    let index = match parts.iter().position(here) {
+        Some(index) => index,
+        _ => {
+            if at > 0 && at >= unit.len() {
+                return Step::End;
+            }
+            return Step::Refused(Refusal::new(9, 0, NO_START_CODE));
         }
-        return Step::Refused(Refusal::new(9, 0, NO_START_CODE));
     };
     let part = parts[index].clone();
     let payload = &unit[part.clone()];

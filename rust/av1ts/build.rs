@@ -3,6 +3,7 @@
 
 use std::env;
 use std::path::PathBuf;
+use std::process::exit;
 
 fn main() {
     println!("cargo:rerun-if-env-changed=AV1TS_LIB_DIR");
@@ -13,11 +14,16 @@ fn main() {
             PathBuf::from(package).join("../../build/lib")
         }
     };
-    println!(
-        "cargo:rerun-if-changed={}",
-        folder.join("libav1ts.a").display()
-    );
+    let archive = folder.join("libav1ts.a");
+    println!("cargo:rerun-if-changed={}", archive.display());
+    if !archive.is_file() {
+        eprintln!(
+            "There is no {}. Run make lib at the top of the repository, or say by AV1TS_LIB_DIR where libav1ts.a is.",
+            archive.display()
+        );
+        exit(1);
+    }
     println!("cargo:rustc-link-search=native={}", folder.display());
-    // Not bundled: programs that do not call the library are built without the archive.
+    // Not bundled: the archive goes into programs, and not into the binding as well.
     println!("cargo:rustc-link-lib=static:-bundle=av1ts");
 }

@@ -6,14 +6,17 @@ use std::process::ExitCode;
 
 fn main() -> ExitCode {
     let mut arguments = std::env::args_os().skip(1);
-    let (Some(file), None) = (arguments.next(), arguments.next()) else {
-        eprintln!("usage: segment FILE");
-        return ExitCode::FAILURE;
+    let file = match (arguments.next(), arguments.next()) {
+        (Some(file), None) => file,
+        _ => {
+            eprintln!("usage: segment FILE");
+            return ExitCode::FAILURE;
+        }
     };
     let bytes = match std::fs::read(&file) {
         Ok(bytes) => bytes,
         Err(error) => {
-            eprintln!("{}: {error}", file.display());
+            eprintln!("{}: {error}", file.to_string_lossy());
             return ExitCode::FAILURE;
         }
     };

@@ -50,8 +50,9 @@ fn every_string(alphabet: &[u8], head: &[u8], longest: usize, mut hand: impl FnM
         string.resize(head.len() + len, alphabet[0]);
         loop {
             hand(&string);
-            let Some(place) = digits.iter().rposition(|&digit| digit + 1 < alphabet.len()) else {
-                break;
+            let place = match digits.iter().rposition(|&digit| digit + 1 < alphabet.len()) {
+                Some(place) => place,
+                _ => break,
             };
             digits[place] += 1;
             string[head.len() + place] = alphabet[digits[place]];
@@ -139,7 +140,7 @@ fn compare(suite: &mut Suite, alphabet: &[u8], longest: usize, list_bytes: usize
                 Some(written) if written.len() > longest + 3 => return,
                 Some(written) => (
                     "list accepted by writing",
-                    known.is_some_and(|strings| strings.contains(written)),
+                    matches!(known, Some(strings) if strings.contains(written)),
                 ),
             };
             suite.case(&[label], passed, || format!("{list:?}"));

@@ -24,8 +24,9 @@ fn obu_faults(bytes: &[u8], index: usize) -> Vec<Fault> {
             index: Some(index),
         })
     };
-    let Some(&first) = bytes.first() else {
-        return faults;
+    let first = match bytes.first() {
+        Some(&first) => first,
+        _ => return faults,
     };
     let header = obu::header(first);
     if header.forbidden || (header.extension && bytes.len() < 2) {
@@ -47,8 +48,9 @@ fn obu_faults(bytes: &[u8], index: usize) -> Vec<Fault> {
 /// What stands behind an OBU's header, extension byte and size, as far as they are there; and
 /// whether its size is wrong.
 fn content(bytes: &[u8]) -> (&[u8], bool) {
-    let Some((&first, mut rest)) = bytes.split_first() else {
-        return (&[], false);
+    let (first, mut rest) = match bytes.split_first() {
+        Some((&first, rest)) => (first, rest),
+        _ => return (&[], false),
     };
     let header = obu::header(first);
     if header.extension && !rest.is_empty() {
@@ -159,8 +161,9 @@ pub fn writing(bytes: &[u8], lengths: &[usize], room: usize) -> Vec<Fault> {
 
 /// What the first fault comes before: a label for each of the others.
 pub fn pairs(what: &str, faults: &[Fault]) -> Vec<String> {
-    let Some((first, others)) = faults.split_first() else {
-        return Vec::new();
+    let (first, others) = match faults.split_first() {
+        Some((first, others)) => (first, others),
+        _ => return Vec::new(),
     };
     let mut labels = Vec::new();
     for other in others {

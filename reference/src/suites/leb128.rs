@@ -23,13 +23,16 @@ pub const SUITE: Definition = Definition {
 
 /// The same by the places of the top bits, and the value from its high end.
 fn second(bytes: &[u8]) -> Result<Leb128, &'static str> {
-    let Some(last) = bytes.iter().take(8).position(|&byte| byte < 128) else {
-        let cut_short = bytes.len() < 8;
-        return Err(if cut_short {
-            "5: leb128 cut short"
-        } else {
-            "5: leb128 over 8 bytes"
-        });
+    let last = match bytes.iter().take(8).position(|&byte| byte < 128) {
+        Some(last) => last,
+        _ => {
+            let cut_short = bytes.len() < 8;
+            return Err(if cut_short {
+                "5: leb128 cut short"
+            } else {
+                "5: leb128 over 8 bytes"
+            });
+        }
     };
     let mut value = 0;
     for &byte in bytes[..=last].iter().rev() {

@@ -94,8 +94,9 @@ fn constructed(alphabet: &[u8], len: usize) -> HashMap<Vec<u8>, Checked> {
             extensions.extend(alphabet.iter().map(|&byte| Some(byte)));
             for extension in extensions {
                 let so_far = 1 + usize::from(extension.is_some()) + content_len;
-                let Some(width) = len.checked_sub(so_far) else {
-                    continue;
+                let width = match len.checked_sub(so_far) {
+                    Some(width) => width,
+                    _ => continue,
                 };
                 if width > 8 || (width > 0 && width < shortest(content_len as u64)) {
                     continue;

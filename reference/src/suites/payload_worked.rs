@@ -100,7 +100,10 @@ fn run(suite: &mut Suite) {
         let passed = got.number == 10
             && got.place == place
             && out == [0xEE; 16]
-            && second.is_err_and(|refusal| refusal.number == 10 && refusal.place == place);
+            && second.map_or_else(
+                |refusal| refusal.number == 10 && refusal.place == place,
+                |_| false,
+            );
         suite.case(&["worked: unescape refused"], passed, || hex(payload));
         caller.unescape(suite, payload, payload.len(), &[]);
         caller.unescape(suite, payload, 0, &[]);

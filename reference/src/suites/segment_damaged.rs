@@ -103,8 +103,9 @@ fn damage(random: &mut Random, made: &Made, other: &[u8], bytes: &mut Vec<u8>) -
             "bit flipped in a header"
         }
         4..=6 => {
-            let Some(index) = packet_of(random, bytes, &[0, made.map_pid]) else {
-                return "nothing";
+            let index = match packet_of(random, bytes, &[0, made.map_pid]) {
+                Some(index) => index,
+                _ => return "nothing",
             };
             let packet = &mut bytes[index * SIZE..][..SIZE];
             let at = 4 + random.below(80);
@@ -113,8 +114,9 @@ fn damage(random: &mut Random, made: &Made, other: &[u8], bytes: &mut Vec<u8>) -
             "bit flipped in a section, CRC repaired"
         }
         7 => {
-            let Some(index) = packet_of(random, bytes, &[0, made.map_pid]) else {
-                return "nothing";
+            let index = match packet_of(random, bytes, &[0, made.map_pid]) {
+                Some(index) => index,
+                _ => return "nothing",
             };
             let packet = &mut bytes[index * SIZE..][..SIZE];
             packet[5 + random.below(60)] = random.pick(&[0, 1, 2, 5, 6, 0x80, 0xFF, 0xE0]);
@@ -122,8 +124,9 @@ fn damage(random: &mut Random, made: &Made, other: &[u8], bytes: &mut Vec<u8>) -
             "byte replaced in a section, CRC repaired"
         }
         8 | 9 => {
-            let Some(index) = packet_of(random, bytes, &[made.accepted.pid]) else {
-                return "nothing";
+            let index = match packet_of(random, bytes, &[made.accepted.pid]) {
+                Some(index) => index,
+                _ => return "nothing",
             };
             let reach = random.pick(&[40, 184]);
             let at = 4 + random.below(reach);

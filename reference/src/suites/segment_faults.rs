@@ -239,11 +239,12 @@ impl Faults {
                 // Later packets of the PID go on from the counter they had.
                 let pid = base.packets[at].pid;
                 let later = (at + 1..base.packets.len()).find(|&i| base.packets[i].pid == pid);
-                if let Some(later) = later
-                    && base.packets[later].counter.is_none()
-                {
-                    let next = (counter + u8::from(base.packets[later].has_payload())) % 16;
-                    base.packets[later].counter = Some(next);
+                match later {
+                    Some(later) if base.packets[later].counter.is_none() => {
+                        let next = (counter + u8::from(base.packets[later].has_payload())) % 16;
+                        base.packets[later].counter = Some(next);
+                    }
+                    _ => {}
                 }
             });
         }
@@ -252,10 +253,11 @@ impl Faults {
     fn section(&mut self, condition: &str, at: usize, change: impl Fn(&mut Section) + 'static) {
         let least = if condition.starts_with("25") { 8 } else { 14 };
         self.add(condition, at, move |base| {
-            if let Load::Section(section) = &mut base.packets[at].load
-                && section.body.len() >= least
-            {
-                change(section);
+            match &mut base.packets[at].load {
+                Load::Section(section) if section.body.len() >= least => {
+                    change(section);
+                }
+                _ => {}
             }
         });
     }
@@ -560,11 +562,12 @@ impl Faults {
 
     fn header(&mut self, condition: &str, at: usize, change: impl Fn(&mut Vec<u8>) + 'static) {
         self.add(condition, at, move |base| {
-            if let Load::Bytes(bytes) = &mut base.packets[at].load
-                && bytes.len() >= 9
-            {
-                bytes.resize(bytes.len().max(30), 0xAA);
-                change(bytes);
+            match &mut base.packets[at].load {
+                Load::Bytes(bytes) if bytes.len() >= 9 => {
+                    bytes.resize(bytes.len().max(30), 0xAA);
+                    change(bytes);
+                }
+                _ => {}
             }
         });
     }
@@ -602,12 +605,13 @@ impl Faults {
             ("32: PES longer than its length", -20),
         ] {
             self.add_at(condition, began, closes, move |base| {
-                if let Load::Bytes(bytes) = &mut base.packets[began].load
-                    && bytes.len() >= 9
-                {
-                    let length = i32::from(u16::from_be_bytes([bytes[4], bytes[5]]));
-                    let changed = ((length + by).max(1) as u16).to_be_bytes();
-                    bytes[4..6].copy_from_slice(&changed);
+                match &mut base.packets[began].load {
+                    Load::Bytes(bytes) if bytes.len() >= 9 => {
+                        let length = i32::from(u16::from_be_bytes([bytes[4], bytes[5]]));
+                        let changed = ((length + by).max(1) as u16).to_be_bytes();
+                        bytes[4..6].copy_from_slice(&changed);
+                    }
+                    _ => {}
                 }
             });
         }
@@ -634,8 +638,9 @@ impl Faults {
                 continue;
             }
             self.add_at(condition, began, closes, move |base| {
-                let Load::Bytes(bytes) = &mut base.packets[began].load else {
-                    return;
+                let bytes = match &mut base.packets[began].load {
+                    Load::Bytes(bytes) => bytes,
+                    _ => return,
                 };
                 if bytes.len() < 9 {
                     return;
@@ -692,18 +697,19 @@ fn many_obus(base: &mut Base, began: usize) {
     let mut rest = &carried[..];
     while !rest.is_empty() && at < base.packets.len() {
         let packet = &mut base.packets[at];
-        if packet.pid == AV1
-            && let Load::Bytes(bytes) = &mut packet.load
-        {
-            let head = if at == began {
-                9 + usize::from(bytes[8])
-            } else {
-                0
-            };
-            let head = head.min(bytes.len());
-            let len = rest.len().min(bytes.len().saturating_sub(head));
-            bytes[head..head + len].copy_from_slice(&rest[..len]);
-            rest = &rest[len..];
+        match &mut packet.load {
+            Load::Bytes(bytes) if packet.pid == AV1 => {
+                let head = if at == began {
+                    9 + usize::from(bytes[8])
+                } else {
+                    0
+                };
+                let head = head.min(bytes.len());
+                let len = rest.len().min(bytes.len().saturating_sub(head));
+                bytes[head..head + len].copy_from_slice(&rest[..len]);
+                rest = &rest[len..];
+            }
+            _ => {}
         }
         at += 1;
     }

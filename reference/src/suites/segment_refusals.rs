@@ -142,7 +142,7 @@ pub fn single(suite: &mut Suite, caller: &mut Caller, base: &Base, fault: &Fault
                 && refusal.number == fault.number
                 && refusal.place == fault.place as u64
         };
-        let is_meant = verdict.as_ref().is_err_and(meant);
+        let is_meant = verdict.as_ref().map_or_else(meant, |_| false);
         if !is_meant {
             println!(
                 "  meant {} at {}, have {verdict:?}",

@@ -3,7 +3,7 @@
 use super::segment::{Caller, exact, wide};
 use super::segment_make::make;
 use crate::kit::{Definition, Random, Suite, labels};
-use reference::compose::segment;
+use reference::compose::{Load, segment};
 use reference::segment::{CONDITIONS_8, Rooms};
 
 pub const SUITE: Definition = Definition {
@@ -62,11 +62,12 @@ fn run(suite: &mut Suite) {
         }
         let mut at = 0;
         for packet in &made.packets {
-            if packet.pid == made.accepted.pid
-                && let reference::compose::Load::Bytes(payload) = &packet.load
-            {
-                at += payload.len();
-                boundaries.push(at.min(need.bytes));
+            match &packet.load {
+                Load::Bytes(payload) if packet.pid == made.accepted.pid => {
+                    at += payload.len();
+                    boundaries.push(at.min(need.bytes));
+                }
+                _ => {}
             }
         }
         for boundary in boundaries {

@@ -50,8 +50,9 @@ fn run(suite: &mut Suite) {
     let bytes = sample();
     let rooms = wide(&bytes);
     caller.check_as(suite, &bytes, rooms, &["the sample"], |verdict| {
-        let Ok(accepted) = verdict else {
-            return false;
+        let accepted = match verdict {
+            Ok(accepted) => accepted,
+            _ => return false,
         };
         let times: Vec<(u64, u64)> = accepted.units.iter().map(|u| (u.pts, u.dts)).collect();
         let totals = Totals {

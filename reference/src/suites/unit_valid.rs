@@ -51,7 +51,7 @@ fn features(list: &List) -> Vec<&'static str> {
         labels.push("1,048,576 bytes in all");
     }
     let last = obu::check(&list[list.len() - 1], 0);
-    if last.is_ok_and(|checked| checked.kind == ShownAgain) {
+    if matches!(last, Ok(checked) if checked.kind == ShownAgain) {
         labels.push("shown-again frame");
     }
     for obu in list {

@@ -24,7 +24,7 @@ pub struct Rewritten {
     pub dropped_delay: u64,
 }
 
-unsafe extern "C" {
+extern "C" {
     fn av1ts_read_descriptor(bytes: *const u8, len: usize) -> Descriptor;
     fn av1ts_write_descriptor(field: *const u8, out: *mut u8, out_len: usize) -> Answer;
     fn av1ts_rewrite_descriptor(

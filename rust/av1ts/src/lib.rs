@@ -1,8 +1,20 @@
-//! Safe binding over the C interface of libav1ts.a.
+//! AV1 in MPEG-2 transport streams: a binding over libav1ts.a.
 //!
-//! Every function here lends whole slices: the C side gets each slice's own address and length,
-//! inputs are shared and outputs exclusive, so no safe call can misuse it.
-//! A module declares the C functions of its topic and has one safe function for each.
+//! What stands at the root is for programs: a refusal is an error that prints in words, outputs are
+//! allocated, and a walk is an iterator.
+//!
+//! ```
+//! let unit = av1ts::write_unit(&[&[0x12, 0][..], &[0x30, 0, 0, 1]])?;
+//! for payload in av1ts::payloads(&unit) {
+//!     println!("{:02X?}", payload?);
+//! }
+//! # Ok::<(), av1ts::Refused>(())
+//! ```
+//!
+//! The modules are the calls as they are in C, for those who lend their own buffers and look at
+//! numbers: a module declares the C functions of its topic and has one safe function for each. Every
+//! one lends whole slices: the C side gets each slice's own address and length, inputs are shared and
+//! outputs exclusive, so no safe call can misuse it.
 
 pub mod descriptor;
 pub mod mastering;
@@ -23,3 +35,7 @@ pub struct Answer {
     pub bytes: u64,
     pub dropped: u64,
 }
+
+mod safe;
+
+pub use safe::*;

@@ -12,7 +12,7 @@ pub struct Mastering {
     pub figure: [f64; 10],
 }
 
-unsafe extern "C" {
+extern "C" {
     fn av1ts_read_mastering(content: *const u8, len: usize) -> Mastering;
     fn av1ts_write_mastering(value: *const u64, out: *mut u8, out_len: usize) -> Answer;
 }

@@ -2,7 +2,7 @@
 
 use crate::Answer;
 
-unsafe extern "C" {
+extern "C" {
     fn av1ts_escape(obu: *const u8, obu_len: usize, out: *mut u8, out_len: usize) -> Answer;
     fn av1ts_unescape(payload: *const u8, len: usize, out: *mut u8, out_len: usize) -> Answer;
 }

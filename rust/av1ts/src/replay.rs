@@ -23,7 +23,7 @@ pub struct Replayed {
     pub state: ReplayState,
 }
 
-unsafe extern "C" {
+extern "C" {
     fn av1ts_replay(
         state: ReplayState,
         rate: u64,

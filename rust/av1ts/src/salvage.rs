@@ -14,7 +14,7 @@ pub struct Salvaged {
     pub accepted: u64,
 }
 
-unsafe extern "C" {
+extern "C" {
     fn av1ts_salvage(
         unit: *const u8,
         len: usize,

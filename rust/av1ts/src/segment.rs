@@ -16,7 +16,7 @@ pub struct Segment {
     pub unlisted: u64,
 }
 
-unsafe extern "C" {
+extern "C" {
     fn av1ts_check_segment(
         segment: *const u8,
         len: usize,

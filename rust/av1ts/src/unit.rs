@@ -2,7 +2,7 @@
 
 use crate::Answer;
 
-unsafe extern "C" {
+extern "C" {
     fn av1ts_write_unit(
         obus: *const u8,
         len: usize,

@@ -13,7 +13,7 @@ pub struct Step {
     pub next_at: u64,
 }
 
-unsafe extern "C" {
+extern "C" {
     fn av1ts_walk_start(unit: *const u8, len: usize) -> Step;
     fn av1ts_walk_step(unit: *const u8, len: usize, at: usize) -> Step;
 }

@@ -161,8 +161,9 @@ impl Run<'_> {
                 (2 * SECOND, "more ticks"),
                 (1 << 32, "more ticks"),
             ] {
-                let Some(time) = base.checked_add(ticks) else {
-                    continue;
+                let time = match base.checked_add(ticks) {
+                    Some(time) => time,
+                    _ => continue,
                 };
                 self.fresh(50_000_000, &[(base, 100), (time, 50)], label);
                 self.fresh(1, &[(base, 100), (time, 50), (time, 50)], label);

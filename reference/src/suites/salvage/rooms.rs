@@ -46,8 +46,9 @@ fn run(suite: &mut Suite) {
         for _ in 0..random.below(4) {
             damage(&mut random, &mut input);
         }
-        let Ok(salvaged) = salvaged(&input) else {
-            continue;
+        let salvaged = match salvaged(&input) {
+            Ok(salvaged) => salvaged,
+            _ => continue,
         };
         let mut more: &[&str] = &[];
         if salvaged.bytes.is_empty() {

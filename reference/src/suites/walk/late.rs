@@ -57,8 +57,9 @@ fn offset_label(written: &[u8], obus: &[Tuned], offset: usize) -> &'static str {
     if offset == written.len() {
         return "at the end";
     }
-    let Some(last) = obus.iter().rfind(|obu| obu.at <= offset) else {
-        return "before the unit";
+    let last = match obus.iter().rfind(|obu| obu.at <= offset) {
+        Some(last) => last,
+        _ => return "before the unit",
     };
     match offset - last.at {
         0 if offset == 0 => "at offset 0",
@@ -68,7 +69,7 @@ fn offset_label(written: &[u8], obus: &[Tuned], offset: usize) -> &'static str {
         _ => {
             let next = obus.iter().find(|obu| obu.at > offset);
             let zeros = |next: &Tuned| written[offset..next.at].iter().all(|&byte| byte == 0);
-            if next.is_some_and(zeros) {
+            if next.map_or(false, zeros) {
                 "in zeros before a start code"
             } else {
                 "inside a payload"
@@ -108,7 +109,7 @@ fn join(suite: &mut Suite, given: &mut Given<u8>, written: &[u8], obus: &[Tuned]
     // order": over all that was received, and over what begins with that start code.
     let payloads: Vec<&[u8]> = left.iter().map(|obu| &obu.payload[..]).collect();
     let first = places.first().copied();
-    let joined = first.is_none_or(|first| {
+    let joined = first.map_or(true, |first| {
         walked(rest, first) == (payloads.clone(), true)
             && walked(&rest[first..], 0) == (payloads, true)
     });

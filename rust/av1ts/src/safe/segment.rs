@@ -1,0 +1,94 @@
+//! A segment and its access units.
+
+use super::{MOST_SEGMENT_BYTES, MOST_UNITS, Refused};
+use crate::segment;
+
+/// The packets of a segment in five classes.
+#[derive(Clone, Copy, Debug, PartialEq, Eq)]
+pub struct Packets {
+    pub null: usize,
+    pub section: usize,
+    pub av1: usize,
+    pub other_listed: usize,
+    pub unlisted: usize,
+}
+
+/// An access unit as carried, and its times in ticks of 90 kHz.
+#[derive(Clone, Copy, Debug, PartialEq, Eq)]
+pub struct AccessUnit<'a> {
+    pub carried: &'a [u8],
+    pub pts: u64,
+    pub dts: u64,
+}
+
+/// A segment that was accepted.
+#[derive(Clone, Debug, PartialEq, Eq)]
+pub struct Segment {
+    pub program: u16,
+    /// The PID of the AV1 stream.
+    pub pid: u16,
+    pub packets: Packets,
+    bytes: Vec<u8>,
+    lengths: Vec<usize>,
+    times: Vec<u64>,
+}
+
+impl Segment {
+    /// The access units, in order.
+    pub fn units(&self) -> impl Iterator<Item = AccessUnit<'_>> + '_ {
+        let mut rest = &self.bytes[..];
+        let times = self.times.chunks_exact(2);
+        self.lengths.iter().zip(times).map(move |(&length, times)| {
+            let (carried, others) = rest.split_at(length);
+            rest = others;
+            AccessUnit {
+                carried,
+                pts: times[0],
+                dts: times[1],
+            }
+        })
+    }
+}
+
+/// Checks a segment of whole packets and takes out its AV1 access units.
+///
+/// ```
+/// # let clip = concat!(env!("CARGO_MANIFEST_DIR"), "/../../samples/clip.ts");
+/// let mut packets = std::fs::read(clip)?;
+/// let segment = av1ts::check_segment(&packets)?;
+/// assert_eq!(segment.program, 1);
+/// for unit in segment.units().take(3) {
+///     let obus = av1ts::read_unit(unit.carried)?;
+///     println!("pts {} dts {}: {} OBUs", unit.pts, unit.dts, obus.obus().count());
+/// }
+///
+/// packets.drain(20 * 188..21 * 188); // one packet is lost
+/// let refused = av1ts::check_segment(&packets).unwrap_err();
+/// assert_eq!(refused.to_string(), "refused 24 at 20: a packet is missing, or comes twice");
+/// # Ok::<(), Box<dyn std::error::Error>>(())
+/// ```
+pub fn check_segment(packets: &[u8]) -> Result<Segment, Refused> {
+    let mut bytes = vec![0; packets.len().min(MOST_SEGMENT_BYTES)];
+    let mut lengths = vec![0; MOST_UNITS];
+    let mut times = vec![0; 2 * MOST_UNITS];
+    let answer = segment::check_segment(packets, &mut bytes, &mut lengths, &mut times);
+    Refused::check(answer.number, answer.place)?;
+    let units = answer.units as usize;
+    lengths.truncate(units);
+    times.truncate(2 * units);
+    bytes.truncate(lengths.iter().sum());
+    Ok(Segment {
+        program: answer.program as u16,
+        pid: answer.pid as u16,
+        packets: Packets {
+            null: answer.null_packets as usize,
+            section: answer.section as usize,
+            av1: answer.av1 as usize,
+            other_listed: answer.other_listed as usize,
+            unlisted: answer.unlisted as usize,
+        },
+        bytes,
+        lengths,
+        times,
+    })
+}
