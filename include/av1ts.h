@@ -165,7 +165,7 @@ typedef struct {
 /* The check of a segment of whole packets, and its AV1 access units: carried units back to back from the front of out, their lengths from the front of lengths, PTS
  * and DTS of each in turn from the front of times (ticks of 90 kHz); the rest of each output is left. A refused segment leaves zeros throughout the three outputs.
  * Refuses, at the packet's index: 20 (place 0) no bytes, not a multiple of 188, or over 65,535 packets; 21 first byte not 0x47; 22 transport_error_indicator; 23
- * header or adaptation field wrong; 24 counter wrong; 25 PAT wrong; 26 PMT wrong; 27 more than 12 entries in the PMT; 28 not exactly one AV1 entry, or it is against
+ * header or adaptation field wrong; 24 counter wrong (one copy of a packet passes); 25 PAT wrong; 26 PMT wrong; 27 more than 12 entries in the PMT; 28 not exactly one AV1 entry, or it is against
  * the rule; 29 PES header wrong, or payload before any PES start; 30 PTS_DTS_flags 00; 31 payload with no PCR yet; 34 a 1,025th unit; 8 an output is too short; at
  * the index of the packet that began the PES, 32 PES length wrong and the refusals of reading its unit; 33 (place: the packet count) no PAT or no PMT. */
 av1ts_segment av1ts_check_segment(const uint8_t *segment, size_t segment_len, uint8_t *out, size_t out_len, size_t *lengths, size_t lengths_len, uint64_t *times,

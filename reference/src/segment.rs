@@ -107,12 +107,21 @@ struct Open {
     header: pes::Header,
 }
 
+/// The last packet of a PID.
+struct Last {
+    bytes: Vec<u8>,
+    counter: u8,
+    with_payload: bool,
+    /// It was a copy of the one before it.
+    repeat: bool,
+}
+
 /// The check as it stands before a packet. A section that was read is kept with its bytes.
 struct Check {
     rooms: Rooms,
     pat: Option<(Vec<u8>, Pat)>,
     pmt: Option<(Vec<u8>, Pmt)>,
-    counters: HashMap<u16, u8>,
+    last: HashMap<u16, Last>,
     pcr: bool,
     units: Vec<Unit>,
     bytes: usize,
@@ -137,7 +146,7 @@ pub fn check(segment: &[u8], rooms: Rooms) -> Result<Accepted, Refusal> {
         rooms,
         pat: None,
         pmt: None,
-        counters: HashMap::new(),
+        last: HashMap::new(),
         pcr: false,
         units: Vec::new(),
         bytes: 0,
@@ -165,6 +174,30 @@ pub fn check(segment: &[u8], rooms: Rooms) -> Result<Accepted, Refusal> {
     })
 }
 
+/// A packet is the second copy of the last packet of its PID.
+fn is_copy(packet: &Packet, bytes: &[u8], last: &Last) -> bool {
+    let mut first = last.bytes.clone();
+    if packet.pcr.is_some() {
+        // "all bytes equal but the six of the PCR", which stand behind the flags.
+        first[6..12].copy_from_slice(&bytes[6..12]);
+    }
+    packet.payload.is_some() && last.with_payload && !last.repeat && first == bytes
+}
+
+fn wrong_counter(packet: &Packet, class: Class, index: usize) -> Refusal {
+    let condition = match (class, packet.pid, packet.payload.is_some()) {
+        (Class::Section, 0, true) => "24: PID 0, with payload",
+        (Class::Section, 0, false) => "24: PID 0, without payload",
+        (Class::Section, _, true) => "24: map PID, with payload",
+        (Class::Section, _, false) => "24: map PID, without payload",
+        (Class::Av1, _, true) => "24: AV1 PID, with payload",
+        (Class::Av1, _, false) => "24: AV1 PID, without payload",
+        (_, _, true) => "24: other listed PID, with payload",
+        (_, _, false) => "24: other listed PID, without payload",
+    };
+    Refusal::new(24, index, condition)
+}
+
 impl Check {
     fn class(&self, pid: u16) -> Class {
         if pid == NULL {
@@ -173,30 +206,44 @@ impl Check {
         if pid == 0 {
             return Class::Section;
         }
-        if matches!(&self.pat, Some((_, pat)) if pat.map_pid == pid) {
-            return Class::Section;
+        match &self.pat {
+            Some((_, pat)) if pat.map_pid == pid => {
+                return Class::Section;
+            }
+            _ => {}
         }
         match &self.pmt {
-            Some((_, pmt)) if pmt.av1_pid == pid => Class::Av1,
-            Some((_, pmt)) if pmt.pids.contains(&pid) => Class::OtherListed,
-            _ => Class::Unlisted,
+            Some((_, pmt)) if pmt.pids.contains(&pid) => {
+                return if pmt.av1_pid == pid {
+                    Class::Av1
+                } else {
+                    Class::OtherListed
+                };
+            }
+            _ => {}
         }
+        Class::Unlisted
     }
 
     fn packet(&mut self, bytes: &[u8], index: usize) -> Result<(), Refusal> {
         let packet = packet::read(bytes, index)?;
         let class = self.class(packet.pid);
         self.totals.add(class);
+        let mut copy = false;
         if class != Class::Null && class != Class::Unlisted {
-            self.counter(&packet, class, index)?;
+            copy = self.counter(&packet, bytes, class, index)?;
         }
         // "A PCR counts for 31 if on the PMT's PCR PID, in a packet after the PMT, at or before the
         // payload; PID 0x1FFF has none."
-        let clock = matches!(&self.pmt, Some((_, pmt)) if pmt.pcr_pid == packet.pid);
-        if clock && packet.pcr.is_some() {
-            self.pcr = true;
+        match &self.pmt {
+            Some((_, pmt)) if pmt.pcr_pid == packet.pid && packet.pcr.is_some() => {
+                self.pcr = true;
+            }
+            _ => {}
         }
-        if packet.payload.is_none() {
+        // "The second copy counts in its class, adds no bytes to a unit and no section, and starts or
+        // closes no PES."
+        if copy || packet.payload.is_none() {
             return Ok(());
         }
         match class {
@@ -209,29 +256,38 @@ impl Check {
 
     /// "Counter: a PID's first packet sets it, for PIDs named by a section the first after that
     /// section; then one more modulo 16 with payload, the same without; any value where
-    /// discontinuity_indicator is 1."
-    fn counter(&mut self, packet: &Packet, class: Class, index: usize) -> Result<(), Refusal> {
-        let last = self.counters.insert(packet.pid, packet.counter);
-        let last = match last {
-            Some(last) => last,
-            _ => return Ok(()),
-        };
+    /// discontinuity_indicator is 1." And "a packet with payload" may "be sent twice in a row on its
+    /// PID, same counter, all bytes equal but the six of the PCR"; "a packet with it at 1 is no copy"
+    /// and "A third copy is 24". Answers whether the packet is a copy.
+    fn counter(
+        &mut self,
+        packet: &Packet,
+        bytes: &[u8],
+        class: Class,
+        index: usize,
+    ) -> Result<bool, Refusal> {
         let with_payload = packet.payload.is_some();
-        let next = if with_payload { (last + 1) % 16 } else { last };
-        if packet.discontinuity || packet.counter == next {
-            return Ok(());
-        }
-        let condition = match (class, packet.pid, with_payload) {
-            (Class::Section, 0, true) => "24: PID 0, with payload",
-            (Class::Section, 0, false) => "24: PID 0, without payload",
-            (Class::Section, _, true) => "24: map PID, with payload",
-            (Class::Section, _, false) => "24: map PID, without payload",
-            (Class::Av1, _, true) => "24: AV1 PID, with payload",
-            (Class::Av1, _, false) => "24: AV1 PID, without payload",
-            (_, _, true) => "24: other listed PID, with payload",
-            (_, _, false) => "24: other listed PID, without payload",
+        let mut this = Last {
+            bytes: bytes.to_vec(),
+            counter: packet.counter,
+            with_payload,
+            repeat: false,
         };
-        Err(Refusal::new(24, index, condition))
+        match self.last.get(&packet.pid) {
+            Some(last) if !packet.discontinuity => {
+                let step = u8::from(with_payload);
+                if packet.counter != (last.counter + step) % 16 {
+                    if !is_copy(packet, bytes, last) {
+                        return Err(wrong_counter(packet, class, index));
+                    }
+                    this.repeat = true;
+                }
+            }
+            _ => {}
+        }
+        let copy = this.repeat;
+        self.last.insert(packet.pid, this);
+        Ok(copy)
     }
 
     fn pat(&mut self, packet: &Packet, index: usize) -> Result<(), Refusal> {

@@ -1,7 +1,8 @@
--- The record of a PID, and the sentence over the PID's packets: the record of a PID that has just been named follows the empty history (`named-follows`); the
--- check gives 24 exactly where the sentence fails after it (`history-follows`, `check-right`, `check-wrong`), and the record given back follows the longer one (`updated-follows`). Assumes nothing.
+-- The record of a PID, and the sentence over the PID's packets: the record of a PID that has just been named follows the empty history
+-- (`named-follows`); the check gives 24 exactly where the sentence fails after it (`history-follows`, `check-right`, `check-wrong`), and
+-- the record given back follows the longer one (`updated-follows`). Assumes nothing.
 use Prim.Native.Nat.{ℕ, zero, suc, _<_}
-use mathlib.Core.Bool.{Bool, true, false, not, _||_}
+use mathlib.Core.Bool.{Bool, true, false, not, _&&_, _||_, and-false, or-true}
 use mathlib.Core.Path.{_≡_, refl, sym, ap, _∙_, subst}
 use mathlib.Core.List.{List, [], _∷_, _++_, map}
 use mathlib.Core.Option.{Option, none, some}
@@ -12,13 +13,16 @@ use lib.ListN.{length, getD, set}
 use Rattle.lists.specs.Lists.{Bytes, pick}
 use Rattle.refusal.specs.Verdict.{Verdict, passed, refused, _>>=_, given}
 use Rattle.refusal.proofs.Verdicts.{refuse, pass-on, passed-then, passed-same, passed-after, given-passed, All}
-use Rattle.packet.specs.Header.{pid, continuityCounter, fields}
+use Rattle.packet.specs.Header.{pid, continuityCounter, hasPayload, discontinuityIndicator}
 use Rattle.packet.specs.declared.counter.Counted.{Counted}
 use Rattle.packet.specs.declared.counter.Stream.{Stream}
+use Rattle.packet.specs.declared.counter.Last.{Last}
 use Rattle.packet.specs.declared.counter.Last.the-variants as last
 use Rattle.packet.specs.declared.counter.Counter.the-variants.{Right}
 use Rattle.packet.specs.declared.counter.Counter.the-variants as answer
-use Rattle.packet.specs.Counter.{StreamRecord, counterRight, named, updated, follows, rightAfter, check, pidsOf, recordOf, checkedIn, historyAfter, history, latest, Follows, counted, due, lastOf, Stands, Checks}
+use Rattle.packet.specs.Counter.{StreamRecord, counterRight, named, updated, follows, rightAfter, check, pidsOf}
+use Rattle.packet.specs.Counter.{recordOf, checkedIn, historyAfter, history, latest, repeatsAfter, latestRepeats, Follows}
+use Rattle.packet.specs.Counter.{copyOf, repeats, due, streamAfter, LastStands, Stands, CountedAs, Checks, copied}
 
 -- ---- the check, from the test
 module _ (r : StreamRecord) (p : Bytes) where
@@ -33,18 +37,24 @@ module _ (r : StreamRecord) (p : Bytes) where
 -- ---- the record and the history
 -- a PID that has just been named has no history
 pub named-follows : (n : ℕ) → Follows (named n) []
-unfolding latest
-named-follows n = refl
+unfolding latest latestRepeats
+named-follows n = (refl, refl)
+
+-- a copy of the latest, which was none
+repeats-after : (earlier : List Bytes) (p : Bytes) → (copyOf (latest earlier) p && not (latestRepeats earlier)) ≡ repeatsAfter earlier p
+unfolding latest latestRepeats repeatsAfter copyOf
+repeats-after [] p = rw (and-false (hasPayload p && not (discontinuityIndicator p)))
+repeats-after (last ∷ earlier) p = refl
 
 module _ (r : StreamRecord) (earlier : List Bytes) (p : Bytes) (f : Follows r earlier) where
   -- the record says of a packet what the sentence says after the history
   pub history-follows : follows r p ≡ rightAfter earlier p
-  history-follows = ap (λ (o : Option Bytes). counterRight o p) f
+  history-follows = rw (f .0, f .1, repeats-after earlier p)
 
   -- the record updated follows the history with the packet
   pub updated-follows : Follows (updated r p) (p ∷ earlier)
-  unfolding latest
-  updated-follows = refl
+  unfolding latest latestRepeats
+  updated-follows = (refl, rw (f .0, f .1, repeats-after earlier p))
 
 -- ---- the records of several PIDs
 -- the first record of a PID
@@ -99,7 +109,8 @@ module _ (n : ℕ) (p : Bytes) (r : StreamRecord) (records : List StreamRecord) 
       → (c : Bool) → eqb (r .pid) n ≡ c → recordOf n (r ∷ after) ≡ recordAfter n p (recordOf n (r ∷ records))
   unfolding pick
   updated-behind hp after k true hn =
-      let e : eqb (pid p) n ≡ false = ne-eqb (pid p) n (λ (z : pid p ≡ n). eqb-false (r .pid) (pid p) hp (eqb-true (r .pid) n hn ∙ sym z)) in
+      let e : eqb (pid p) n
+      ≡ false = ne-eqb (pid p) n (λ (z : pid p ≡ n). eqb-false (r .pid) (pid p) hp (eqb-true (r .pid) n hn ∙ sym z)) in
       record-here n r after hn ∙ sym (ap (λ (o : Option StreamRecord). recordAfter n p o) (record-here n r records hn) ∙ rw e)
   updated-behind hp after k false hn =
       record-behind n r after hn ∙ k ∙ sym (ap (λ (o : Option StreamRecord). recordAfter n p o) (record-behind n r records hn))
@@ -136,7 +147,8 @@ checked-pids p (r ∷ records) after e = go (λ t k. checked-pids p records t k)
         → pidsOf after ≡ pidsOf (r ∷ records)
     go more true k =
         let q = passed-then (check r p) (λ r′. passed (r′ ∷ records)) after k in
-        ap pidsOf (sym (passed-same (q .0 ∷ records) after (q .2))) ∙ ap (λ (t : StreamRecord). t .pid ∷ pidsOf records) (check-passed r (q .0) p (q .1) .1)
+        ap pidsOf (sym (passed-same (q .0 ∷ records) after (q .2)))
+        ∙ ap (λ (t : StreamRecord). t .pid ∷ pidsOf records) (check-passed r (q .0) p (q .1) .1)
     go more false k =
         let q = passed-then (checkedIn records p) (λ records′. passed (r ∷ records′)) after k in
         ap pidsOf (sym (passed-same (r ∷ q .0) after (q .2))) ∙ ap (λ (l : List ℕ). r .pid ∷ l) (more (q .0) (q .1))
@@ -153,8 +165,10 @@ unfolding checkedIn pick recordOf _>>=_
 unrecorded p [] e = refl
 unrecorded p (r ∷ records) e = go (λ k. unrecorded p records k) (eqb (r .pid) (pid p)) e
   where
-    go : (recordOf (pid p) records ≡ none → checkedIn records p ≡ passed records) → (b : Bool) → pick b (some r) (recordOf (pid p) records) ≡ none
-        → pick b (check r p >>= λ r′. passed (r′ ∷ records)) (checkedIn records p >>= λ records′. passed (r ∷ records′)) ≡ passed (r ∷ records)
+    go : (recordOf (pid p) records ≡ none → checkedIn records p ≡ passed records) → (b : Bool)
+        → pick b (some r) (recordOf (pid p) records) ≡ none
+        → pick b (check r p >>= λ r′. passed (r′ ∷ records)) (checkedIn records p >>= λ records′. passed (r ∷ records′))
+        ≡ passed (r ∷ records)
     go more true k = absurd (some-not-none r k)
     go more false k = rw (more k)
 
@@ -165,7 +179,8 @@ unfolding checkedIn pick recordOf _>>=_
 wrong-refused p r [] e w = absurd (some-not-none r (sym e))
 wrong-refused p r (s ∷ records) e w = go (λ k. wrong-refused p r records k w) (eqb (s .pid) (pid p)) e
   where
-    go : (recordOf (pid p) records ≡ some r → checkedIn records p ≡ refused 24 0) → (b : Bool) → pick b (some s) (recordOf (pid p) records) ≡ some r
+    go : (recordOf (pid p) records ≡ some r → checkedIn records p ≡ refused 24 0) → (b : Bool)
+        → pick b (some s) (recordOf (pid p) records) ≡ some r
         → pick b (check s p >>= λ r′. passed (r′ ∷ records)) (checkedIn records p >>= λ records′. passed (s ∷ records′)) ≡ refused 24 0
     go more true k = rw (some-same s r k, check-wrong r p w)
     go more false k = rw (more k)
@@ -191,10 +206,12 @@ checked-at p [] k d h e f = absurd (omega arith)
 checked-at p (r ∷ records) zero d h e f = rw (eq-eqb (r .pid) (pid p) e)
 checked-at p (r ∷ records) (suc k) d h e f =
     rw (ne-eqb (r .pid) (pid p) (f 0 (omega arith)))
-    (ap (λ (v : Verdict (List StreamRecord)). v >>= λ records′. passed (r ∷ records′)) (checked-at p records k d (omega arith) e (λ j i. f (suc j) (omega arith)))
+    (ap (λ (v : Verdict (List StreamRecord)). v >>= λ records′. passed (r ∷ records′))
+    (checked-at p records k d (omega arith) e (λ j i. f (suc j) (omega arith)))
     ∙ go (check (getD records k d) p))
   where
-    go : (v : Verdict StreamRecord) → ((v >>= λ t. passed (set records k t)) >>= λ records′. passed (r ∷ records′)) ≡ (v >>= λ t. passed (r ∷ set records k t))
+    go : (v : Verdict StreamRecord)
+        → ((v >>= λ t. passed (set records k t)) >>= λ records′. passed (r ∷ records′)) ≡ (v >>= λ t. passed (r ∷ set records k t))
     go (passed t) = refl
     go (refused number place) = refl
 
@@ -217,12 +234,14 @@ follows-next n r ps p f = subst (Follows (pick (eqb (pid p) n) (updated r p) r))
 
 -- ---- PIDs that are named
 -- a PID that has a record keeps it
-pub kept-record : (n : ℕ) (records new : List StreamRecord) (r : StreamRecord) → recordOf n records ≡ some r → recordOf n (records ++ new) ≡ some r
+pub kept-record : (n : ℕ) (records new : List StreamRecord) (r : StreamRecord) → recordOf n records ≡ some r
+    → recordOf n (records ++ new) ≡ some r
 unfolding recordOf pick
 kept-record n [] new r e = absurd (some-not-none r (sym e))
 kept-record n (s ∷ records) new r e = go (λ k. kept-record n records new r k) (eqb (s .pid) n) e
   where
-    go : (recordOf n records ≡ some r → recordOf n (records ++ new) ≡ some r) → (b : Bool) → pick b (some s) (recordOf n records) ≡ some r → pick b (some s) (recordOf n (records ++ new)) ≡ some r
+    go : (recordOf n records ≡ some r → recordOf n (records ++ new) ≡ some r) → (b : Bool) → pick b (some s) (recordOf n records) ≡ some r
+        → pick b (some s) (recordOf n (records ++ new)) ≡ some r
     go more true k = k
     go more false k = more k
 
@@ -232,7 +251,8 @@ unfolding recordOf pick
 new-record n [] new e = refl
 new-record n (s ∷ records) new e = go (λ k. new-record n records new k) (eqb (s .pid) n) e
   where
-    go : (recordOf n records ≡ none → recordOf n (records ++ new) ≡ recordOf n new) → (b : Bool) → pick b (some s) (recordOf n records) ≡ none → pick b (some s) (recordOf n (records ++ new)) ≡ recordOf n new
+    go : (recordOf n records ≡ none → recordOf n (records ++ new) ≡ recordOf n new) → (b : Bool)
+        → pick b (some s) (recordOf n records) ≡ none → pick b (some s) (recordOf n (records ++ new)) ≡ recordOf n new
     go more true k = absurd (some-not-none s k)
     go more false k = more k
 
@@ -241,35 +261,93 @@ unfolding recordOf pick
 named-record n r [] e = absurd (some-not-none r (sym e))
 named-record n r (m ∷ pids) e = go (λ k. named-record n r pids k) (eqb m n) refl e
   where
-    go : (recordOf n (map named pids) ≡ some r → r ≡ named n) → (b : Bool) → eqb m n ≡ b → pick b (some (named m)) (recordOf n (map named pids)) ≡ some r → r ≡ named n
+    go : (recordOf n (map named pids) ≡ some r → r ≡ named n) → (b : Bool) → eqb m n ≡ b
+        → pick b (some (named m)) (recordOf n (map named pids)) ≡ some r → r ≡ named n
     go more true h k = sym (some-same (named m) r k) ∙ ap named (eqb-true m n h)
     go more false h k = more k
 
 -- ---- the code's record
-module _ (s : Stream) (c : Counted) (r : StreamRecord) (p : Bytes) (stands : Stands s r) (reads : c ≡ counted (fields p)) where
+-- a copy, part by part
+module _ (c : Counted) where
+  pub no-payload : c .payload ≡ false → false ≡ copied c
+  no-payload h = sym (rw h refl)
+
+  pub discontinued : c .payload ≡ true → c .discontinuity ≡ true → false ≡ copied c
+  discontinued h k = sym (rw (h, k) refl)
+
+  pub as-equal : c .payload ≡ true → c .discontinuity ≡ false → c .equal ≡ copied c
+  as-equal h k = sym (rw (h, k) refl)
+
+module _ (segment : Bytes) (s : Stream) (c : Counted) (r : StreamRecord) (p : Bytes) (stands : Stands segment s r)
+    (reads : CountedAs segment r p c) where
   -- no packet was seen
-  pub unseen-follows : s .last ≡ last.Unseen → true ≡ follows r p
-  unfolding counterRight
-  unseen-follows e = go (r .last) (sym (stands .1) ∙ e)
-    where
-      go : (o : Option Bytes) → lastOf o ≡ last.Unseen → true ≡ counterRight o p
-      go none k = refl
-      go (some q) k = let z : _≡_ {A = ℕ} 0 1 = cc in absurd (omega arith)
-
-  -- one was: the three parts of the sentence
-  module _ (n : ℕ) (e : s .last ≡ last.Counter n) where
-    pub seen-follows : follows r p ≡ (c .discontinuity || eqb (c .counter) (due n (c .payload)))
-    unfolding counterRight
-    seen-follows = go (r .last) (sym (stands .1) ∙ e)
+  module _ (e : s .last ≡ last.Unseen) where
+    none-seen : r .last ≡ none
+    none-seen = go (s .last) (r .last) e (stands .1)
       where
-        go : (o : Option Bytes) → lastOf o ≡ last.Counter n → counterRight o p ≡ (c .discontinuity || eqb (c .counter) (due n (c .payload)))
-        go none k = let z : _≡_ {A = ℕ} 0 1 = cc in absurd (omega arith)
-        go (some q) k = let m : continuityCounter q ≡ n = cc in rw (sym m, reads)
+        go : (l : Last) (o : Option Bytes) → l ≡ last.Unseen → LastStands segment l o (r .repeat) → o ≡ none
+        go last.Unseen none k h = refl
+        go last.Unseen (some q) k h = absurd h
+        go (last.Packet n at repeated) o k h = let z : _≡_ {A = ℕ} 0 1 = cc in absurd (omega arith)
 
-  -- the answer
-  pub right-checks : follows r p ≡ true → Checks r p (record { stream = record { pid = s .pid; last = last.Counter (c .counter) }; verdict = Right })
-  right-checks e = rw (check-right r p e) (refl, (stands .0, ap (λ (d : Counted). last.Counter (d .counter)) reads))
+    pub unseen-repeats : false ≡ repeats r p
+    unfolding copyOf
+    unseen-repeats = sym (rw (none-seen, and-false (hasPayload p && not (discontinuityIndicator p))) refl)
 
-  pub wrong-checks : follows r p ≡ false
-      → Checks r p (record { stream = s; verdict = answer.Refused (record { why = record { number = 24 }; place = 0 }) })
-  wrong-checks e = rw (check-wrong r p e) (refl, stands)
+    pub unseen-follows : true ≡ counterRight (r .last) p
+    unfolding counterRight
+    unseen-follows = rw none-seen refl
+
+  -- one was: the parts of the sentence
+  module _ (n at : ℕ) (repeated : Bool) (e : s .last ≡ last.Packet n at repeated) where
+    one-seen : (q : Bytes) × (r .last ≡ some q) × (n ≡ continuityCounter q) × (repeated ≡ r .repeat)
+    one-seen = go (s .last) (r .last) e (stands .1)
+      where
+        go : (l : Last) (o : Option Bytes) → l ≡ last.Packet n at repeated → LastStands segment l o (r .repeat)
+            → (q : Bytes) × (o ≡ some q) × (n ≡ continuityCounter q) × (repeated ≡ r .repeat)
+        go last.Unseen o k h = let z : _≡_ {A = ℕ} 0 1 = cc in absurd (omega arith)
+        go (last.Packet m place again) none k h = absurd h
+        go (last.Packet m place again) (some q) k h =
+            let a : m ≡ n = cc in
+            let b : again ≡ repeated = cc in
+            (q, refl, sym a ∙ h .0, sym b ∙ h .2)
+
+    pub seen-follows : counterRight (r .last) p ≡ (c .discontinuity || eqb (c .counter) (due n (c .payload)))
+    unfolding counterRight
+    seen-follows =
+        let k = one-seen in
+        ap (λ (o : Option Bytes). counterRight o p) (k .1)
+        ∙ ap (λ (m : ℕ). discontinuityIndicator p || eqb (continuityCounter p) (due m (hasPayload p))) (sym (k .2))
+        ∙ ap (λ (d : Counted). d .discontinuity || eqb (d .counter) (due n (d .payload))) (sym (reads .0))
+
+    parts : repeats r p ≡ (copied c && not repeated)
+    unfolding copyOf
+    parts =
+        ap (λ (b : Bool). copyOf (r .last) p && not b) (sym (one-seen .3))
+        ∙ ap (λ (d : Counted). copied d && not repeated) (sym (reads .0))
+
+    pub no-copy-repeats : copied c ≡ false → false ≡ repeats r p
+    no-copy-repeats h = sym (parts ∙ rw h)
+
+    pub copy-repeats : copied c ≡ true → not repeated ≡ repeats r p
+    copy-repeats h = sym (parts ∙ rw h)
+
+  -- ---- the answer
+  -- the record after the packet
+  after-stands : (repeat : Bool) → repeat ≡ repeats r p → Stands segment (streamAfter s c repeat) (updated r p)
+  after-stands repeat e = (stands .0, (ap (λ (d : Counted). d .counter) (reads .0), reads .1, e))
+
+  right-by : (repeat : Bool) → repeat ≡ repeats r p → follows r p ≡ true
+      → Checks segment r p (record { stream = streamAfter s c repeat; verdict = Right })
+  right-by repeat k e = rw (check-right r p e) (refl, after-stands repeat k)
+
+  pub repeat-checks : repeats r p ≡ true → Checks segment r p (record { stream = streamAfter s c true; verdict = Right })
+  repeat-checks e = right-by true (sym e) (ap (λ (b : Bool). counterRight (r .last) p || b) e ∙ or-true (counterRight (r .last) p))
+
+  pub right-checks : repeats r p ≡ false → counterRight (r .last) p ≡ true
+      → Checks segment r p (record { stream = streamAfter s c false; verdict = Right })
+  right-checks k e = right-by false (sym k) (ap (λ (b : Bool). b || repeats r p) e)
+
+  pub wrong-checks : repeats r p ≡ false → counterRight (r .last) p ≡ false
+      → Checks segment r p (record { stream = s; verdict = answer.Refused (record { why = record { number = 24 }; place = 0 }) })
+  wrong-checks k e = rw (check-wrong r p (ap (λ (b : Bool). b || repeats r p) e ∙ k)) (refl, stands)

@@ -13,7 +13,9 @@ use Rattle.lists.proofs.Tests.{or-neither, and-second}
 use Rattle.refusal.specs.Verdict.{passed}
 use Rattle.refusal.proofs.Verdicts.{passed-after, passed-same, given-passed}
 use Rattle.packet.specs.declared.header.Header.{Header}
-use Rattle.packet.specs.Header.{packetLength, pid, nullPid, transportScramblingControl, adaptationFieldControl, hasAdaptationField, hasPayload, adaptationFieldLength, headerLength, payload, payloadPlace, adaptationLengthWrong, fieldsWrong, fields, headerOf}
+use Rattle.packet.specs.Header.{packetLength, pid, nullPid, transportScramblingControl, adaptationFieldControl}
+use Rattle.packet.specs.Header.{hasAdaptationField, hasPayload, adaptationFieldLength, headerLength, payload}
+use Rattle.packet.specs.Header.{payloadPlace, adaptationLengthWrong, fieldsWrong, fields, headerOf}
 
 -- ---- the payload
 -- what lies from its place on is the payload

@@ -3,3 +3,4 @@ pub mod Counters
 pub mod Slots
 pub mod Recorded
 pub mod Packets
+pub mod Copies

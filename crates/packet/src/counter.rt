@@ -1,26 +1,38 @@
 // The continuity counter of a PID's packets.
 ghost use mathlib.Core.Path.{_≡_};
 ghost use Rattle.lists.specs.Lists.{Bytes};
-ghost use Rattle.packet.specs.Header.{fields};
-ghost use Rattle.packet.specs.Counter.{StreamRecord, counted, due, named, namedStream, follows, Stands, Checks};
+ghost use Rattle.packet.specs.Counter.{due, counterRight, sameBytes, named, repeats};
+ghost use Rattle.packet.specs.Counter.{counted, copied, namedStream, streamAfter, Stands, Of, Checks};
 use crate::header::Header;
+use crate::header::pcr_flag;
+use lists::part;
+use lists::rest;
+use lists::same;
 use refusal::Refusal;
 use refusal::Refused;
 
-// What the rule of the counter looks at in a packet.
+// What the rule of the counter looks at in a packet. `at` is where the packet lies in the segment; `equal` says that
+// all its bytes but those of the PCR equal those of its PID's last packet.
 pub struct Counted {
     pub counter: u8,
     pub payload: bool,
     pub discontinuity: bool,
+    pub at: usize,
+    pub equal: bool,
 }
 
-// The last counter of a PID, or that none of its packets was seen since it was named.
+// The last packet of a PID, or that none was seen since the PID was named. `at` is where it lies in the segment;
+// `repeat` says that it repeated the packet before it.
 pub enum Last {
     Unseen,
-    Counter(u8),
+    Packet {
+        counter: u8,
+        at: usize,
+        repeat: bool,
+    },
 }
 
-// A PID and its last counter.
+// A PID and its last packet.
 pub struct Stream {
     pub pid: u16,
     pub last: Last,
@@ -40,15 +52,50 @@ pub struct Checked {
 
 impl Header {
     // What the rule of the counter looks at.
-    pub fn counted(self) -> Counted
-        ensures { λ r. ⌜ r ≡ counted self ⌝ }
+    pub fn counted(self, at: usize, equal: bool) -> Counted
+        ensures { λ r. ⌜ r ≡ counted self at equal ⌝ }
     {
         Counted {
             counter: self.counter,
             payload: self.has_payload,
             discontinuity: self.discontinuity,
+            at,
+            equal,
         }
     }
+}
+
+impl Counted {
+    fn is_copy(self) -> bool
+        ensures { λ r. ⌜ r ≡ copied self ⌝ }
+    {
+        if !self.payload {
+            return false;
+        }
+        if self.discontinuity {
+            return false;
+        }
+        self.equal
+    }
+}
+
+// All bytes of two packets are equal but those of the PCR.
+pub fn same_bytes(last: &[u8], packet: &[u8]) -> bool
+    ensures { λ r. ⌜ r ≡ sameBytes (now (last .entry)) (now (packet .entry)) ⌝ }
+{
+    if !pcr_flag(last) {
+        if pcr_flag(packet) {
+            return false;
+        }
+        return same(last, packet);
+    }
+    if !pcr_flag(packet) {
+        return false;
+    }
+    if !same(part(last, 0, 6), part(packet, 0, 6)) {
+        return false;
+    }
+    same(rest(last, 12), rest(packet, 12))
 }
 
 // The counter that is due after the last one.
@@ -64,7 +111,7 @@ fn next_counter(last: u8, payload: bool) -> u8
 impl Stream {
     // The record of a PID that has just been named.
     pub fn named(pid: u16) -> Stream
-        ensures { λ r. ⌜ (r ≡ namedStream pid) × Stands r (named pid) ⌝ }
+        ensures { λ r. ⌜ (r ≡ namedStream pid) × ((segment : Bytes) → Stands segment r (named pid)) ⌝ }
     {
         Stream {
             pid,
@@ -72,11 +119,34 @@ impl Stream {
         }
     }
 
-    fn is_followed_by(self, packet: Counted) -> bool
-        ensures { λ r. ⌜ ((t : StreamRecord) (p : Bytes) → Stands self t → packet ≡ counted (fields p) → r ≡ follows t p) ⌝ }
+    fn is_repeated_by(self, packet: Counted) -> bool
+        ensures { λ r. ⌜ Of self packet (λ segment t p. r ≡ repeats t p) ⌝ }
     {
         let last = self.last;
-        let Last::Counter(counter) = last else {
+        let Last::Packet {
+            counter: _,
+            at: _,
+            repeat,
+        } = last
+        else {
+            return false;
+        };
+        if !packet.is_copy() {
+            return false;
+        }
+        !repeat
+    }
+
+    fn is_followed_by(self, packet: Counted) -> bool
+        ensures { λ r. ⌜ Of self packet (λ segment t p. r ≡ counterRight (t .last) p) ⌝ }
+    {
+        let last = self.last;
+        let Last::Packet {
+            counter,
+            at: _,
+            repeat: _,
+        } = last
+        else {
             return true;
         };
         if packet.discontinuity {
@@ -85,17 +155,34 @@ impl Stream {
         packet.counter == next_counter(counter, packet.payload)
     }
 
+    // The record after a packet.
+    fn after(self, packet: Counted, repeat: bool) -> Stream
+        ensures { λ r. ⌜ r ≡ streamAfter self packet repeat ⌝ }
+    {
+        Stream {
+            pid: self.pid,
+            last: Last::Packet {
+                counter: packet.counter,
+                at: packet.at,
+                repeat,
+            },
+        }
+    }
+
     // The check of a packet: the record updated, or 24 and the record as it was.
     pub fn check(self, packet: Counted) -> Checked
-        ensures { λ r. ⌜ ((t : StreamRecord) (p : Bytes) → Stands self t → packet ≡ counted (fields p) → Checks t p r) ⌝ }
+        ensures { λ r. ⌜ Of self packet (λ segment t p. Checks segment t p r) ⌝ }
         ensures { λ r. ⌜ r .stream .pid ≡ self .pid ⌝ }
     {
+        if self.is_repeated_by(packet) {
+            return Checked {
+                stream: self.after(packet, true),
+                verdict: Counter::Right,
+            };
+        }
         if self.is_followed_by(packet) {
             return Checked {
-                stream: Stream {
-                    pid: self.pid,
-                    last: Last::Counter(packet.counter),
-                },
+                stream: self.after(packet, false),
                 verdict: Counter::Right,
             };
         }

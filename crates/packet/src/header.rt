@@ -117,7 +117,7 @@ fn discontinuity_indicator(packet: &[u8]) -> bool
     adaptation_flags(packet) / 128 % 2 == 1
 }
 
-fn pcr_flag(packet: &[u8]) -> bool
+pub(crate) fn pcr_flag(packet: &[u8]) -> bool
     ensures { λ r. ⌜ r ≡ pcrFlag (now (packet .entry)) ⌝ }
 {
     adaptation_flags(packet) / 16 % 2 == 1

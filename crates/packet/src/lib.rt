@@ -8,6 +8,7 @@ pub use counter::Counted;
 pub use counter::Counter;
 pub use counter::Last;
 pub use counter::Stream;
+pub use counter::same_bytes;
 pub use header::Clock;
 pub use header::Header;
 pub use header::NULL_PID;

@@ -62,7 +62,7 @@ module _ {edition : Edition} {segment : Bytes} {c : Tables} {t : state.Tables} (
     unfolding kindOf
     kind-null e = (
       by-eq _ e refl,
-      ap (lookUp n) (pids-stand (streamsIn (c .pat) (c .pmt) (c .counters)) (t .records) (s .records))
+      ap (lookUp n) (pids-stand segment (streamsIn (c .pat) (c .pmt) (c .counters)) (t .records) (s .records))
           ∙ unrecorded-none n (t .records) (ap (λ (m : ℕ). recordOf m (t .records)) e ∙ h .null),
     )
 

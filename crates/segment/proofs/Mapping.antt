@@ -115,22 +115,23 @@ module _ {edition : Edition} {segment : Bytes} {c : Tables} {t : state.Tables} (
       ap streams.listed (j ∙ ap (λ (x : List ℕ). streamsOf x (p .count)) i ∙ ap
       (λ (x : ProgramMap). streamsOf (map pidOf (x .entries)) (x .count)) (sym (q .2)))
       ∙ streams-named (m .entries) in
-      let two : RecordsStand (c .counters .pat ∷ c .counters .map ∷ []) (t .records) =
-      subst (λ (x : PmtSeen). RecordsStand (streamsIn (pat.First f) x (c .counters)) (t .records)) k
-      (subst (λ (x : PatSeen). RecordsStand (streamsIn x (c .pmt) (c .counters)) (t .records)) e (s .records)) in
-      let more : RecordsStand (streams.listed l) (map named (pids (m .entries))) =
-      subst (λ (x : List Stream). RecordsStand x (map named (pids (m .entries)))) (sym all) (stands-named (pids (m .entries))) in (
+      let two : RecordsStand segment (c .counters .pat ∷ c .counters .map ∷ []) (t .records) =
+      subst (λ (x : PmtSeen). RecordsStand segment (streamsIn (pat.First f) x (c .counters)) (t .records)) k
+      (subst (λ (x : PatSeen). RecordsStand segment (streamsIn x (c .pmt) (c .counters)) (t .records)) e (s .records)) in
+      let more : RecordsStand segment (streams.listed l) (map named (pids (m .entries))) =
+      subst (λ (x : List Stream). RecordsStand segment x (map named (pids (m .entries)))) (sym all)
+      (stands-named segment (pids (m .entries))) in (
         withPmt (record { section = section; says = m }) (map named (pids (m .entries))) t,
         sym (first (go-on m _ (q .1) refl)),
         record {
           pat = s .pat;
           pmt = record { section = lies; says = sym (q .2); one = says _ _ _ _ m (q .1) .one };
           records =
-              subst (λ (x : PatSeen). RecordsStand (streamsIn x (pmt.First (record { at = at; size = length section }))
+              subst (λ (x : PatSeen). RecordsStand segment (streamsIn x (pmt.First (record { at = at; size = length section }))
               (record { pat = c .counters .pat; map = c .counters .map; listed = l })) (t .records ++ map named (pids (m .entries))))
               (sym e)
-              (stands-append (c .counters .pat ∷ c .counters .map ∷ []) (streams.listed l) (t .records) (map named (pids (m .entries))) two
-              more);
+              (stands-append segment (c .counters .pat ∷ c .counters .map ∷ []) (streams.listed l) (t .records)
+              (map named (pids (m .entries))) two more);
           pcr = s .pcr;
         },
       )

@@ -85,7 +85,7 @@ module _ {edition : Edition} {segment : Bytes} {c : Tables} {t : state.Tables} (
 
     pub pat-read : (at : ℕ) (a : PatRead) (p : Program) (m : Stream) → LiesAt segment at section → a ≡ answer.Program p → patSays a ≡
         readPat section
-        → Stands m (named (p .«map_pid»))
+        → Stands segment m (named (p .«map_pid»))
         → Turns outcome.Passed rule
         (TablesStand edition segment
         (record {
@@ -98,18 +98,18 @@ module _ {edition : Edition} {segment : Bytes} {c : Tables} {t : state.Tables} (
     unfolding patSection
     pat-read at a p m lies f g st =
         let none-yet = neither s h e .1 in
-        let one : RecordsStand (c .counters .pat ∷ []) (t .records) =
-        subst (λ (x : PatSeen). RecordsStand (streamsIn x (c .pmt) (c .counters)) (t .records)) e (s .records) in (
+        let one : RecordsStand segment (c .counters .pat ∷ []) (t .records) =
+        subst (λ (x : PatSeen). RecordsStand segment (streamsIn x (c .pmt) (c .counters)) (t .records)) e (s .records) in (
           withPat (record { section = section; says = p }) (named (p .«map_pid») ∷ []) t,
           sym (first (go-on p _ (sym g ∙ ap patSays f) refl)),
           record {
             pat = ap (λ (x : Bytes). some (record { section = x; says = p })) lies;
             pmt = s .pmt;
             records =
-                subst (λ (x : PmtSeen). RecordsStand (streamsIn (pat.First (record { says = p; at = at; size = length section })) x
+                subst (λ (x : PmtSeen). RecordsStand segment (streamsIn (pat.First (record { says = p; at = at; size = length section })) x
                 (record { pat = c .counters .pat; map = m; listed = c .counters .listed })) (t .records ++ (named (p .«map_pid») ∷ [])))
                 (sym none-yet)
-                (stands-append (c .counters .pat ∷ []) (m ∷ []) (t .records) (named (p .«map_pid») ∷ []) one (st, tt));
+                (stands-append segment (c .counters .pat ∷ []) (m ∷ []) (t .records) (named (p .«map_pid») ∷ []) one (st, tt));
             pcr = s .pcr;
           },
         )

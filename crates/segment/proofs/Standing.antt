@@ -29,41 +29,44 @@ pub tables-start : (edition : Edition) (segment : Bytes) → TablesStand edition
 tables-start edition segment = record { pat = refl; pmt = tt; records = ((refl, refl), tt); pcr = refl }
 
 -- ---- records
-pub stands-set : (streams : List Stream) (records : List StreamRecord) (k : ℕ) (s : Stream) (r : StreamRecord) → RecordsStand streams
-    records → Stands s r
-    → RecordsStand (set streams k s) (set records k r)
-stands-set [] [] k s r h e = tt
-stands-set [] (q ∷ records) k s r h e = absurd h
-stands-set (t ∷ streams) [] k s r h e = absurd h
-stands-set (t ∷ streams) (q ∷ records) zero s r h e = (e, h .1)
-stands-set (t ∷ streams) (q ∷ records) (suc k) s r h e = (h .0, stands-set streams records k s r (h .1) e)
+module _ (segment : Bytes) where
+  pub stands-set : (streams : List Stream) (records : List StreamRecord) (k : ℕ) (s : Stream) (r : StreamRecord)
+      → RecordsStand segment streams records → Stands segment s r
+      → RecordsStand segment (set streams k s) (set records k r)
+  stands-set [] [] k s r h e = tt
+  stands-set [] (q ∷ records) k s r h e = absurd h
+  stands-set (t ∷ streams) [] k s r h e = absurd h
+  stands-set (t ∷ streams) (q ∷ records) zero s r h e = (e, h .1)
+  stands-set (t ∷ streams) (q ∷ records) (suc k) s r h e = (h .0, stands-set streams records k s r (h .1) e)
 
-pub stands-at : (streams : List Stream) (records : List StreamRecord) (k : ℕ) → RecordsStand streams records
-    → Stands (getD streams k (namedStream 0)) (getD records k (named 0))
-stands-at [] [] k h = (refl, refl)
-stands-at [] (q ∷ records) k h = absurd h
-stands-at (t ∷ streams) [] k h = absurd h
-stands-at (t ∷ streams) (q ∷ records) zero h = h .0
-stands-at (t ∷ streams) (q ∷ records) (suc k) h = stands-at streams records k (h .1)
+  pub stands-at : (streams : List Stream) (records : List StreamRecord) (k : ℕ) → RecordsStand segment streams records
+      → Stands segment (getD streams k (namedStream 0)) (getD records k (named 0))
+  stands-at [] [] k h = (refl, refl)
+  stands-at [] (q ∷ records) k h = absurd h
+  stands-at (t ∷ streams) [] k h = absurd h
+  stands-at (t ∷ streams) (q ∷ records) zero h = h .0
+  stands-at (t ∷ streams) (q ∷ records) (suc k) h = stands-at streams records k (h .1)
 
-pub stands-append : (a b : List Stream) (x y : List StreamRecord) → RecordsStand a x → RecordsStand b y → RecordsStand (a ++ b) (x ++ y)
-stands-append [] b [] y h k = k
-stands-append [] b (r ∷ x) y h k = absurd h
-stands-append (s ∷ a) b [] y h k = absurd h
-stands-append (s ∷ a) b (r ∷ x) y h k = (h .0, stands-append a b x y (h .1) k)
+  pub stands-append : (a b : List Stream) (x y : List StreamRecord) → RecordsStand segment a x → RecordsStand segment b y
+      → RecordsStand segment (a ++ b) (x ++ y)
+  stands-append [] b [] y h k = k
+  stands-append [] b (r ∷ x) y h k = absurd h
+  stands-append (s ∷ a) b [] y h k = absurd h
+  stands-append (s ∷ a) b (r ∷ x) y h k = (h .0, stands-append a b x y (h .1) k)
 
--- those of PIDs that have just been named
-pub stands-named : (pids : List ℕ) → RecordsStand (map namedStream pids) (map named pids)
-stands-named [] = tt
-stands-named (n ∷ pids) = ((refl, refl), stands-named pids)
+  -- those of PIDs that have just been named
+  pub stands-named : (pids : List ℕ) → RecordsStand segment (map namedStream pids) (map named pids)
+  stands-named [] = tt
+  stands-named (n ∷ pids) = ((refl, refl), stands-named pids)
 
--- the PIDs
-pub pids-stand : (streams : List Stream) (records : List StreamRecord) → RecordsStand streams records → pidsIn streams ≡ pidsOf records
-pids-stand [] [] h = refl
-pids-stand [] (q ∷ records) h = absurd h
-pids-stand (t ∷ streams) [] h = absurd h
-pids-stand (t ∷ streams) (q ∷ records) h =
-    ap (λ (n : ℕ). n ∷ pidsIn streams) (h .0 .0) ∙ ap (λ (l : List ℕ). q .pid ∷ l) (pids-stand streams records (h .1))
+  -- the PIDs
+  pub pids-stand : (streams : List Stream) (records : List StreamRecord) → RecordsStand segment streams records
+      → pidsIn streams ≡ pidsOf records
+  pids-stand [] [] h = refl
+  pids-stand [] (q ∷ records) h = absurd h
+  pids-stand (t ∷ streams) [] h = absurd h
+  pids-stand (t ∷ streams) (q ∷ records) h =
+      ap (λ (n : ℕ). n ∷ pidsIn streams) (h .0 .0) ∙ ap (λ (l : List ℕ). q .pid ∷ l) (pids-stand streams records (h .1))
 
 -- ---- which sections were seen
 module _ (edition : Edition) (segment : Bytes) where
@@ -111,4 +114,4 @@ module _ {edition : Edition} {segment : Bytes} {c : Tables} {t : state.Tables} (
 
     -- the PIDs of the code's records are those that the sections name
     pub named-stand : pidsIn (streamsIn (c .pat) (c .pmt) (c .counters)) ≡ namedPids (t .pat) (t .pmt)
-    named-stand = pids-stand (streamsIn (c .pat) (c .pmt) (c .counters)) (t .records) (s .records) ∙ h .pids
+    named-stand = pids-stand segment (streamsIn (c .pat) (c .pmt) (c .counters)) (t .records) (s .records) ∙ h .pids

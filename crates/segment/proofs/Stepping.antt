@@ -2,7 +2,7 @@
 use Prim.Native.Nat.{ℕ, _+_, _-_, _*_, _≤_}
 use mathlib.Core.Bool.{Bool, true, false}
 use mathlib.Core.Path.{_≡_, refl, sym, ap, ap₂, subst, _∙_}
-use mathlib.Core.List.{[]}
+use mathlib.Core.List.{List, []}
 use native.Mathlib.Omega.{arith}
 use borrow.Author.Tests.{ltb-true, ltb-false}
 use lib.Dec.{ltb}
@@ -19,13 +19,15 @@ use Rattle.packet.specs.declared.header.Header.{Header}
 use Rattle.packet.specs.declared.header.PacketRead.{PacketRead}
 use Rattle.packet.specs.declared.header.PacketRead.the-variants as answer
 use Rattle.packet.specs.Header.{pid, fields, headerOf, packetSays, hasPayload, payload, payloadUnitStartIndicator}
+use Rattle.packet.specs.Streams.{lookUp, pidsIn}
 use Rattle.packet.proofs.Headers.{payload-from, passed-fields}
 use Rattle.segment_rules.specs.State as state
 use Rattle.segment_rules.specs.State.{State, kindOf, withTables}
-use Rattle.segment_rules.specs.Rules.{Rooms, inSequence, onTables, sectionRead, isAv1, clocked, checked, rules25to28, pesRules, after24, packetRules}
+use Rattle.segment_rules.specs.Rules.{Rooms, Rule, inSequence, onTables, sectionRead, isAv1, clocked, checked, rules25to28, pesRules}
+use Rattle.segment_rules.specs.Rules.{after24, isRepeat, unlessRepeat, packetRules}
 use Rattle.segment_rules.specs.Check.{Outputs, roomsOf}
 use Rattle.segment_rules.specs.Named.{Named}
-use Rattle.segment_rules.proofs.Sequence.{bind-unit, bind-same, up-to-24, not-av1, no-payload}
+use Rattle.segment_rules.proofs.Sequence.{bind-unit, bind-same, up-to-24, not-av1, no-payload, not-repeated, repeated, either-way}
 use Rattle.segment_rules.proofs.Keeping.{Holds}
 use Rattle.segment_rules.proofs.Naming.{checked-named, clocked-named}
 use Rattle.segment.specs.declared.state.Kind.{Kind}
@@ -36,7 +38,10 @@ use Rattle.segment.specs.declared.tables.TablesTurn.{TablesTurn}
 use Rattle.segment.specs.declared.extraction.Extraction.{Extraction}
 use Rattle.segment.specs.declared.extraction.ExtractionTurn.{ExtractionTurn}
 use Rattle.segment.specs.declared.packets.Stepped.{Stepped}
-use Rattle.segment.specs.Parts.{Turns, placedAt, LiesAt, TablesStand, CarriesOut, kindSays, UnitsStand, PesTurn, packetAt, StateStands}
+use Rattle.segment.specs.Parts.{Turns, placedAt, recordIn, lastRepeated, streamsIn, LiesAt, packetAt, TablesStand, CarriesOut}
+use Rattle.segment.specs.Parts.{kindSays, SlotOf, UnitsStand, PesTurn, StateStands}
+use Rattle.segment.proofs.Standing.{pids-stand}
+use Rattle.segment.proofs.Counting.{kind-repeats, kept-pids}
 use Rattle.segment.proofs.Turning.{turn-refused, refused-turn, passed-turn, turn-at, turn-as, turn-also, turn-then}
 
 -- ---- where the payload lies
@@ -125,9 +130,9 @@ module _ (edition : Edition) (rooms : Rooms) (i : ℕ) (p : Bytes) where
 
   -- a packet that passed 21, 22 and 23: its PCR and its counter, then what it carries
   pub two-parts : (k : state.Kind) (st : State) (h : Header) → headerOf p ≡ passed h → packetRules edition rooms i p k st
-      ≡ (onTables (λ t. checked i p (clocked i p t)) st >>= inSequence (after24 edition rooms i p k))
+      ≡ (onTables (λ t. checked i p (clocked i p t)) st >>= unlessRepeat p (inSequence (after24 edition rooms i p k)))
   unfolding packetRules _>>_ atPlace
-  two-parts k st h e = ap (λ (v : Verdict State). v >>= inSequence (after24 edition rooms i p k)) (up-to-24 i p st ∙ rw e)
+  two-parts k st h e = ap (λ (v : Verdict State). v >>= unlessRepeat p (inSequence (after24 edition rooms i p k))) (up-to-24 i p st ∙ rw e)
 
 module _ {edition : Edition} {segment : Bytes} {before now : Outputs} {c : Tables} {e : Extraction} {st : State}
     (s : StateStands edition segment before now c e st)
@@ -174,13 +179,16 @@ module _ {edition : Edition} {segment : Bytes} {before now : Outputs} {c : Table
   abbrev whole : Verdict State
   whole = packetRules edition (roomsOf before) i p (kindSays k) st
 
+  -- what follows 24, but for a repeat
+  abbrev carries : Rule
+  carries = inSequence (after24 edition (roomsOf before) i p (kindSays k))
+
   counted-then : (v : Verdict state.Tables) → checked i p (clocked i p (st .tables)) ≡ v
-      → whole ≡ ((v >>= λ t. passed (withTables t st)) >>= inSequence (after24 edition (roomsOf before) i p (kindSays k)))
+      → whole ≡ ((v >>= λ t. passed (withTables t st)) >>= unlessRepeat p carries)
   unfolding onTables
   counted-then v f =
       two-parts edition (roomsOf before) i p (kindSays k) st h right
-      ∙ ap (λ (x : Verdict state.Tables). (x >>= λ t. passed (withTables t st)) >>= inSequence
-      (after24 edition (roomsOf before) i p (kindSays k))) f
+      ∙ ap (λ (x : Verdict state.Tables). (x >>= λ t. passed (withTables t st)) >>= unlessRepeat p carries) f
 
   -- 24
   pub counter-wrong : (q : Refused) → r .outcome ≡ outcome.Refused q → (S : State → Type 0) → Turns (r .outcome) whole S
@@ -202,7 +210,20 @@ module _ {edition : Edition} {segment : Bytes} {before now : Outputs} {c : Table
     pub next-stands : StateStands edition segment before now (r .tables) e next
     next-stands = record { tables = after-24 .2; extraction = s .extraction }
 
-    goes : whole ≡ inSequence (after24 edition (roomsOf before) i p (kindSays k)) next
+    -- the code's record of the packet's kind says whether it is a repeat
+    pub next-repeats : SlotOf c (h .pid) k
+        → lastRepeated (recordIn k (r .tables .counters) .last) ≡ isRepeat p next
+    next-repeats l =
+        let t = after-24 .0 in
+        let u = r .tables in
+        let kept : pidsIn (streamsIn (u .pat) (u .pmt) (u .counters)) ≡ pidsIn (streamsIn (c .pat) (c .pmt) (c .counters)) =
+        pids-stand segment (streamsIn (u .pat) (u .pmt) (u .counters)) (t .records) (after-24 .2 .records)
+        ∙ kept-pids i p (clocked i p (st .tables)) t (after-24 .1)
+        ∙ sym (pids-stand segment (streamsIn (c .pat) (c .pmt) (c .counters)) (st .tables .records) (s .tables .records)) in
+        kind-repeats segment k (u .pat) (u .pmt) (u .counters) (t .records) (after-24 .2 .records) (pid p)
+        (ap₂ (λ (x : Header) (y : List ℕ). lookUp (x .pid) y) (sym (passed-fields p h right)) kept ∙ l)
+
+    goes : whole ≡ unlessRepeat p carries next
     unfolding _>>=_
     goes = counted-then (passed (after-24 .0)) (after-24 .1)
 
@@ -210,12 +231,17 @@ module _ {edition : Edition} {segment : Bytes} {before now : Outputs} {c : Table
     pub no-content : hasPayload p ≡ false → Turns (r .outcome) whole (StateStands edition segment before now (r .tables) e)
     no-content b =
         subst (λ (x : Outcome). Turns x whole (StateStands edition segment before now (r .tables) e)) (sym f)
-        (next, goes ∙ content-none edition (roomsOf before) i p (kindSays k) next b, next-stands)
+        (next, goes ∙ either-way p carries next (content-none edition (roomsOf before) i p (kindSays k) next b), next-stands)
+
+    -- nor is there for a repeat
+    pub no-more : isRepeat p next ≡ true → Turns (r .outcome) whole (StateStands edition segment before now (r .tables) e)
+    no-more b =
+        subst (λ (x : Outcome). Turns x whole (StateStands edition segment before now (r .tables) e)) (sym f)
+        (next, goes ∙ repeated p carries next b, next-stands)
 
     -- what it carries
-    pub with-content : (o : Outcome) (S : State → Type 0) → Turns o (inSequence (after24 edition (roomsOf before) i p (kindSays k)) next) S
-        → Turns o whole S
-    with-content o S t = turn-as _ S whole o (sym goes) t
+    pub with-content : isRepeat p next ≡ false → (o : Outcome) (S : State → Type 0) → Turns o (carries next) S → Turns o whole S
+    with-content b o S t = turn-as _ S whole o (sym (goes ∙ not-repeated p carries next b)) t
 
 -- ---- a packet
 module _ (edition : Edition) (rooms : Rooms) (segment : Bytes) (i : ℕ) (st : State) (r : PacketRead) (q : Bytes)
@@ -227,7 +253,8 @@ module _ (edition : Edition) (rooms : Rooms) (segment : Bytes) (i : ℕ) (st : S
   unfolding packetRules atPlace _>>_ _>>=_
   header-refused k x f o g S =
       turn-refused (packetRules edition rooms i (packetAt segment i) k st) S o (record { why = x .why; place = i }) g
-      (sym (ap (λ (v : Verdict State). v >>= inSequence (after24 edition rooms i (packetAt segment i) k))
+      (sym (ap (λ (v : Verdict State). v >>= unlessRepeat (packetAt segment i)
+      (inSequence (after24 edition rooms i (packetAt segment i) k)))
       (up-to-24 i (packetAt segment i) st
       ∙ ap (λ (v : Verdict Header). atPlace i v >> onTables (λ t. checked i (packetAt segment i) (clocked i (packetAt segment i) t)) st)
       (ap headerOf (sym same) ∙ sym says ∙ ap packetSays f))))

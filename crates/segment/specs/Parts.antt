@@ -1,7 +1,7 @@
 -- What the promises of private functions cite; no public promise does: what the code's state stands for. No rule is
 -- said again here: a private function is promised by the rules of segment_rules that it carries out. Assumes nothing.
 use Prim.Native.Nat.{ℕ, suc, _+_, _*_, _≤_, _<_}
-use mathlib.Core.Bool.{Bool, true}
+use mathlib.Core.Bool.{Bool, true, false}
 use mathlib.Core.Path.{_≡_}
 use mathlib.Core.List.{List, [], _∷_}
 use mathlib.Core.Option.{Option, none, some}
@@ -16,12 +16,14 @@ use Rattle.packet.specs.declared.header.Header.{Header}
 use Rattle.packet.specs.declared.header.Clock.{Clock}
 use Rattle.packet.specs.declared.header.Clock.the-variants as clock
 use Rattle.packet.specs.declared.counter.Stream.{Stream}
+use Rattle.packet.specs.declared.counter.Last.{Last}
+use Rattle.packet.specs.declared.counter.Last.the-variants as last
 use Rattle.packet.specs.declared.counter.Counted.{Counted}
 use Rattle.packet.specs.declared.counter.Counter.{Counter}
 use Rattle.packet.specs.declared.counter.Counter.the-variants as counter
 use Rattle.packet.specs.declared.streams.Slot.{Slot}
 use Rattle.packet.specs.declared.streams.Slot.the-variants as slots
-use Rattle.packet.specs.Counter.{StreamRecord, namedStream, counted, check, Stands}
+use Rattle.packet.specs.Counter.{StreamRecord, namedStream, check, Stands, CountedAs}
 use Rattle.packet.specs.Streams.{listed, lookUp, pidsIn, noStreams, recordAt, putBack}
 use Rattle.pmt.specs.Pmt.{av1Entry}
 use Rattle.pmt.specs.Answer.{mapOf, noMap}
@@ -93,8 +95,8 @@ withListedRecord c i s = record { pat = c .pat; map = c .map; listed = putBack (
 -- a turn is the check of a packet by this record, which is put back
 abbrev pub RecordChecked : Stream → (Stream → Counters) → Counted → CountersTurn → Type 0
 RecordChecked s put packet t =
-    (r : StreamRecord) (p : Bytes) → Stands s r → packet ≡ counted (fields p)
-    → Turns (t .outcome) (check r p) (λ r′. (s′ : Stream) × (t .counters ≡ put s′) × Stands s′ r′)
+    (segment : Bytes) (r : StreamRecord) (p : Bytes) → Stands segment s r → CountedAs segment r p packet
+    → Turns (t .outcome) (check r p) (λ r′. (s′ : Stream) × (t .counters ≡ put s′) × Stands segment s′ r′)
 
 -- by the record of the kind's slot, if it has one
 abbrev pub CountersChecked : Kind → Counters → Counted → CountersTurn → Type 0
@@ -105,6 +107,20 @@ CountersChecked (slot.Av1 i) c packet t = RecordChecked (recordAt (c .listed) i)
 CountersChecked (slot.Listed i) c packet t = RecordChecked (recordAt (c .listed) i) (withListedRecord c i) packet t
 CountersChecked slot.Unlisted c packet t = t ≡ record { counters = c; outcome = Passed }
 
+-- the record of the kind's slot; of a kind that has none, that of PID 0 as if just named
+abbrev pub recordIn : Kind → Counters → Stream
+recordIn slot.Null c = namedStream 0
+recordIn slot.Pat c = c .pat
+recordIn slot.Map c = c .map
+recordIn (slot.Av1 i) c = recordAt (c .listed) i
+recordIn (slot.Listed i) c = recordAt (c .listed) i
+recordIn slot.Unlisted c = namedStream 0
+
+-- the code's record says that the last packet was a repeat
+abbrev pub lastRepeated : Last → Bool
+lastRepeated last.Unseen = false
+lastRepeated (last.Packet counter at repeat) = repeat
+
 -- the code's records in the order of the definitions': PID 0, the map PID from the PAT on, the listed PIDs from the
 -- PMT on
 abbrev pub streamsIn : PatSeen → PmtSeen → Counters → List Stream
@@ -112,17 +128,21 @@ streamsIn pat.None q c = c .pat ∷ []
 streamsIn (pat.First f) pmt.None c = c .pat ∷ c .map ∷ []
 streamsIn (pat.First f) (pmt.First g) c = c .pat ∷ c .map ∷ listed (c .listed)
 
--- they stand for the definitions'
-abbrev pub RecordsStand : List Stream → List StreamRecord → Type 0
-RecordsStand [] [] = Unit {0}
-RecordsStand [] (r ∷ records) = ⊥
-RecordsStand (s ∷ streams) [] = ⊥
-RecordsStand (s ∷ streams) (r ∷ records) = Stands s r × RecordsStand streams records
+-- they stand for the definitions' in a segment
+abbrev pub RecordsStand : Bytes → List Stream → List StreamRecord → Type 0
+RecordsStand segment [] [] = Unit {0}
+RecordsStand segment [] (r ∷ records) = ⊥
+RecordsStand segment (s ∷ streams) [] = ⊥
+RecordsStand segment (s ∷ streams) (r ∷ records) = Stands segment s r × RecordsStand segment streams records
 
 -- ---- the tables
 -- the section of so many bytes at a place of the segment
 abbrev pub sectionAt : Bytes → ℕ → ℕ → Bytes
 sectionAt segment at size = take size (drop at segment)
+
+-- the packet with this index
+abbrev pub packetAt : Bytes → ℕ → Bytes
+packetAt segment i = sectionAt segment (i * packetLength) packetLength
 
 -- these bytes lie at a place of the segment
 abbrev pub LiesAt : Bytes → ℕ → Bytes → Type 0
@@ -148,7 +168,7 @@ PmtSeenStands edition segment (pmt.First f) map (some m) = PmtStands edition seg
 pub record TablesStand (edition : Edition) (segment : Bytes) (c : Tables) (t : state.Tables) : Type 0 where
   pub pat : t .pat ≡ patOf segment (c .pat)
   pub pmt : PmtSeenStands edition segment (c .pmt) (c .map) (t .pmt)
-  pub records : RecordsStand (streamsIn (c .pat) (c .pmt) (c .counters)) (t .records)
+  pub records : RecordsStand segment (streamsIn (c .pat) (c .pmt) (c .counters)) (t .records)
   pub pcr : c .pcr ≡ t .pcr
 
 abbrev pub freshCounters : Counters
@@ -203,9 +223,15 @@ PcrTurn edition c h r =
     (segment p : Bytes) (t : state.Tables) → h ≡ fields p → TablesStand edition segment c t
     → r ≡ lastPcr (t .pcr) (countingPcr (t .pmt) p)
 
-abbrev pub CounterTurn : Edition → Packet → Tables → TablesTurn → Type 0
-CounterTurn edition k c r =
-    (segment p : Bytes) → k .header ≡ fields p → SlotOf c (k .header .pid) (k .kind)
+-- what the rule of the counter looks at in a packet of the segment, whose PID has this record
+abbrev pub CountedTurn : Bytes → Packet → Counters → Counted → Type 0
+CountedTurn segment k c r =
+    (p : Bytes) (t : StreamRecord) → p ≡ packetAt segment (k .index) → k .header ≡ fields p
+    → Stands segment (recordIn (k .kind) c) t → CountedAs segment t p r
+
+abbrev pub CounterTurn : Edition → Bytes → Packet → Tables → TablesTurn → Type 0
+CounterTurn edition segment k c r =
+    (p : Bytes) → p ≡ packetAt segment (k .index) → k .header ≡ fields p → SlotOf c (k .header .pid) (k .kind)
     → CarriesOut edition segment c r (λ t. counterChecked (k .index) p (clocked (k .index) p t))
 
 -- ---- the units
@@ -312,10 +338,6 @@ module _ (edition : Edition) where
       → PesTurn before (pesRules edition (roomsOf before) i p state.Av1) st r after
 
 -- ---- both
--- the packet with this index
-abbrev pub packetAt : Bytes → ℕ → Bytes
-packetAt segment i = sectionAt segment (i * packetLength) packetLength
-
 pub record StateStands (edition : Edition) (segment : Bytes) (before now : Outputs) (c : Tables) (e : Extraction)
     (st : State) : Type 0 where
   pub tables : TablesStand edition segment c (st .tables)

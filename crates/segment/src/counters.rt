@@ -1,5 +1,8 @@
 // The counters of PID 0, the map PID and the listed PIDs.
 ghost use mathlib.Core.Path.{_≡_};
+ghost use Prim.Native.Nat.{_+_, _*_, _≤_};
+ghost use lib.ListN.{length};
+ghost use Rattle.packet.specs.Counter.{StreamRecord, equalsLast, Stands};
 ghost use Rattle.packet.specs.Streams.{recordAt};
 ghost use Rattle.segment.specs.Parts.{
   freshCounters,
@@ -9,13 +12,23 @@ ghost use Rattle.segment.specs.Parts.{
   withListedRecord,
   RecordChecked,
   CountersChecked,
+  recordIn,
+  lastRepeated,
+  CountedTurn,
 };
 use crate::state::Kind;
 use crate::state::Outcome;
+use crate::state::Packet;
+use lists::part;
 use packet::Counted;
 use packet::Counter;
+use packet::Last;
 use packet::Stream;
 use packet::Streams;
+use packet::same_bytes;
+
+// The length of a packet.
+const PACKET_LENGTH: usize = 188;
 
 // The record of PID 0; of the map PID, from the PAT on; of the listed PIDs, from the PMT on.
 pub(crate) struct Counters {
@@ -52,7 +65,71 @@ fn outcome_of(verdict: Counter) -> Outcome
     }
 }
 
+// All bytes of a packet but those of the PCR equal those of its PID's last packet. Where a packet with payload follows
+// the last one, its counter is another, and the comparison ends at the fourth byte.
+fn equals_last(segment: &[u8], stream: Stream, packet: &[u8]) -> bool
+    ensures { λ r. ⌜ ((t : StreamRecord) → Stands (now (segment .entry)) stream t →
+        r ≡ equalsLast (t .last) (now (packet .entry))) ⌝ }
+{
+    let last = stream.last;
+    let Last::Packet {
+        counter: _,
+        at,
+        repeat: _,
+    } = last
+    else {
+        return false;
+    };
+    same_bytes(part(segment, at, PACKET_LENGTH), packet)
+}
+
 impl Counters {
+    // The record of the PID of this kind.
+    fn record_of(self, kind: Kind) -> Stream
+        ensures { λ r. ⌜ r ≡ recordIn kind self ⌝ }
+    {
+        let pat = self.pat;
+        let map = self.map;
+        let listed = self.listed;
+        match kind {
+            Kind::Null => Stream::named(0),
+            Kind::Pat => pat,
+            Kind::Map => map,
+            Kind::Av1(slot) => listed.at(slot),
+            Kind::Listed(slot) => listed.at(slot),
+            Kind::Unlisted => Stream::named(0),
+        }
+    }
+
+    // The last packet of the PID of this kind was a repeat.
+    pub(crate) fn repeats(self, kind: Kind) -> bool
+        ensures { λ r. ⌜ r ≡ lastRepeated (recordIn kind self .last) ⌝ }
+    {
+        let stream = self.record_of(kind);
+        let last = stream.last;
+        match last {
+            Last::Unseen => false,
+            Last::Packet {
+                counter: _,
+                at: _,
+                repeat,
+            } => repeat,
+        }
+    }
+
+    // What the rule of the counter looks at in a packet of the segment.
+    pub(crate) fn counted(self, segment: &[u8], packet: Packet) -> Counted
+        requires { ⌜ packet .index * 188 + 188 ≤ length (now segment) ⌝ }
+        ensures { λ r. ⌜ CountedTurn (now (segment .entry)) packet self r ⌝ }
+    {
+        let header = packet.header;
+        let kind = packet.kind;
+        let at = packet.index * PACKET_LENGTH;
+        let stream = self.record_of(kind);
+        let equal = equals_last(segment, stream, part(segment, at, PACKET_LENGTH));
+        header.counted(at, equal)
+    }
+
     fn check_pat(self, packet: Counted) -> CountersTurn
         ensures { λ r. ⌜ RecordChecked (self .pat) (withPatRecord self) packet r ⌝ }
     {

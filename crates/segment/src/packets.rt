@@ -150,7 +150,7 @@ fn take_content(
     }
 }
 
-// A packet that passed 21, 22 and 23: its PCR and its counter, then what it carries.
+// A packet that passed 21, 22 and 23: its PCR and its counter, then what it carries, but that of a repeat.
 fn step_read(
     segment: &[u8],
     packet: Packet,
@@ -169,7 +169,7 @@ fn step_read(
 {
     let header = packet.header;
     let kind = packet.kind;
-    let counted = check_counter(packet, tables);
+    let counted = check_counter(segment, packet, tables);
     let outcome = counted.outcome;
     let checked = counted.tables;
     let Outcome::Passed = outcome else {
@@ -181,6 +181,15 @@ fn step_read(
         };
     };
     if !header.has_payload {
+        return Stepped {
+            tables: checked,
+            extraction,
+            kind,
+            outcome,
+        };
+    }
+    let counters = checked.counters;
+    if counters.repeats(kind) {
         return Stepped {
             tables: checked,
             extraction,

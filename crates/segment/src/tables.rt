@@ -1,7 +1,8 @@
 // What a packet's PID is, and what its PCR and its counter do to the tables.
 ghost use mathlib.Core.Path.{_≡_};
 ghost use Rattle.pmt.specs.Answer.{noEntry};
-ghost use lib.ListN.{getD};
+ghost use Prim.Native.Nat.{_+_, _*_, _≤_};
+ghost use lib.ListN.{getD, length};
 ghost use Rattle.descriptor.specs.Edition.{current};
 ghost use Rattle.segment.specs.Parts.{freshTables, KindTurn, ListedTurn, PcrTurn, CounterTurn};
 ghost use Rattle.segment_rules.specs.Rules.{isPcr};
@@ -150,14 +151,15 @@ fn last_pcr(tables: Tables, header: Header) -> Clock
 }
 
 // The packet's PCR counts, and its counter is checked; 24.
-pub(crate) fn check_counter(packet: Packet, tables: Tables) -> TablesTurn
-    ensures { λ r. ⌜ CounterTurn current packet tables r ⌝ }
+pub(crate) fn check_counter(segment: &[u8], packet: Packet, tables: Tables) -> TablesTurn
+    requires { ⌜ packet .index * 188 + 188 ≤ length (now segment) ⌝ }
+    ensures { λ r. ⌜ CounterTurn current (now (segment .entry)) packet tables r ⌝ }
 {
     let header = packet.header;
     let pcr = last_pcr(tables, header);
     let old = tables.counters;
     let kind = packet.kind;
-    let checked = old.check(kind, header.counted());
+    let checked = old.check(kind, old.counted(segment, packet));
     let pat = tables.pat;
     let pmt = tables.pmt;
     let map = tables.map;

@@ -16,8 +16,8 @@ use Rattle.packet.specs.Counter.{recordOf}
 use Rattle.packet.proofs.Counters.{unrecorded}
 use Rattle.segment_rules.specs.State.{FirstPmt, Tables, State, Kind, Null, Pat, Map, Av1, Listed, Unlisted, withTables, withPcr}
 use Rattle.segment_rules.specs.Rules.{Rooms, inSequence, onTables, countingPcr, lastPcr, sectionRead, isAv1}
-use Rattle.segment_rules.specs.Rules.{clocked, checked, rules25to28, pesRules, after24, packetRules}
-use Rattle.segment_rules.proofs.Sequence.{up-to-24, not-av1, no-payload, bind-unit, bind-same}
+use Rattle.segment_rules.specs.Rules.{clocked, checked, rules25to28, pesRules, after24, unlessRepeat, packetRules}
+use Rattle.segment_rules.proofs.Sequence.{up-to-24, not-av1, no-payload, bind-unit, bind-same, either-way, rest-same}
 
 -- the packet's PCR and its counter
 abbrev pub counted : ℕ → Bytes → State → Verdict State
@@ -25,18 +25,21 @@ counted i p st = onTables (λ t. checked i p (clocked i p t)) st
 
 module _ (edition : Edition) (rooms : Rooms) (i : ℕ) (p : Bytes) (st : State) (h : Header) (passes : headerOf p ≡ passed h) where
   -- first these, then what the PID asks for
-  two-parts : (kind : Kind) → packetRules edition rooms i p kind st ≡ (counted i p st >>= inSequence (after24 edition rooms i p kind))
+  two-parts : (kind : Kind) → packetRules edition rooms i p kind st
+      ≡ (counted i p st >>= unlessRepeat p (inSequence (after24 edition rooms i p kind)))
   unfolding packetRules _>>_ atPlace
-  two-parts kind = ap (λ (v : Verdict State). v >>= inSequence (after24 edition rooms i p kind)) (up-to-24 i p st ∙ rw passes)
+  two-parts kind =
+      ap (λ (v : Verdict State). v >>= unlessRepeat p (inSequence (after24 edition rooms i p kind))) (up-to-24 i p st ∙ rw passes)
 
   -- a packet that is not of the AV1 PID has a section at most
   without-av1 : (kind : Kind) → isAv1 kind ≡ false
-      → packetRules edition rooms i p kind st ≡ (counted i p st >>= rules25to28 i p kind edition)
+      → packetRules edition rooms i p kind st ≡ (counted i p st >>= unlessRepeat p (rules25to28 i p kind edition))
   unfolding inSequence
   without-av1 kind e =
       two-parts kind
       ∙ bind-same (counted i p st) _ _
-      (λ st1. bind-same (rules25to28 i p kind edition st1) _ passed (λ st2. not-av1 edition rooms i p st2 kind e) ∙ bind-unit _)
+      (λ st1. rest-same p _ _ st1
+      (bind-same (rules25to28 i p kind edition st1) _ passed (λ st2. not-av1 edition rooms i p st2 kind e) ∙ bind-unit _))
 
   -- one on neither PID 0 nor the map PID has none
   no-section : (kind : Kind) → ((b : Bool) (w : Bytes) (t : Tables) → sectionRead edition kind b w t ≡ passed t) → (st1 : State)
@@ -52,7 +55,9 @@ module _ (edition : Edition) (rooms : Rooms) (i : ℕ) (p : Bytes) (st : State) 
 
   counter-alone : (kind : Kind) → isAv1 kind ≡ false → ((b : Bool) (w : Bytes) (t : Tables) → sectionRead edition kind b w t ≡ passed t)
       → packetRules edition rooms i p kind st ≡ counted i p st
-  counter-alone kind e silent = without-av1 kind e ∙ bind-same (counted i p st) _ passed (no-section kind silent)
+  counter-alone kind e silent =
+      without-av1 kind e
+      ∙ bind-same (counted i p st) _ passed (λ st1. either-way p _ st1 (no-section kind silent st1))
       ∙ bind-unit (counted i p st)
 
   -- ---- null packets, unlisted and other listed PIDs
@@ -93,24 +98,27 @@ module _ (edition : Edition) (rooms : Rooms) (i : ℕ) (p : Bytes) (st : State) 
           ∙ either (eqb (pid p) (pmt .says .pcrPid))
 
   -- ---- PID 0 and the map PID
-  -- with payload: its PCR, its counter, its section
+  -- with payload: its PCR, its counter, and its section where it is no repeat
   abbrev sectionOf : Kind → Verdict State
-  sectionOf kind = counted i p st >>= onTables (λ t. atPlace i (sectionRead edition kind (payloadUnitStartIndicator p) (payload p) t))
+  sectionOf kind =
+      counted i p st
+      >>= unlessRepeat p (onTables (λ t. atPlace i (sectionRead edition kind (payloadUnitStartIndicator p) (payload p) t)))
 
   module _ (carries : hasPayload p ≡ true) where
     pub pat-packet : packetRules edition rooms i p Pat st ≡ sectionOf Pat
     unfolding rules25to28 pick
-    pat-packet = without-av1 Pat refl ∙ rw carries
+    pat-packet = without-av1 Pat refl ∙ bind-same (counted i p st) _ _ (λ st1. rest-same p _ _ st1 (rw carries))
 
     pub map-packet : packetRules edition rooms i p Map st ≡ sectionOf Map
     unfolding rules25to28 pick
-    map-packet = without-av1 Map refl ∙ rw carries
+    map-packet = without-av1 Map refl ∙ bind-same (counted i p st) _ _ (λ st1. rest-same p _ _ st1 (rw carries))
 
   -- without: its PCR and its counter
   module _ (empty : hasPayload p ≡ false) where
     emptied : (kind : Kind) → isAv1 kind ≡ false → packetRules edition rooms i p kind st ≡ counted i p st
     unfolding rules25to28 onTables pick _>>=_
-    emptied kind e = without-av1 kind e ∙ bind-same (counted i p st) _ passed (λ st1. rw empty) ∙ bind-unit (counted i p st)
+    emptied kind e =
+        without-av1 kind e ∙ bind-same (counted i p st) _ passed (λ st1. either-way p _ st1 (rw empty)) ∙ bind-unit (counted i p st)
 
     pub pat-empty : packetRules edition rooms i p Pat st ≡ counted i p st
     pat-empty = emptied Pat refl
@@ -118,13 +126,18 @@ module _ (edition : Edition) (rooms : Rooms) (i : ℕ) (p : Bytes) (st : State) 
     pub map-empty : packetRules edition rooms i p Map st ≡ counted i p st
     map-empty = emptied Map refl
 
-  -- ---- the AV1 PID: its PCR and its counter, then the rules of a PES (`starts`, `opens` and `adds` of Sequence.antt say what these are)
-  pub av1-packet : packetRules edition rooms i p Av1 st ≡ (counted i p st >>= inSequence (pesRules edition rooms i p Av1))
+  -- ---- the AV1 PID: its PCR and its counter, then, where it is no repeat, the rules of a PES (`starts`, `opens` and `adds` of
+  -- Sequence.antt say what these are)
+  pub av1-packet : packetRules edition rooms i p Av1 st ≡ (counted i p st >>= unlessRepeat p (inSequence (pesRules edition rooms i p Av1)))
   unfolding inSequence sectionRead _>>=_
   av1-packet = two-parts Av1
       ∙ bind-same (counted i p st) _ _
-      (λ st1. ap (λ (v : Verdict State). v >>= inSequence (pesRules edition rooms i p Av1)) (no-section Av1 (λ _ _ _. refl) st1))
+      (λ st1. rest-same p _ _ st1
+      (ap (λ (v : Verdict State). v >>= inSequence (pesRules edition rooms i p Av1)) (no-section Av1 (λ _ _ _. refl) st1)))
 
   -- without payload: its PCR and its counter alone
   pub av1-empty : hasPayload p ≡ false → packetRules edition rooms i p Av1 st ≡ counted i p st
-  av1-empty e = av1-packet ∙ bind-same (counted i p st) _ passed (λ st1. no-payload edition rooms i p st1 e) ∙ bind-unit (counted i p st)
+  av1-empty e =
+      av1-packet
+      ∙ bind-same (counted i p st) _ passed (λ st1. either-way p _ st1 (no-payload edition rooms i p st1 e))
+      ∙ bind-unit (counted i p st)

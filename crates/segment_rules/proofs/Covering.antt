@@ -13,7 +13,7 @@ use Rattle.lists.specs.Lists.{Bytes, pick}
 use Rattle.lists.proofs.Tests.{case, or-neither}
 use Rattle.refusal.specs.Verdict.{Verdict, passed, _>>_, given, atPlace}
 use Rattle.refusal.proofs.Verdicts.{passed-same, passed-then, given-passed, at-passed}
-use Rattle.refusal.proofs.Refusing.{refuses-given, refuses-at, refuses-then, refuses-bind}
+use Rattle.refusal.proofs.Refusing.{refuses-given, refuses-at, refuses-pick, refuses-then, refuses-bind}
 use Rattle.refusal.proofs.Turns.{Without}
 use Rattle.descriptor.specs.Edition.{Edition}
 use Rattle.packet.specs.Header.{pid, packetLength, packets, hasPayload, headerLength, payload, payloadUnitStartIndicator}
@@ -22,7 +22,7 @@ use Rattle.pes.specs.Pes.{headerSize, pesData}
 use Rattle.segment_rules.specs.State.{OpenPes, Extraction, State, Kind, Null, Pat, Map, Av1, Listed, Unlisted, kindOf}
 use Rattle.segment_rules.specs.Rules.{Rooms, inSequence, onUnits, openBytes, carriedUnits}
 use Rattle.segment_rules.specs.Rules.{mostUnits, withNext, closePes}
-use Rattle.segment_rules.specs.Rules.{rules25to28, pesRules, packetRules}
+use Rattle.segment_rules.specs.Rules.{rules25to28, pesRules, unlessRepeat, packetRules}
 use Rattle.segment_rules.specs.Check.{Progress, segmentLengthWrong, rule20, step, start, checkSegment}
 use Rattle.segment_rules.proofs.Sequence.{not-av1, no-payload, starts, opens, adds}
 use Rattle.segment_rules.proofs.Moving.{Moved, stays, starting, adding}
@@ -131,14 +131,15 @@ module _ (edition : Edition) (rooms : Rooms) (lens : mostUnits ≤ rooms .lens) 
     -- the whole packet
     packet-apart : (kind : Kind) (st : State) → soFar (st .extraction) + length p ≤ rooms .bytes
         → Without 8 (packetRules edition rooms i p kind st)
-    unfolding packetRules inSequence rules25to28
+    unfolding packetRules unlessRepeat inSequence rules25to28
     packet-apart kind st room =
         refuses-bind _ _ _ (to-24-apart 8 apart i p st)
-        (λ st1 e1. refuses-bind _ _ _ (sections-apart 8 apart edition i p kind st1)
+        (λ st1 e1. refuses-pick _ _ _ _ tt
+        (refuses-bind _ _ _ (sections-apart 8 apart edition i p kind st1)
         (λ st2 e2. pes-apart st2
         (let at1 : st1 .extraction ≡ st .extraction = units-after-24 i p st st1 e1 in
         let at2 : st2 .extraction ≡ st1 .extraction = units-after-28 edition i p kind st1 st2 e2 in
-        omega (arith, ap soFar at1, ap soFar at2)) kind))
+        omega (arith, ap soFar at1, ap soFar at2)) kind)))
 
   -- ---- the run
   -- the bytes so far and those of the packets still to come have room

@@ -116,6 +116,16 @@ examples =
           ∷ [];
       answer = 0 ∷ 1 ∷ 0x101 ∷ 1 ∷ 2 ∷ 3 ∷ 2 ∷ 1 ∷ 10 ∷ 10 ∷ 900 ∷ 900 ∷ 1800 ∷ 1350 ∷ [];
     }
+    -- 2026-05: a copy of the PAT, of the PMT and of a PES start
+    ∷ record {
+      packets = patPacket ∷ patPacket ∷ pmtPacket ∷ pmtPacket ∷ clockPacket 7 ∷ pesPacket 8 pes900 ∷ pesPacket 8 pes900 ∷ [];
+      answer = 0 ∷ 1 ∷ 0x101 ∷ 0 ∷ 4 ∷ 3 ∷ 0 ∷ 0 ∷ 10 ∷ 900 ∷ 900 ∷ [];
+    }
+    -- a third copy
+    ∷ record {
+      packets = patPacket ∷ pmtPacket ∷ clockPacket 7 ∷ pesPacket 8 pes900 ∷ pesPacket 8 pes900 ∷ pesPacket 8 pes900 ∷ [];
+      answer = 24 ∷ 5 ∷ [];
+    }
     -- 24: a counter is left out
     ∷ record {
       packets = patPacket ∷ pmtPacket ∷ clockPacket 7 ∷ pesPacket 8 pes900 ∷ pesPacket 10 pes1800 ∷ [];
@@ -130,19 +140,19 @@ examples =
     ∷ []
 
 pub examples-checked : All (λ e. answerOf (checkSegment current rooms (flatten (e .packets))) ≡ e .answer) examples
-unfolding bytesBefore patPacket pmtPacket longPacket clockPacket pesPacket pes900 pes1800 otherPacket examples
-    flatten pick same all any those _>>=_ _>>_ given atPlace inTurn
-    emulation.above3 emulation.forbidden emulation.legal emulation.unescape obu.fixedBytes obu.sizeOf obu.headerWith obu.sizedHeader
-    obu.headerOf obu.judged leb128.lowFirst leb128.lebWithin leb128.inRange leb128.leb128 order.kindOfNumber order.afterFrame order.inTiles
-    order.atFrame order.beforeFrame order.orderRefusal codes.atStartCode codes.split unit.sum tsobu.tsobuRefusal unit.readUnit
-    descriptor.versionWrong descriptor.zerosWrong descriptor.wrong packet.packetsOf packet.adaptationFlags packet.pcr packet.headerLength
-    packet.payload packet.fieldsWrong counter.due counter.counterRight counter.check counter.checkedIn crc.bitStep crc.bitsStep
-    crc.byteStep crc.crcFrom section.misplaced section.fieldsWrong section.crcWrong section.commonWrong pat.programs pat.mapPidInRange
-    pat.oneProgram pat.readPat pmt.descriptorsWithin pmt.pidWrong pmt.entry pmt.entriesAfter pmt.videoWrong pmt.registrationFirst
-    pmt.registrationLater pmt.isAv1 pmt.strayRegistration pmt.oneAv1 pmt.av1Entry pmt.readPmt pes.leastLengthByte pes.timeStampWrong
-    pes.timesWrong pes.headerWrong pes.dts pes.timesOf check.segmentLengthWrong check.accepted check.ending check.step check.run
-    check.checkSegment check.ptsAndDts rules.inSequence rules.onTables rules.onUnits rules.countingPcr rules.laterSection rules.patSection
-    rules.pmtSection rules.sectionRead rules.lengthDiffers rules.closeOpen rules.closeIfOpen rules.rule rules.rule21 rules.rule22
-    rules.rule23 rules.pcrCounts rules.checked rules.rule24 rules.rules25to28 rules.closing rules.rule29 rules.rule30 rules.rule31
-    rules.rule34 rules.rule8 rules.addedTo rules.carried rules.packetRules state.isMapPid state.listedAs state.kindOf state.counting
-examples-checked = (refl, (refl, (refl, (refl, (refl, tt)))))
+unfolding bytesBefore patPacket pmtPacket longPacket clockPacket pesPacket pes900 pes1800 otherPacket examples flatten pick same all any
+    those _>>=_ _>>_ given atPlace inTurn emulation.above3 emulation.forbidden emulation.legal emulation.unescape obu.fixedBytes
+    obu.sizeOf obu.headerWith obu.sizedHeader obu.headerOf obu.judged leb128.lowFirst leb128.lebWithin leb128.inRange leb128.leb128
+    order.kindOfNumber order.afterFrame order.inTiles order.atFrame order.beforeFrame order.orderRefusal codes.atStartCode codes.split
+    unit.sum tsobu.tsobuRefusal unit.readUnit descriptor.versionWrong descriptor.zerosWrong descriptor.wrong packet.packetsOf
+    packet.adaptationFlags packet.pcr packet.headerLength packet.payload packet.fieldsWrong counter.due counter.counterRight
+    counter.withoutPcr counter.copyOf counter.check counter.recordOf counter.checkedIn crc.bitStep crc.bitsStep crc.byteStep crc.crcFrom
+    section.misplaced section.fieldsWrong section.crcWrong section.commonWrong pat.programs pat.mapPidInRange pat.oneProgram pat.readPat
+    pmt.descriptorsWithin pmt.pidWrong pmt.entry pmt.entriesAfter pmt.videoWrong pmt.registrationFirst pmt.registrationLater pmt.isAv1
+    pmt.strayRegistration pmt.oneAv1 pmt.av1Entry pmt.readPmt pes.leastLengthByte pes.timeStampWrong pes.timesWrong pes.headerWrong
+    pes.dts pes.timesOf check.segmentLengthWrong check.accepted check.ending check.step check.run check.checkSegment check.ptsAndDts
+    rules.inSequence rules.onTables rules.onUnits rules.countingPcr rules.laterSection rules.patSection rules.pmtSection rules.sectionRead
+    rules.lengthDiffers rules.closeOpen rules.closeIfOpen rules.rule rules.rule21 rules.rule22 rules.rule23 rules.pcrCounts rules.checked
+    rules.rule24 rules.rules25to28 rules.closing rules.rule29 rules.rule30 rules.rule31 rules.rule34 rules.rule8 rules.addedTo
+    rules.carried rules.unlessRepeat rules.packetRules state.isMapPid state.listedAs state.kindOf state.counting
+examples-checked = (refl, (refl, (refl, (refl, (refl, (refl, (refl, tt)))))))

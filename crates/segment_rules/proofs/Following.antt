@@ -24,7 +24,7 @@ use Rattle.segment_rules.specs.Rules.{rule34, rule8, carried, upTo24, pe
 use Rattle.segment_rules.specs.Check.{Progress, step, run, start}
 use Rattle.segment_rules.proofs.Sequence.{up-to-24}
 use Rattle.segment_rules.proofs.Keeping.{passed-at, Holds, holds-at, holds-pick, holds-then, holds-after}
-use Rattle.segment_rules.proofs.Keeping.{holds-each, sequence-keeps, rule-keeps, tables-kept}
+use Rattle.segment_rules.proofs.Keeping.{holds-each, holds-unless, sequence-keeps, rule-keeps, tables-kept}
 use Rattle.segment_rules.proofs.Running.{run-append, step-passed}
 
 -- ---- one packet: its PID's record is checked, and a section may name PIDs
@@ -123,7 +123,9 @@ module _ (edition : Edition) (rooms : Rooms) (i : ℕ) (p : Bytes) where
         let k = passed-then (inSequence (upTo24 i p) st) _ st′ e in (
           k .0 .tables .records,
           subst (Holds (λ (st1 : State). CheckedFrom (st .tables .records) p (st1 .tables))) (k .1) (checked-first st),
-          subst (Holds (λ (st1 : State). Naming (k .0 .tables .records) (st1 .tables))) (k .2) (named-then (k .0)),
+          subst (Holds (λ (st1 : State). Naming (k .0 .tables .records) (st1 .tables))) (k .2)
+              (holds-unless (λ (st1 : State). Naming (k .0 .tables .records) (st1 .tables)) p _ (k .0) (none-named edition (k .0 .tables))
+              (named-then (k .0))),
         )
 
 -- ---- the run

@@ -7,7 +7,7 @@ use Rattle.lists.specs.Lists.{Bytes, pick}
 use Rattle.refusal.specs.Verdict.{Verdict, passed, refused, _>>=_, _>>_, atPlace}
 use Rattle.refusal.proofs.Verdicts.{All, never}
 use Rattle.segment_rules.specs.State.{Tables, Extraction, State}
-use Rattle.segment_rules.specs.Rules.{Rule, inSequence, onTables, onUnits, rule}
+use Rattle.segment_rules.specs.Rules.{Rule, inSequence, onTables, onUnits, rule, unlessRepeat}
 
 -- a verdict that passed with a place passed
 pub passed-at : {A : Type 0} (place : ℕ) (v : Verdict A) (a : A) → atPlace place v ≡ passed a → v ≡ passed a
@@ -63,6 +63,14 @@ module _ (P : State → Type 0) where
   pub rule-keeps : (i : ℕ) (p : Bytes) (number : ℕ) (givenWhen : State → Bool) → Keeps P (rule i p number givenWhen)
   unfolding rule
   rule-keeps i p number givenWhen st h = holds-then P _ _ (λ _ _. h)
+
+-- the rest is left out for a repeated packet
+pub holds-unless : (P : State → Type 0) (p : Bytes) (rest : Rule) (st : State) → P st → Holds P (rest st) → Holds P (unlessRepeat p rest st)
+unfolding unlessRepeat
+holds-unless P p rest st h k = holds-pick P _ _ _ h k
+
+pub repeat-keeps : (P : State → Type 0) (p : Bytes) (rest : Rule) → Keeps P rest → Keeps P (unlessRepeat p rest)
+repeat-keeps P p rest k st h = holds-unless P p rest st h (k st h)
 
 -- a rule on the tables keeps what holds of the units, and one on the units what holds of the tables
 pub units-kept : (Q : Extraction → Type 0) (f : Tables → Verdict Tables) → Keeps (λ st. Q (st .extraction)) (onTables f)

@@ -1,11 +1,15 @@
 pub mod Sequence
 pub mod Keeping
+pub mod Lasting
 pub mod Accepting
 pub mod ByKind
 pub mod Running
 pub mod Thirteen
 pub mod Following
 pub mod Naming
+pub mod Marking
+pub mod Alike
+pub mod Repeating
 pub mod Examples
 pub mod Moving
 pub mod Fitting

@@ -25,10 +25,10 @@ use Rattle.segment_rules.specs.State.{Kind, Null, Pat, Map, Av1, Listed,
 use Rattle.segment_rules.specs.Rules.{Rooms, inSequence, onUnits, rule, isOpen, carriedSoFar, mostUnits, withNext, unitBytes}
 use Rattle.segment_rules.specs.Rules.{lengthWrong, unitOf, closeOpen, closeIfOpen, closePes, addedTo}
 use Rattle.segment_rules.specs.Rules.{rule21, rule22, rule23, pcrCounts, rule24, rules25to28}
-use Rattle.segment_rules.specs.Rules.{upTo24, payloadRules, pesRules, after24, packetRules}
+use Rattle.segment_rules.specs.Rules.{upTo24, payloadRules, pesRules, after24, isRepeat, unlessRepeat, packetRules}
 use Rattle.segment_rules.specs.Check.{Progress, Accepted, step, run, start, rule20, accepted, ending, checkSegment}
 use Rattle.segment_rules.proofs.Keeping.{passed-at, Holds, Keeps, sequence-keeps, rule-keeps, units-kept}
-use Rattle.segment_rules.proofs.Sequence.{not-av1, no-payload, starts, opens, adds}
+use Rattle.segment_rules.proofs.Sequence.{repeated, not-repeated, not-av1, no-payload, starts, opens, adds}
 use Rattle.segment_rules.proofs.Running.{step-passed}
 
 -- ---- tries that passed
@@ -169,11 +169,16 @@ module _ (edition : Edition) (rooms : Rooms) (i : ℕ) (p : Bytes) where
       → Moved (st .extraction) (st′ .extraction)
   unfolding packetRules inSequence rules25to28
   packet-moves kind st st′ e =
-      let k = passed-then (inSequence (upTo24 i p) st) (inSequence (after24 edition rooms i p kind)) st′ e in
-      let q = passed-then (rules25to28 i p kind edition (k .0)) (inSequence (pesRules edition rooms i p kind)) st′ (k .2) in
+      let k = passed-then (inSequence (upTo24 i p) st) (unlessRepeat p (inSequence (after24 edition rooms i p kind))) st′ e in
+      let at = units-after-24 i p st (k .0) (k .1) in
+      case (isRepeat p (k .0))
+      (λ again. stays (ap (λ (x : State). x .extraction) (sym (passed-same (k .0) st′ (sym (repeated p _ (k .0) again) ∙ k .2))) ∙ at))
+      (λ new.
+      let q = passed-then (rules25to28 i p kind edition (k .0)) (inSequence (pesRules edition rooms i p kind)) st′
+      (sym (not-repeated p _ (k .0) new) ∙ k .2) in
       subst (λ (x : Extraction). Moved x (st′ .extraction))
-      (units-after-28 edition i p kind (k .0) (q .0) (q .1) ∙ units-after-24 i p st (k .0) (k .1))
-      (pes-moves kind (q .0) st′ (q .2))
+      (units-after-28 edition i p kind (k .0) (q .0) (q .1) ∙ at)
+      (pes-moves kind (q .0) st′ (q .2)))
 
 -- ---- the closing of a PES
 -- a refusal at closing has "the index of the packet that began it"

@@ -10,10 +10,10 @@ use borrow.Author.Tests.{ne-eqb, eqb-false, ltb-false}
 use lib.Dec.{eqb}
 use Rattle.lists.specs.Lists.{Bytes, pick, any}
 use Rattle.lists.proofs.Tests.{or-neither, clash}
-use Rattle.refusal.specs.Verdict.{passed, atPlace}
+use Rattle.refusal.specs.Verdict.{passed}
 use Rattle.refusal.proofs.Verdicts.{All}
 use Rattle.descriptor.specs.Edition.{Edition}
-use Rattle.packet.specs.Header.{pid, nullPid, hasPayload, payload, payloadUnitStartIndicator}
+use Rattle.packet.specs.Header.{nullPid}
 use Rattle.packet.specs.Counter.{StreamRecord, named, pidsOf, recordOf, checkedIn}
 use Rattle.packet.proofs.Counters.{recordAfter, checked-record, checked-pids, new-record, no-record}
 use Rattle.psi.proofs.MapPid.{map-pid-in-range}
@@ -21,13 +21,13 @@ use Rattle.pmt.specs.Pmt.{pids}
 use Rattle.pmt.proofs.ListedPids.{listed-not-null}
 use Rattle.segment_rules.specs.State.{FirstPat, FirstPmt, Tables, State, Kind, Null, Pat}
 use Rattle.segment_rules.specs.State.{Map, Av1, Listed, Unlisted, isMapPid, listedAs, kindOf}
-use Rattle.segment_rules.specs.Rules.{Rooms, inSequence, rule, laterSection, patSection, pmtSection, sectionRead, clocked, checked}
-use Rattle.segment_rules.specs.Rules.{pcrCounts, rule21, rule22, rule23, rule24, rules25to28, closing, rule29, rule30}
-use Rattle.segment_rules.specs.Rules.{rule31, rule34, rule8, carried, upTo24, after24, packetRules}
-use Rattle.segment_rules.specs.Check.{Progress, step, run, start}
+use Rattle.segment_rules.specs.Rules.{Rooms, laterSection, patSection, pmtSection, sectionRead, clocked, checked}
+use Rattle.segment_rules.specs.Rules.{packetRules}
+use Rattle.segment_rules.specs.Check.{Progress, run, start}
 use Rattle.segment_rules.specs.Named.{namedPids, PatFirst, Named}
-use Rattle.segment_rules.proofs.Keeping.{passed-at, Holds, holds-at, holds-pick, holds-then, holds-after, holds-each}
-use Rattle.segment_rules.proofs.Keeping.{Keeps, sequence-keeps, rule-keeps, tables-kept, tables-step}
+use Rattle.segment_rules.proofs.Lasting.{AnyPacket, any-packets, packet-lasts, run-lasts}
+use Rattle.segment_rules.proofs.Keeping.{passed-at, Holds, holds-then, holds-each}
+use Rattle.segment_rules.proofs.Keeping.{Keeps}
 
 -- ---- PIDs of records
 pids-append : (a b : List StreamRecord) → pidsOf (a ++ b) ≡ pidsOf a ++ pidsOf b
@@ -118,56 +118,20 @@ module _ (t : Tables) (h : Named t) where
   section-named edition Unlisted b w = h
 
 -- ---- a packet, a run
-abbrev NamedIn : State → Type 0
-NamedIn st = Named (st .tables)
-
 pub clocked-named : (i : ℕ) (p : Bytes) (t : Tables) → Named t → Named (clocked i p t)
 clocked-named i p t h = record { patFirst = h .patFirst; pids = h .pids; null = h .null }
 
 module _ (edition : Edition) (rooms : Rooms) where
-  module _ (i : ℕ) (p : Bytes) where
-    off : (number : ℕ) (givenWhen : State → Bool) → Keeps NamedIn (rule i p number givenWhen)
-    off number givenWhen = rule-keeps NamedIn i p number givenWhen
-
-    to-24 : Keeps NamedIn (inSequence (upTo24 i p))
-    unfolding rule21 rule22 rule23 pcrCounts rule24
-    to-24 =
-        sequence-keeps NamedIn (upTo24 i p)
-        (off 21 _, (off 22 _, (off 23 _, (tables-step Named _ (clocked-named i p), (tables-step Named _ (checked-named i p), tt)))))
-
-    module _ (kind : Kind) where
-      section-kept : (t : Tables) → Named t
-          → Holds Named (pick (hasPayload p) (atPlace i (sectionRead edition kind (payloadUnitStartIndicator p) (payload p) t)) (passed t))
-      section-kept t k = holds-pick Named _ _ _ (holds-at Named i _ (section-named t k edition kind _ _)) k
-
-      then-tables : Keeps NamedIn (inSequence (after24 edition rooms i p kind))
-      unfolding rules25to28 closing rule29 rule30 rule31 rule34 rule8 carried
-      then-tables =
-          sequence-keeps NamedIn (after24 edition rooms i p kind) (
-            tables-step Named _ section-kept,
-            (tables-kept Named _, (off 29 _, (off 30 _, (off 31 _, (off 34 _, (off 8 _, (tables-kept Named _, tt))))))),
-          )
-
-      pub packet-named : Keeps NamedIn (packetRules edition rooms i p kind)
-      unfolding packetRules
-      packet-named st h = holds-after NamedIn NamedIn (inSequence (upTo24 i p) st) _ (to-24 st h) then-tables
-
-  abbrev NamedBy : Progress → Type 0
-  NamedBy g = Named (g .state .tables)
-
-  step-named : (g : Progress) (p : Bytes) → NamedBy g → Holds NamedBy (step edition rooms g p)
-  unfolding step
-  step-named g p h = holds-after NamedBy NamedIn _ _ (packet-named (g .index) p (kindOf (g .state .tables) (pid p)) (g .state) h)
-      (λ st k. k)
-
-  runs-named : (g : Progress) (ps : List Bytes) → NamedBy g → Holds NamedBy (run edition rooms g ps)
-  unfolding run
-  runs-named g [] h = h
-  runs-named g (p ∷ ps) h = holds-after NamedBy NamedBy (step edition rooms g p) _ (step-named g p h) (λ g′ k. runs-named g′ ps k)
+  pub packet-named : (i : ℕ) (p : Bytes) (kind : Kind) → Keeps (λ (st : State). Named (st .tables)) (packetRules edition rooms i p kind)
+  packet-named i p kind =
+      packet-lasts edition rooms Named AnyPacket clocked-named checked-named
+      (λ p kind t _ h. section-named t h edition kind _ _) i p kind tt
 
   pub run-named : (ps : List Bytes) (g : Progress) → run edition rooms start ps ≡ passed g → Named (g .state .tables)
   unfolding recordOf pick
-  run-named ps g e = subst (Holds NamedBy) e (runs-named start ps (record { patFirst = tt; pids = refl; null = refl }))
+  run-named ps g e =
+      run-lasts edition rooms Named AnyPacket clocked-named checked-named (λ p kind t _ h. section-named t h edition kind _ _) start ps g
+      (any-packets ps) (record { patFirst = tt; pids = refl; null = refl }) e
 
 -- ---- which PIDs have no record
 -- "PID 0x1FFF"

@@ -6,6 +6,7 @@ use mathlib.Core.List.{List, [], _∷_, _++_}
 use lib.Dec.{ltb}
 use lib.ListN.{length}
 use Rattle.lists.specs.Lists.{Bytes, pick}
+use Rattle.lists.proofs.Tests.{case}
 use Rattle.refusal.specs.Verdict.{Verdict, passed, refused, _>>=_, _>>_, given, atPlace}
 use Rattle.descriptor.specs.Edition.{Edition}
 use Rattle.packet.specs.Header as packet
@@ -17,7 +18,7 @@ use Rattle.segment_rules.specs.State.{Tables, State, Kind, Av1, withTabl
 use Rattle.segment_rules.specs.Rules.{Rooms, Rule, inSequence, onTables, onUnits, rule, rule21, rule22, rule23}
 use Rattle.segment_rules.specs.Rules.{pcrCounts, clocked, checked, rule24, closing, rule29, rule30, rule31, rule34}
 use Rattle.segment_rules.specs.Rules.{rule8, carried, addedTo, isAv1, isOpen, isPcr, carriedSoFar, mostUnits, withNext}
-use Rattle.segment_rules.specs.Rules.{closePes, upTo24, payloadRules, pesRules, after24, packetRules}
+use Rattle.segment_rules.specs.Rules.{closePes, upTo24, payloadRules, pesRules, after24, isRepeat, unlessRepeat, packetRules}
 
 -- ---- steps in turn
 -- three steps in turn are the first, and then the other two
@@ -44,16 +45,36 @@ pub then-same : {A B : Type 0} (v : Verdict A) {w w′ : Verdict B} → w ≡ w�
 then-same v e = ap (λ x. v >> x) e
 
 -- ---- rules in sequence
--- the rules of two lists in sequence are those of the first, and then those of the second: `packetRules` is the whole table in sequence
+-- the rules of two lists in sequence are those of the first, and then those of the second: `packetRules` is the whole table in sequence, of
+-- a packet that is no repeat
 pub sequence-append : (a b : List Rule) (st : State) → inSequence (a ++ b) st ≡ (inSequence a st >>= inSequence b)
 unfolding inSequence _>>=_
 sequence-append [] b st = refl
 sequence-append (r ∷ a) b st = bind-same (r st) _ _ (sequence-append a b) ∙ sym (bind-assoc (r st) (inSequence a) (inSequence b))
 
+pub not-repeated : (p : Bytes) (rest : Rule) (st : State) → isRepeat p st ≡ false → unlessRepeat p rest st ≡ rest st
+unfolding unlessRepeat pick
+not-repeated p rest st e = rw e
+
+pub repeated : (p : Bytes) (rest : Rule) (st : State) → isRepeat p st ≡ true → unlessRepeat p rest st ≡ passed st
+unfolding unlessRepeat pick
+repeated p rest st e = rw e
+
+-- where the rest changes nothing it does not matter
+pub either-way : (p : Bytes) (rest : Rule) (st : State) → rest st ≡ passed st → unlessRepeat p rest st ≡ passed st
+either-way p rest st e = case (isRepeat p st) (repeated p rest st) (λ k. not-repeated p rest st k ∙ e)
+
+pub rest-same : (p : Bytes) (rest rest′ : Rule) (st : State) → rest st ≡ rest′ st → unlessRepeat p rest st ≡ unlessRepeat p rest′ st
+unfolding unlessRepeat
+rest-same p rest rest′ st e = ap (λ (v : Verdict State). pick (isRepeat p st) (passed st) v) e
+
 pub whole-table : (edition : Edition) (rooms : Rooms) (i : ℕ) (p : Bytes) (kind : Kind) (st : State)
+    → ((st1 : State) → inSequence (upTo24 i p) st ≡ passed st1 → isRepeat p st1 ≡ false)
     → packetRules edition rooms i p kind st ≡ inSequence (upTo24 i p ++ after24 edition rooms i p kind) st
 unfolding packetRules
-whole-table edition rooms i p kind st = sym (sequence-append (upTo24 i p) (after24 edition rooms i p kind) st)
+whole-table edition rooms i p kind st new =
+    bind-where (inSequence (upTo24 i p) st) _ _ (λ st1 e. not-repeated p _ st1 (new st1 e))
+    ∙ sym (sequence-append (upTo24 i p) (after24 edition rooms i p kind) st)
 
 -- a rule that only may refuse, and what follows; where its condition does not hold, what follows alone
 pub rule-then : (i number : ℕ) {b b′ : Bool} (st : State) (f : Rule) → b ≡ b′

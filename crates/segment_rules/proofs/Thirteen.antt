@@ -12,18 +12,18 @@ use Rattle.refusal.proofs.Verdicts.{pass-on}
 use Rattle.descriptor.specs.Edition.{Edition}
 use Rattle.packet.specs.declared.header.Header.{Header}
 use Rattle.packet.specs.Header.{packets, headerOf, pid, hasPayload, payload, payloadUnitStartIndicator}
-use Rattle.packet.specs.Counter.{StreamRecord, checkedIn}
+use Rattle.packet.specs.Counter.{StreamRecord, recordOf, checkedIn}
 use Rattle.psi.specs.Section.{misplaced, sectionOf}
 use Rattle.pmt.specs.Pmt.{MapEntry, mostEntries, entries, entryBytes, readPmt}
 use Rattle.pmt.proofs.Thirteenth.{Right, thirteenth-refused}
 use Rattle.segment_rules.specs.State.{FirstPat, Tables, State, Map, kindOf}
-use Rattle.segment_rules.specs.Rules.{Rooms, onTables, pmtSection, sectionRead, checked, packetRules}
+use Rattle.segment_rules.specs.Rules.{Rooms, onTables, pmtSection, sectionRead, checked, lastRepeats, unlessRepeat, packetRules}
 use Rattle.segment_rules.specs.Check.{Progress, step, run, start, segmentLengthWrong, ending, checkSegment}
 use Rattle.segment_rules.proofs.ByKind.{map-packet}
 use Rattle.segment_rules.proofs.Running.{run-append, index-totals}
 
--- there is a first PAT and no PMT yet; the packet is on the map PID and passes 21 to 24; its section lies right in its payload, and is
--- right up to its entries, of which twelve pass and have bytes behind them
+-- there is a first PAT and no PMT yet; the packet is on the map PID and passes 21 to 24; it is no repeat; its section lies right in its
+-- payload, and is right up to its entries, of which twelve pass and have bytes behind them
 pub record Thirteen (t : Tables) (p : Bytes) : Type 0 where
   pub first : FirstPat
   pub pat : t .pat ≡ some first
@@ -31,6 +31,7 @@ pub record Thirteen (t : Tables) (p : Bytes) : Type 0 where
   pub onMapPid : kindOf t (pid p) ≡ Map
   pub header : (h : Header) × (headerOf p ≡ passed h)
   pub counter : (records : List StreamRecord) × (checkedIn (t .records) p ≡ passed records)
+  pub new : lastRepeats (recordOf (pid p) (counter .0)) ≡ false
   pub carries : hasPayload p ≡ true
   pub found : misplaced (payloadUnitStartIndicator p) (payload p) ≡ false
   pub right : Right (first .says .number) (sectionOf (payload p))
@@ -53,10 +54,10 @@ module _ (edition : Edition) (rooms : Rooms) where
 
     -- the packet
     packet-refused : (i : ℕ) → packetRules edition rooms i p Map st ≡ refused 27 i
-    unfolding onTables checked sectionRead pmtSection _>>=_ _>>_ given atPlace pick
+    unfolding onTables checked sectionRead pmtSection unlessRepeat _>>=_ _>>_ given atPlace pick
     packet-refused i =
         map-packet edition rooms i p st (t .header .0) (t .header .1) (t .carries)
-        ∙ rw (t .counter .1, t .found, t .pat, t .pmt, pmt-refused)
+        ∙ rw (t .counter .1, t .new, t .found, t .pat, t .pmt, pmt-refused)
 
   -- the run from there, whatever comes after
   run-refused : (g : Progress) (p : Bytes) (ps : List Bytes) → Thirteen (g .state .tables) p

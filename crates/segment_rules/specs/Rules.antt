@@ -13,7 +13,7 @@ use Rattle.packet.specs.Header.{pid, pcr, hasPayload, payload, payloadUnitStart
 use Rattle.packet.specs.Header.{syncLost, transportErrorIndicator}
 use Rattle.packet.specs.declared.header.Clock.{Clock}
 use Rattle.packet.specs.declared.header.Clock.the-variants as clock
-use Rattle.packet.specs.Counter.{named, checkedIn}
+use Rattle.packet.specs.Counter.{StreamRecord, named, recordOf, checkedIn}
 use Rattle.psi.specs.Section.{misplaced, sectionOf}
 use Rattle.psi.specs.Pat.{readPat}
 use Rattle.pmt.specs.Pmt.{pids, readPmt}
@@ -306,5 +306,22 @@ pesRules edition rooms i p kind = closing i p kind ∷ payloadRules edition room
 abbrev pub after24 : Edition → Rooms → ℕ → Bytes → Kind → List Rule
 after24 edition rooms i p kind = rules25to28 i p kind edition ∷ pesRules edition rooms i p kind
 
+-- ---- the repeated packet (2026-05)
+-- the record of a PID says that its last packet was a repeat
+abbrev pub lastRepeats : Option StreamRecord → Bool
+lastRepeats none = false
+lastRepeats (some r) = r .repeat
+
+-- after 24 the last packet of the packet's PID is this one
+abbrev pub isRepeat : Bytes → State → Bool
+isRepeat p st = lastRepeats (recordOf (pid p) (st .tables .records))
+
+-- "The second copy counts in its class, adds no bytes to a unit and no section, and starts or closes no PES.": after 24
+-- no rule is tried on it
+unfoldable pub unlessRepeat : Bytes → Rule → Rule
+unlessRepeat p rest st = pick (isRepeat p st) (passed st) (rest st)
+
+-- ---- one packet
 unfoldable pub packetRules : Edition → Rooms → ℕ → Bytes → Kind → Rule
-packetRules edition rooms i p kind st = inSequence (upTo24 i p) st >>= inSequence (after24 edition rooms i p kind)
+packetRules edition rooms i p kind st =
+    inSequence (upTo24 i p) st >>= unlessRepeat p (inSequence (after24 edition rooms i p kind))

@@ -101,6 +101,7 @@ const SEGMENTS: &[&Definition] = &[
     &segment_valid::SUITE,
     &segment_refusals::SUITE,
     &segment_counters::SUITE,
+    &segment::copies::SUITE,
     &segment_packets::SUITE,
     &segment_sections::SUITE,
     &segment_pes::SUITE,

@@ -1,5 +1,7 @@
 //! The check of a segment, compared with the reference, and what suites of segments share.
 
+pub mod copies;
+
 use super::under_test::{self, segment_answer};
 use crate::kit::{Given, Lent, Suite};
 use reference::packet;

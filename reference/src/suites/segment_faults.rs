@@ -232,7 +232,12 @@ impl Faults {
 
     /// 24 at a packet of a PID that had one before.
     pub fn counter(&mut self, condition: &str, at: usize) {
-        for by in [1, 2, 15] {
+        self.counter_by(condition, at, [1, 2, 15]);
+    }
+
+    /// The same, with what is added to the counter.
+    fn counter_by(&mut self, condition: &str, at: usize, added: [u8; 3]) {
+        for by in added {
             self.add(condition, at, move |base| {
                 let counter = counter_of(base, at);
                 base.packets[at].counter = Some((counter + by) % 16);
@@ -759,7 +764,8 @@ pub fn all() -> Vec<Fault> {
     faults.counter("24: PID 0, without payload", PAT + 1);
     faults.counter("24: PID 0, with payload", PAT_AGAIN);
     faults.counter("24: map PID, with payload", PMT);
-    faults.counter("24: map PID, with payload", PMT_AGAIN);
+    // With 15 more it would be a copy of the first PMT.
+    faults.counter_by("24: map PID, with payload", PMT_AGAIN, [1, 2, 14]);
     faults.counter("24: map PID, without payload", MAP_LAST);
     faults.counter("24: AV1 PID, with payload", START_0);
     faults.counter("24: AV1 PID, with payload", LATER_0);

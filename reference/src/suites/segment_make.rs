@@ -12,6 +12,8 @@ pub struct Made {
     pub packets: Vec<Packet>,
     pub accepted: Accepted,
     pub map_pid: u16,
+    /// All PIDs that the PMT lists.
+    pub pids: Vec<u16>,
     pub features: Vec<&'static str>,
 }
 
@@ -159,6 +161,7 @@ pub fn make(random: &mut Random, most_units: usize, longest: usize) -> Made {
             totals: maker.totals,
         },
         map_pid,
+        pids: maker.pids,
         features,
     }
 }

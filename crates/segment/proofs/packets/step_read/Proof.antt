@@ -1,9 +1,9 @@
--- The counter is checked; where that passed, a packet with payload goes on with what it carries.
+-- The counter is checked; where that passed, a packet with payload that is no repeat goes on with what it carries.
 use borrow.Author.Needs.{needs}
 use mathlib.Core.Path.{refl, sym, ap, _∙_}
 use Rattle.packet.specs.declared.header.Header.{Header}
 use Rattle.packet.proofs.Headers.{passed-fields}
-use Rattle.segment.proofs.Stepping.{counter-wrong, next-named, next-stands, no-content, with-content}
+use Rattle.segment.proofs.Stepping.{counter-wrong, next-named, next-stands, next-repeats, no-content, no-more, with-content}
 use Rattle.segment.proofs.Turning.{negated, affirmed}
 use Rattle.segment.proofs.packets.step_read.Statement.{statement}
 use Rattle.segment.proofs.packets.step_read.Tie as tie
@@ -20,26 +20,39 @@ enum-told-2 c = search needs
 returns : tie.Need-returns
 returns c = (
   (λ before p same right there st n s.
-      counter-wrong s n (c .before .before .before .before .before .before .before .before .before .args .packet .index) p
-      (c .before .before .before .before .before .before .before .before .before .args .packet .kind)
-      (c .before .before .before .before .before .before .before .before .before .args .packet .header) right
-      (c .before .before .before .check-counter .result)
-      (c .before .before .before .check-counter .ensures (c .before .before .before .before .before .before .before .before .before .args
-      .segment .now) p (passed-fields p _ right) there (st .tables) n (s .tables)) _ (c .enum-told2 .given .1) _),
+      let a = c .before .before .before .before .before .before .before .before .before .args in
+      let one = c .before .before .before .check-counter in
+      let counts = one .ensures p same (passed-fields p _ right) there (st .tables) n (s .tables) in
+      counter-wrong s n (a .packet .index) p (a .packet .kind) (a .packet .header) right (one .result) counts _
+      (c .enum-told2 .given .1) _),
   refl,
 )
 
 returns-2 : tie.Need-returns-2
 returns-2 c = (
   (λ before p same right there st n s.
-      no-content s n (c .before .before .before .before .before .before .before .before .before .before .before .args .packet .index) p
-      (c .before .before .before .before .before .before .before .before .before .before .before .args .packet .kind)
-      (c .before .before .before .before .before .before .before .before .before .before .before .args .packet .header) right
-      (c .before .before .before .before .before .check-counter .result)
-      (c .before .before .before .before .before .check-counter .ensures
-      (c .before .before .before .before .before .before .before .before .before .before .before .args .segment .now) p
-      (passed-fields p _ right) there (st .tables) n (s .tables)) (c .before .before .enum-told .given .1)
+      let a = c .before .before .before .before .before .before .before .before .before .before .before .args in
+      let one = c .before .before .before .before .before .check-counter in
+      let counts = one .ensures p same (passed-fields p _ right) there (st .tables) n (s .tables) in
+      no-content s n (a .packet .index) p (a .packet .kind) (a .packet .header) right (one .result) counts
+      (c .before .before .enum-told .given .1)
       (sym (ap (λ (h : Header). h .«has_payload») (passed-fields p _ right)) ∙ negated _ (c .if1 .taken))),
+  refl,
+)
+
+repeats-requires : tie.Need-repeats-requires
+repeats-requires c κs = search needs
+
+returns-3 : tie.Need-returns-3
+returns-3 c = (
+  (λ before p same right there st n s.
+      let a = c .before .before .before .before .before .before .before .before .before .before .before .before .before .before .args in
+      let one = c .before .before .before .before .before .before .before .before .check-counter in
+      let counts = one .ensures p same (passed-fields p _ right) there (st .tables) n (s .tables) in
+      let went = c .before .before .before .before .before .enum-told .given .1 in
+      no-more s n (a .packet .index) p (a .packet .kind) (a .packet .header) right (one .result) counts went
+      (sym (next-repeats s n (a .packet .index) p (a .packet .kind) (a .packet .header) right (one .result) counts went there)
+      ∙ sym (c .before .repeats .ensures) ∙ c .if2 .taken)),
   refl,
 )
 
@@ -55,21 +68,23 @@ same-length-2 c = search needs
 same-length-3 : tie.Need-same-length-3
 same-length-3 c = search needs
 
-returns-3 : tie.Need-returns-3
-returns-3 c =
-    let a = c .before .before .before .before .before .before .before .before .before .before .before .before .before .before .before
-    .before .before .before .before .before .before .args in
-    let one = c .before .before .before .before .before .before .before .before .before .before .before .before .before .before .before
-    .check-counter in
+returns-4 : tie.Need-returns-4
+returns-4 c =
+    let test = c .before .before .before .before .before .before .before .before .before .before in
+    let begin = test .before .before .before .before .before .before .before .before in
+    let a = begin .before .before .before .before .before .before .args in
+    let one = begin .check-counter in
     let done = c .before .before .before .before .before .before .take-content in
-    let went = c .before .before .before .before .before .before .before .before .before .before .before .before .enum-told .given .1 in (
+    let went = test .before .before .before .before .before .enum-told .given .1 in (
       (λ before p same right there st n s.
           let fits = passed-fields p _ right in
-          let counts = one .ensures (a .segment .now) p fits there (st .tables) n (s .tables) in
+          let counts = one .ensures p same fits there (st .tables) n (s .tables) in
           with-content s n (a .packet .index) p (a .packet .kind) (a .packet .header) right (one .result) counts went
+          (sym (next-repeats s n (a .packet .index) p (a .packet .kind) (a .packet .header) right (one .result) counts went there)
+          ∙ sym (test .before .repeats .ensures) ∙ test .if2 .left)
           (done .result .outcome) _
-          (done .ensures .0 before p same fits (sym (ap (λ (h : Header). h .«has_payload») fits) ∙ affirmed _
-          (c .before .before .before .before .before .before .before .before .before .before .if1 .left)) _
+          (done .ensures .0 before p same fits
+          (sym (ap (λ (h : Header). h .«has_payload») fits) ∙ affirmed _ (test .before .before .before .if1 .left)) _
           (next-named s n (a .packet .index) p (a .packet .kind) (a .packet .header) right (one .result) counts went)
           (next-stands s n (a .packet .index) p (a .packet .kind) (a .packet .header) right (one .result) counts went))),
       done .ensures .1,
@@ -84,8 +99,10 @@ step-read-spec =
     enum-told-2
     returns
     returns-2
+    repeats-requires
+    returns-3
     take-content-requires
     same-length
     same-length-2
     same-length-3
-    returns-3)
+    returns-4)

@@ -34,7 +34,7 @@ returns-2 c segment lies e t h s =
     (sym (c .pass .ensures))
     (pat-read h s (a .section .now) e (a .at) _ _ _ lies (c .before .before .before .before .before .before .before .read2 .given .1)
     (c .before .before .before .before .before .before .before .before .before .read-pat .ensures)
-    (c .before .before .before .named .ensures .1))
+    (c .before .before .before .named .ensures .1 segment))
 
 pub first-pat-spec : {M : Type 1} → statement M
 first-pat-spec =

@@ -2,7 +2,6 @@
 use borrow.Author.Needs.{needs}
 use mathlib.Core.Path.{sym, ap, _∙_}
 use Rattle.descriptor.specs.Edition.{current}
-use Rattle.packet.specs.Counter.{counted}
 use Rattle.packet.specs.Streams.{lookUp, pidsIn}
 use Rattle.packet.specs.declared.header.Header.{Header}
 use Rattle.segment.specs.Parts.{streamsIn}
@@ -23,18 +22,17 @@ at-place-requires : tie.Need-at-place-requires
 at-place-requires c κs = search needs
 
 returns : tie.Need-returns
-returns c segment p e l t h s =
-    let a = c .before .before .before .before .before .before .before .before .args in
+returns c p same e l t h s =
+    let a = c .before .before .before .before .before .before .before .before .before .args in
     let k = a .tables in
     let last = c .before .before .before .before .before .before .last-pcr in
+    let looked = c .before .before .before .before .counted in
     let one = c .before .before .before .check in
-    let reads = c .before .before .before .before .counted .ensures ∙ ap counted e in
     let there = ap (λ (x : Header). lookUp (x .pid) (pidsIn (streamsIn (k .pat) (k .pmt) (k .counters)))) (sym e) ∙ l in
-    counter-turn current segment (a .packet .index) p k t s (last .result) (last .ensures segment p t e s) (one .result .outcome)
-    (c .at-place .result) (one .result .counters)
-    (c .at-place .ensures)
-    (counted-turn (a .packet .kind) (k .pat) (k .pmt) (k .counters) (t .records) (s .records)
-    (c .before .before .before .before .counted .result) p reads (one .result) there (one .ensures))
+    counter-turn current (a .segment .now) (a .packet .index) p k t s (last .result) (last .ensures (a .segment .now) p t e s)
+    (one .result .outcome) (c .at-place .result) (one .result .counters) (c .at-place .ensures)
+    (counted-turn (a .segment .now) (a .packet .kind) (k .pat) (k .pmt) (k .counters) (t .records) (s .records) (looked .result) p
+    (λ r stands. looked .ensures p r same e stands) (one .result) there (one .ensures))
 
 pub check-counter-spec : {M : Type 1} → statement M
 check-counter-spec = tie.close (tie.spec last-pcr-requires counted-requires check-requires at-place-requires returns)

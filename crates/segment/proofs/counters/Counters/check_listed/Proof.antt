@@ -22,13 +22,14 @@ outcome-of-requires : tie.Need-outcome-of-requires
 outcome-of-requires c κs = search needs
 
 returns : tie.Need-returns
-returns c r p s e =
+returns c segment r p s e =
     let a = c .before .before .before .before .before .before .before .args in
     let one = c .before .before .before .before .check in
-    record-by (withListedRecord (a .self) (a .slot)) (one .result) r p (c .outcome-of .result)
+    record-by segment (withListedRecord (a .self) (a .slot)) (one .result) r p (c .outcome-of .result)
     (record { pat = a .self .pat; map = a .self .map; listed = c .before .put-back .result }) (c .outcome-of .ensures)
     (ap (λ (l : Streams). record { pat = a .self .pat; map = a .self .map; listed = l }) (c .before .put-back .ensures))
-    (one .ensures .0 r p (subst (λ (x : Stream). Stands x r) (sym (c .before .before .before .before .before .at .ensures)) s) e)
+    (one .ensures .0 segment r p
+    (subst (λ (x : Stream). Stands segment x r) (sym (c .before .before .before .before .before .at .ensures)) s) e)
 
 pub check-listed-spec : {M : Type 1} → statement M
 check-listed-spec = tie.close (tie.spec at-requires check-requires put-back-requires outcome-of-requires returns)

@@ -13,11 +13,11 @@ outcome-of-requires : tie.Need-outcome-of-requires
 outcome-of-requires c κs = search needs
 
 returns : tie.Need-returns
-returns c r p s e =
+returns c segment r p s e =
     let self = c .before .before .before .before .before .before .args .self in
     let one = c .before .before .before .before .check in
-    record-by (withMapRecord self) (one .result) r p (c .outcome-of .result) (withMapRecord self (one .result .stream))
-    (c .outcome-of .ensures) refl (one .ensures .0 r p s e)
+    record-by segment (withMapRecord self) (one .result) r p (c .outcome-of .result) (withMapRecord self (one .result .stream))
+    (c .outcome-of .ensures) refl (one .ensures .0 segment r p s e)
 
 pub check-map-spec : {M : Type 1} → statement M
 check-map-spec = tie.close (tie.spec check-requires outcome-of-requires returns)
