@@ -9,17 +9,20 @@ INSTALLED := $(DESTDIR)$(PREFIX)
 EXAMPLES := $(patsubst examples/%.c,build/examples/%,$(wildcard examples/*.c))
 
 .DEFAULT_GOAL := help
-.PHONY: help run demo lib install uninstall dist quick test soak bench fmt clean
+.PHONY: help run demo lib tool install uninstall dist quick test soak interop lesson bench fmt clean
 
 help:
 	@echo "make run              prove every crate, make the library, show what it does; what the prover says goes to build/log"
 	@echo "make demo [FILE=f.ts] show what it does, with no proving where the library is made; with FILE, the verdict on that file alone"
 	@echo "make lib              build/lib: libav1ts.a, libav1ts.so, av1ts.h"
-	@echo "make install          the library, its header and a pkg-config file to PREFIX (/usr/local), below DESTDIR; make uninstall removes them"
+	@echo "make tool             build/cargo/release/av1ts, the command that says what is wrong with a .ts file"
+	@echo "make install          the library, its header, a pkg-config file, the tool and its man page to PREFIX (/usr/local), below DESTDIR; make uninstall removes them"
 	@echo "make dist             an archive of the library for those who have no kit"
 	@echo "make quick CRATE=unit one crate: its proof, the edits that must fail, and the tests that concern it"
 	@echo "make test             the gate: everything from nothing, with all edits and tests, which takes long; its last line is 'N passed, M failed'"
 	@echo "make soak [SECONDS=n] hostile calls over guard pages, for so long (600)"
+	@echo "make interop          real AV1 by each encoder through library and tool, beside other programs; installs them from Debian's packages"
+	@echo "make lesson [NAME=n]  lists the lessons of docs/CLASSROOM.md, or shows one: an error in a copy, and the fact that the prover refuses"
 	@echo "make bench            speed beside plain C and memcpy"
 	@echo "make fmt              lay out all files"
 	@echo "make clean            remove build/ and target/, what is proved too"
@@ -59,8 +62,22 @@ $(LIB)/libav1ts.so: target/staticlib/libav1ts.a include/av1ts.h
 	@ln -sf $(SHARED) $(LIB)/libav1ts.so.0
 	@ln -sf libav1ts.so.0 $(LIB)/libav1ts.so
 
-install: $(LIB)/libav1ts.a
-	@mkdir -p $(INSTALLED)/include $(INSTALLED)/lib/pkgconfig
+tool: $(LIB)/libav1ts.a
+	@tools/need cargo rustc
+	cargo build --quiet --release --package av1ts-tool
+
+interop: tool
+	@tools/need python3
+	@tests/interop/run
+
+lesson:
+	@tools/need python3
+	@tools/lesson $(NAME)
+
+install: $(LIB)/libav1ts.a tool
+	@mkdir -p $(INSTALLED)/include $(INSTALLED)/lib/pkgconfig $(INSTALLED)/bin $(INSTALLED)/share/man/man1
+	install -m 755 build/cargo/release/av1ts $(INSTALLED)/bin/
+	install -m 644 rust/tool/av1ts.1 $(INSTALLED)/share/man/man1/
 	install -m 644 $(LIB)/av1ts.h $(INSTALLED)/include/
 	install -m 644 $(LIB)/libav1ts.a $(INSTALLED)/lib/
 	install -m 755 $(LIB)/$(SHARED) $(INSTALLED)/lib/
@@ -70,7 +87,7 @@ install: $(LIB)/libav1ts.a
 
 uninstall:
 	rm -f $(INSTALLED)/include/av1ts.h $(INSTALLED)/lib/libav1ts.a $(INSTALLED)/lib/libav1ts.so $(INSTALLED)/lib/libav1ts.so.0 \
-	    $(INSTALLED)/lib/$(SHARED) $(INSTALLED)/lib/pkgconfig/av1ts.pc
+	    $(INSTALLED)/lib/$(SHARED) $(INSTALLED)/lib/pkgconfig/av1ts.pc $(INSTALLED)/bin/av1ts $(INSTALLED)/share/man/man1/av1ts.1
 
 dist: lib
 	@tools/dist 0.$(VERSION)

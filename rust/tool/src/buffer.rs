@@ -1,0 +1,4 @@
+//! The replay of the transport buffer.
+
+pub mod arrivals;
+pub mod fill;

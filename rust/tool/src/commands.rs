@@ -1,0 +1,103 @@
+//! The commands.
+
+mod buffer;
+mod check;
+mod descriptor;
+mod explain;
+mod list;
+mod mastering;
+mod packet;
+mod payload;
+mod units;
+
+#[cfg(feature = "queue")]
+mod mux;
+#[cfg(feature = "salvage")]
+mod salvage;
+#[cfg(feature = "sheet")]
+mod sheet;
+
+use crate::args::{Args, Shape};
+use crate::failure::{Done, Failure, fail};
+use crate::library::Refused;
+use crate::refusals;
+use crate::screen::Screen;
+
+/// A command: how it is called and what it does.
+pub struct Command {
+    pub name: &'static str,
+    /// One line for the list of commands.
+    pub summary: &'static str,
+    /// How it is called, behind its name.
+    pub usage: &'static str,
+    /// What its options mean.
+    pub about: &'static str,
+    pub shape: Shape,
+    pub run: fn(&Args, &mut Screen) -> Done,
+}
+
+impl Command {
+    pub fn help(&self) -> String {
+        let usages: Vec<String> = self
+            .usage
+            .lines()
+            .map(|usage| format!("av1ts {} {usage}", self.name))
+            .collect();
+        format!(
+            "usage: {}\n\n{}\n",
+            usages.join("\n       "),
+            self.about.trim_matches('\n')
+        )
+    }
+}
+
+pub const COMMANDS: &[Command] = &[
+    check::CHECK,
+    units::UNITS,
+    list::LIST,
+    payload::ESCAPE,
+    payload::UNESCAPE,
+    #[cfg(feature = "salvage")]
+    salvage::SALVAGE,
+    descriptor::DESCRIPTOR,
+    mastering::MASTERING,
+    #[cfg(feature = "queue")]
+    mux::MUX,
+    #[cfg(feature = "sheet")]
+    sheet::SHEET,
+    #[cfg(feature = "sheet")]
+    sheet::SEEK,
+    buffer::BUFFER,
+    packet::PACKET,
+    explain::EXPLAIN,
+];
+
+pub fn find(name: &str) -> Option<&'static Command> {
+    COMMANDS.iter().find(|command| command.name == name)
+}
+
+/// A refusal outside a segment, in a line.
+pub fn refused(name: &str, refused: Refused, at: &str) -> String {
+    let place = if at.is_empty() {
+        String::new()
+    } else {
+        format!(", at {at} {}", refused.place)
+    };
+    format!(
+        "{name}: refused {}: {}{place}",
+        refused.number,
+        refusals::name(refused.number)
+    )
+}
+
+/// The bytes of a command that takes a file, or with --hex the digits on the command line.
+pub fn input(args: &Args, most: usize) -> Result<(String, Vec<u8>), Failure> {
+    if args.has("--hex") {
+        return Ok(("bytes".to_string(), crate::hex::parse(&args.texts()?)?));
+    }
+    if args.words.len() != 1 {
+        return fail("one file is needed, or --hex and digits");
+    }
+    let bytes = crate::files::read_part(&args.words[0], 0, most as u64)?.bytes;
+    Ok((crate::args::shown(&args.words[0]), bytes))
+}
