@@ -65,7 +65,11 @@ enum {
 
     /* mastering figures */
     AV1TS_REFUSED_MASTERING_FORM = 48,  /* content not of the form of metadata_hdr_mdcv */
-    AV1TS_REFUSED_MASTERING_BOUNDS = 49 /* a figure past its bound */
+    AV1TS_REFUSED_MASTERING_BOUNDS = 49, /* a figure past its bound */
+    AV1TS_REFUSED_QUEUE_FULL = 50,      /* eight units are queued */
+    AV1TS_REFUSED_QUEUED_UNIT = 51,     /* a unit that reading refuses, or a time above 33 bits */
+    AV1TS_REFUSED_CHANNEL = 52,         /* descriptor, PID, program number, counter or PCR not allowed */
+    AV1TS_REFUSED_PACKETS_TO_SEND = 53  /* more than 65,535 packets to send */
 };
 
 #ifdef __cplusplus
@@ -210,6 +214,52 @@ av1ts_mastering av1ts_read_mastering(const uint8_t *content, size_t content_len)
  * Refuses: 49 a chromaticity past 50,000, or a luminance that rounds past 32 bits: a maximum above 167,772,159,980, a minimum above 2,621,439,999; 8 the output is
  * too short. */
 av1ts_answer av1ts_write_mastering(const uint64_t value[10], uint8_t *out, size_t out_len);
+
+/* The queue of the segment writer, for at most 8 units. Of each of the first `units` units, oldest first: its length in the store, its PTS and DTS in ticks of
+ * 90 kHz, and its random-access mark, 0 or 1; what is behind them is 0. The empty queue is all zeros. The units' bytes stand back to back from the front of a store
+ * that the caller lends at each call and leaves alone between the calls. What is said below holds of a queue that these functions led to from the empty one, with
+ * its store; any other gets an answer too, which says nothing. */
+typedef struct {
+    uint64_t units, length[8], pts[8], dts[8], marked[8];
+} av1ts_queue;
+
+/* empty 1: there was no unit to drop. queue: the queue then; in a refusal as it was. */
+typedef struct {
+    uint64_t number, place, empty;
+    av1ts_queue queue;
+} av1ts_queued;
+
+/* Adds a unit behind the others, whose room in the store may be used again once they were dropped or sent. The rest of the store keeps its old bytes.
+ * Refuses (place 0): 50 the queue is full; 51 the unit is not accepted by reading, or a time has more than 33 bits; 8 the store is too short. A refusal changes
+ * neither queue nor store. */
+av1ts_queued av1ts_queue_add(av1ts_queue queue, uint8_t *store, size_t store_len, const uint8_t *unit, size_t unit_len, uint64_t pts, uint64_t dts, uint64_t marked);
+
+/* Drops the oldest unit; the bytes of the others move to the store's front, and the rest of the store keeps its old bytes. On an empty queue it says so and changes
+ * nothing. */
+av1ts_queued av1ts_queue_drop(av1ts_queue queue, uint8_t *store, size_t store_len);
+
+/* The empty queue. */
+av1ts_queued av1ts_queue_clear(av1ts_queue queue);
+
+/* What send is told of a segment: the program number, the map PID and the AV1 PID, which is the PCR PID, the PCR in ticks of 27 MHz, and the counter of the next
+ * payload of PID 0, the map PID and the AV1 PID. */
+typedef struct {
+    uint64_t program, map_pid, av1_pid, pcr, pat_counter, map_counter, av1_counter;
+} av1ts_channel;
+
+/* bytes, packets: how many were written. next: the channel with the counters that follow; in a refusal as it was. queue: empty; in a refusal as it was. */
+typedef struct {
+    uint64_t number, place, bytes, packets;
+    av1ts_channel next;
+    av1ts_queue queue;
+} av1ts_sent;
+
+/* Writes a segment over the front of out: PAT, PMT with one AV1 entry (the registration, then the video descriptor as given), a PCR in a packet without payload,
+ * then each queued unit as one PES in as few packets as possible. av1ts_check_segment accepts it and, with long enough outputs, gives the same units and times.
+ * Refuses (place 0): 52 a descriptor that av1ts_read_descriptor refuses, a map PID outside 0x10 to 0x1FFE, an AV1 PID that is 0, above 0x1FFE or the map PID, a
+ * program number of 0 or above 65,535, a counter above 15, or a PCR of 2^33 times 300 or more; 53 more than 65,535 packets; 8 the output is too short. A refusal
+ * changes neither queue, counters nor output. */
+av1ts_sent av1ts_queue_send(av1ts_queue queue, const uint8_t *store, size_t store_len, av1ts_channel channel, const uint8_t *descriptor, size_t descriptor_len, uint8_t *out, size_t out_len);
 
 #ifdef __cplusplus
 }

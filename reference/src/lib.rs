@@ -12,6 +12,7 @@ pub mod order;
 pub mod packet;
 pub mod payload;
 pub mod pes;
+pub mod queue;
 pub mod refusal;
 pub mod replay;
 pub mod report;

@@ -3,3 +3,4 @@ pub mod Rewriting
 pub mod Salvaging
 pub mod Replaying
 pub mod Metadata
+pub mod Queueing

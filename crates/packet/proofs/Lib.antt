@@ -4,3 +4,5 @@ pub mod Slots
 pub mod Recorded
 pub mod Packets
 pub mod Copies
+pub mod Writing
+pub mod WritingClocks

@@ -1,2 +1,3 @@
 pub mod Starts
 pub mod Headers
+pub mod Writing

@@ -7,3 +7,4 @@ pub mod Reading
 pub mod Thirteenth
 pub mod Passed
 pub mod ListedPids
+pub mod Writing

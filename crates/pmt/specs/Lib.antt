@@ -1,3 +1,4 @@
 pub mod Pmt
 pub mod Answer
 pub mod Parts
+pub mod Writing

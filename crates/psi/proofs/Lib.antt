@@ -3,3 +3,4 @@ pub mod Sections
 pub mod Programs
 pub mod Passed
 pub mod MapPid
+pub mod Writing

@@ -83,6 +83,14 @@ impl Refusal {
 
     pub const MASTERING_BOUNDS: Refusal = Refusal { number: 49 };
 
+    pub const QUEUE_FULL: Refusal = Refusal { number: 50 };
+
+    pub const QUEUED_UNIT: Refusal = Refusal { number: 51 };
+
+    pub const CHANNEL: Refusal = Refusal { number: 52 };
+
+    pub const PACKETS_TO_SEND: Refusal = Refusal { number: 53 };
+
     // Its number.
     pub fn number(self) -> u8
         ensures { λ r. ⌜ r ≡ numberOf self ⌝ }

@@ -16,6 +16,7 @@ mod payload_exhaustive;
 mod payload_limits;
 mod payload_random;
 mod payload_worked;
+mod queue;
 mod replay;
 mod salvage;
 mod segment;
@@ -82,6 +83,16 @@ const DESCRIPTORS: &[&Definition] = &[
 
 const MASTERING: &[&Definition] = &[&mastering::read::SUITE, &mastering::write::SUITE];
 
+/// Those of queues that can run with the reference in both roles.
+const QUEUES: &[&Definition] = &[
+    &queue::scripts::SUITE,
+    &queue::refusals::SUITE,
+    &queue::sizes::SUITE,
+    &queue::limits::SUITE,
+    &queue::sending::SUITE,
+    &queue::chain::SUITE,
+];
+
 const REPLAY: &[&Definition] = &[
     &replay::ticks::SUITE,
     &replay::boundaries::SUITE,
@@ -119,10 +130,12 @@ pub fn all(itself: bool) -> Vec<&'static Definition> {
     if !itself {
         all.extend(UNITS);
         all.extend(REPLAY);
+        all.push(&queue::states::SUITE);
         all.extend(MASTERING);
     }
     all.extend(DESCRIPTORS);
     all.extend(SALVAGE);
+    all.extend(QUEUES);
     all.extend(SEGMENTS);
     all
 }

@@ -17,7 +17,8 @@ pub fn choose_itself() {
     ITSELF.store(true, Ordering::Relaxed);
 }
 
-fn library() -> bool {
+/// Whether the library is under test.
+pub fn library() -> bool {
     !ITSELF.load(Ordering::Relaxed)
 }
 

@@ -19,6 +19,7 @@
 pub mod descriptor;
 pub mod mastering;
 pub mod payload;
+pub mod queue;
 pub mod replay;
 pub mod salvage;
 pub mod segment;

@@ -75,6 +75,10 @@ refusals! {
     ReplayBounds = 47, "a rate, a byte count, a number of arrivals or a state is out of bounds";
     MasteringForm = 48, "the content is not that of mastering figures";
     MasteringBounds = 49, "a mastering figure is past its bound";
+    QueueFull = 50, "eight units are queued";
+    QueuedUnit = 51, "the unit is refused by reading, or a time is above 33 bits";
+    Channel = 52, "a descriptor, PID, program number, counter or PCR is not allowed";
+    PacketsToSend = 53, "there are more than 65,535 packets to send";
 }
 
 impl fmt::Display for Refusal {

@@ -1,0 +1,110 @@
+-- How many packets there are, and that each has 188 bytes. Assumes nothing.
+use Prim.Native.Nat.{ℕ, zero, suc, _+_, _*_, _/_, _%_, _≤_, _<_}
+use mathlib.Core.Bool.{true, false}
+use mathlib.Core.Path.{_≡_, refl, sym, ap, ap₂, _∙_}
+use mathlib.Core.List.{List, [], _∷_, _++_, flatten}
+use native.Mathlib.Omega.{arith}
+use borrow.Author.Tests.{eq-eqb, ne-eqb, le-ltb}
+use lib.Dec.{eqb, ltb}
+use lib.ListN.{length, take, drop, length-append, length-take}
+use lib.Seq.{take-append-seam, drop-append-seam}
+use Rattle.lists.specs.Lists.{Bytes}
+use Rattle.refusal.specs.Verdict.{passed}
+use Rattle.refusal.proofs.Verdicts.{All, not-given}
+use Rattle.packet.specs.Writing.{most, counterAfter}
+use Rattle.packet.proofs.Writing.{length-carrying}
+use Rattle.psi.specs.Writing.{sectionPayload}
+use Rattle.psi.proofs.Writing.{length-payload}
+use Rattle.queue.specs.Queue.{TimedUnit}
+use Rattle.packet.specs.Header.{packetsOf, packets}
+use Rattle.segment_rules.specs.Check.{rule20, segmentLengthWrong}
+use Rattle.mux.specs.declared.channel.Channel.{Channel}
+use Rattle.mux.specs.Packets.{othersFor, firstPart, otherParts, firstFlags, others, packetsFor, unitPackets, unitsPackets}
+use Rattle.mux.specs.Packets.{sectionPacket, segmentPackets, packetsForUnits}
+use Rattle.mux.proofs.Cuts.{first-short}
+
+abbrev pub Whole : Bytes → Type 0
+Whole p = length p ≡ 188
+
+pub all-append : {A : Type 0} (P : A → Type 0) (l m : List A) → All P l → All P m → All P (l ++ m)
+all-append P [] m h k = k
+all-append P (a ∷ l) m h k = (h .0, all-append P l m (h .1) k)
+
+pub section-whole : (pid counter : ℕ) (s : Bytes) → length s ≤ 183 → Whole (sectionPacket pid counter s)
+unfolding sectionPacket
+section-whole pid counter s h = length-carrying pid true counter 0 (sectionPayload s) (omega (arith, length-payload s h))
+
+module _ (pid : ℕ) where
+  pub others-whole : (n counter : ℕ) (s : Bytes) → All Whole (others n pid counter s)
+  unfolding others
+  others-whole zero counter s = tt
+  others-whole (suc n) counter s = (
+    length-carrying pid false counter 0 (take most s) (omega (arith, length-take most s)),
+    others-whole n (counterAfter counter 1)
+        (drop most s),
+  )
+
+  pub unit-whole : (counter : ℕ) (u : TimedUnit) → All Whole (unitPackets pid counter u)
+  unfolding unitPackets
+  unit-whole counter u = (
+    length-carrying pid true counter (firstFlags u) (firstPart u) (first-short u),
+    others-whole (othersFor (length (otherParts u))) (counterAfter counter 1) (otherParts u),
+  )
+
+  pub units-whole : (counter : ℕ) (us : List TimedUnit) → All Whole (unitsPackets pid counter us)
+  unfolding unitsPackets
+  units-whole counter [] = tt
+  units-whole counter (u ∷ us) =
+      all-append Whole (unitPackets pid counter u) _ (unit-whole counter u) (units-whole (counterAfter counter (packetsFor u)) us)
+
+  pub length-others : (n counter : ℕ) (s : Bytes) → length (others n pid counter s) ≡ n
+  unfolding others
+  length-others zero counter s = refl
+  length-others (suc n) counter s = ap suc (length-others n (counterAfter counter 1) (drop most s))
+
+  -- a unit takes as many packets as are counted for it
+  pub length-unit : (counter : ℕ) (u : TimedUnit) → length (unitPackets pid counter u) ≡ packetsFor u
+  unfolding unitPackets
+  length-unit counter u = ap suc (length-others (othersFor (length (otherParts u))) (counterAfter counter 1) (otherParts u))
+
+  pub length-units : (counter : ℕ) (us : List TimedUnit) → length (unitsPackets pid counter us) ≡ packetsForUnits us
+  unfolding unitsPackets packetsForUnits
+  length-units counter [] = refl
+  length-units counter (u ∷ us) =
+      length-append (unitPackets pid counter u) (unitsPackets pid (counterAfter counter (packetsFor u)) us)
+      ∙ ap₂ (λ (x y : ℕ). x + y) (length-unit counter u) (length-units (counterAfter counter (packetsFor u)) us)
+
+-- PAT, PMT and PCR, and those of the units
+pub length-segment : (c : Channel) (d : Bytes) (us : List TimedUnit) → length (segmentPackets c d us) ≡ 3 + packetsForUnits us
+unfolding segmentPackets
+length-segment c d us = omega (arith, length-units (c .«av1_pid») (c .«av1_counter») us)
+
+-- ---- the bytes as packets
+pub flat-length : (ps : List Bytes) → All Whole ps → length (flatten ps) ≡ 188 * length ps
+unfolding flatten
+flat-length [] h = refl
+flat-length (p ∷ ps) h = omega (arith, length-append p (flatten ps), flat-length ps (h .1), h .0)
+
+cut : (ps : List Bytes) → All Whole ps → packetsOf (length ps) (flatten ps) ≡ ps
+unfolding packetsOf flatten
+cut [] h = refl
+cut (p ∷ ps) h =
+    let t : take 188 (p ++ flatten ps) ≡ p = ap (λ (n : ℕ). take n (p ++ flatten ps)) (sym (h .0)) ∙ take-append-seam p (flatten ps) in
+    let r : drop 188 (p ++ flatten ps) ≡ flatten ps =
+    ap (λ (n : ℕ). drop n (p ++ flatten ps)) (sym (h .0)) ∙ drop-append-seam p (flatten ps) in
+    ap₂ (λ (x : Bytes) (y : List Bytes). x ∷ y) t (ap (packetsOf (length ps)) r ∙ cut ps (h .1))
+
+pub packets-back : (ps : List Bytes) → All Whole ps → packets (flatten ps) ≡ ps
+packets-back ps h =
+    let n : length (flatten ps) / 188 ≡ length ps = omega (arith, flat-length ps h) in
+    ap (λ (k : ℕ). packetsOf k (flatten ps)) n ∙ cut ps h
+
+-- 20 does not apply
+pub whole-segment : (ps : List Bytes) → All Whole ps → 0 < length ps → length ps ≤ 65535 → rule20 (flatten ps) ≡ passed tt
+unfolding segmentLengthWrong
+whole-segment ps h one most =
+    let l = flat-length ps h in
+    let a : eqb (length (flatten ps)) 0 ≡ false = ne-eqb (length (flatten ps)) 0 (λ (e : length (flatten ps) ≡ 0). omega arith) in
+    let b : eqb (length (flatten ps) % 188) 0 ≡ true = eq-eqb (length (flatten ps) % 188) 0 (omega arith) in
+    let f : ltb 65535 (length (flatten ps) / 188) ≡ false = le-ltb 65535 (length (flatten ps) / 188) (omega arith) in
+    not-given 20 _ (rw (a, b, f))

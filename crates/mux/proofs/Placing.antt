@@ -1,0 +1,259 @@
+-- A unit's packets, in the two parts in which they are written, and the loop over all units: what is written, then the packets of the
+-- units to come, are
+-- the packets of all. Assumes nothing.
+use Prim.Native.Nat.{ℕ, suc, _+_, _-_, _*_, _≤_, _<_}
+use mathlib.Core.Bool.{true}
+use mathlib.Core.Path.{_≡_, refl, sym, ap, ap₂, _∙_}
+use mathlib.Core.List.{List, [], _∷_, _++_, flatten, append-nil, append-assoc}
+use native.Mathlib.Omega.{arith}
+use borrow.Author.Tests.{ltb-true, ltb-false}
+use borrow.Rule.Slice.PartMut.{midOf, putMid}
+use lib.Dec.{ltb}
+use lib.ListN.{length, take, drop, length-append, length-drop, drop-of-length-le}
+use lib.Seq.{take-all, drop-drop, length-take-le}
+use Rattle.lists.specs.Lists.{Bytes, over, pick}
+use Rattle.lists.proofs.Picks.{by-true, by-false}
+use Rattle.lists.proofs.Tests.{case}
+use Rattle.packet.specs.Writing.{flag, carrying, counterAfter}
+use Rattle.packet.proofs.Writing.{length-carrying}
+use Rattle.queue.specs.declared.records.Queued.{Queued}
+use Rattle.queue.specs.Queue.{TimedUnit, timed}
+use Rattle.mux.specs.Packets.{header, firstMost, firstPart, otherParts, othersFor, packetsFor, framePlace, within, unitBytes}
+use Rattle.mux.specs.Packets.{firstFlags, others, unitPackets, unitsPackets, packetsForUnits}
+use Rattle.mux.specs.Parts.{headSize, firstSize, flagsOf, slotUnits, formed, slotPackets, slotsPackets}
+use Rattle.mux.proofs.Cuts.{firstBytes, first-part, other-parts, first-short}
+use Rattle.mux.proofs.Counts.{others-whole, length-others, unit-whole, units-whole, length-unit, length-units, flat-length}
+use Rattle.mux.proofs.Puts.{put-next, length-over}
+use Rattle.mux.proofs.Slotting.{header-size, unit-packets, Sound, sound, units-packets}
+
+-- ---- one unit
+module _ (u : TimedUnit) (first : ℕ) (e : first ≡ firstSize (u .marked) (headSize (u .pts) (u .dts)) (length (u .carried))) where
+  abbrev room : ℕ
+  room = firstMost (u .marked) - headSize (u .pts) (u .dts)
+
+  is-room : firstBytes u ≡ room
+  is-room = ap (λ (k : ℕ). firstMost (u .marked) - k) (header-size (u .pts) (u .dts) (length (u .carried)))
+
+  -- the first part of the unit is cut where the code cuts it
+  cuts : (take (firstBytes u) (u .carried) ≡ take first (u .carried)) × (drop (firstBytes u) (u .carried) ≡ drop first (u .carried))
+      × (length (take (firstBytes u) (u .carried)) ≡ first)
+  unfolding firstSize
+  cuts =
+      let s = u .carried in
+      case (ltb (length s) room)
+      (λ t.
+      let h = ltb-true (length s) room t in
+      let f : first ≡ length s = e ∙ sym (by-true _ t refl) in
+      let r = is-room in (
+        take-all (firstBytes u) s (omega arith) ∙ sym (take-all first s (omega arith)),
+        drop-of-length-le s {i = firstBytes u} (omega arith) ∙ sym (drop-of-length-le s {i = first} (omega arith)),
+        ap length (take-all (firstBytes u) s (omega arith)) ∙ sym f,
+      ))
+      (λ t.
+      let h = ltb-false (length s) room t in
+      let f : firstBytes u ≡ first = is-room ∙ by-false (length s) t refl ∙ sym e in
+      (ap (λ (k : ℕ). take k s) f, ap (λ (k : ℕ). drop k s) f, length-take-le (firstBytes u) s (omega (arith, is-room)) ∙ f))
+
+  pub first-is : firstPart u ≡ header u ++ take first (u .carried)
+  first-is = first-part u ∙ ap (λ (w : Bytes). header u ++ w) (cuts .0)
+
+  pub others-are : otherParts u ≡ drop first (u .carried)
+  others-are = other-parts u ∙ cuts .1
+
+  pub bytes-are : unitBytes u ≡ first
+  bytes-are = omega (arith, ap length (first-part u), length-append (header u) (take (firstBytes u) (u .carried)), cuts .2)
+
+  pub flags-are : flagsOf (u .marked) (within first (framePlace (u .carried))) ≡ firstFlags u
+  unfolding flagsOf firstFlags
+  flags-are = ap (λ (n : ℕ). pick (u .marked) (64 + flag (within n (framePlace (u .carried))) * 32) 0) (sym bytes-are)
+
+  -- the packets as they are written
+  pub unit-placed : (pid counter next flags : ℕ) (head : Bytes) → head ≡ header u → next ≡ counterAfter counter 1
+      → flags ≡ flagsOf (u .marked) (within first (framePlace (u .carried)))
+      → carrying pid true counter flags (head ++ take first (u .carried))
+      ++ flatten (others (othersFor (length (drop first (u .carried)))) pid next (drop first (u .carried)))
+      ≡ flatten (unitPackets pid counter u)
+  unfolding unitPackets flatten
+  unit-placed pid counter next flags head eh en ef =
+      ap₂ (λ (x : ℕ) (w : Bytes). carrying pid true counter x w ++ flatten
+      (others (othersFor (length (drop first (u .carried)))) pid next (drop first (u .carried))))
+      (ef ∙ flags-are) (ap (λ (w : Bytes). w ++ take first (u .carried)) eh ∙ sym first-is)
+      ∙ ap₂ (λ (k : ℕ) (w : Bytes). carrying pid true counter (firstFlags u) (firstPart u) ++ flatten
+      (others (othersFor (length w)) pid k w)) en (sym others-are)
+
+  pub others-count : packetsFor u ≡ suc (othersFor (length (drop first (u .carried))))
+  others-count = ap (λ (w : Bytes). suc (othersFor (length w))) others-are
+
+-- what the packets after the first are long
+pub others-long : (pid counter : ℕ) (s : Bytes)
+    → length (flatten (others (othersFor (length s)) pid counter s)) ≡ 188 * othersFor (length s)
+others-long pid counter s =
+    flat-length (others (othersFor (length s)) pid counter s) (others-whole pid (othersFor (length s)) counter s)
+    ∙ ap (λ (n : ℕ). 188 * n) (length-others pid (othersFor (length s)) counter s)
+
+pub unit-long : (pid counter : ℕ) (u : TimedUnit) → length (flatten (unitPackets pid counter u)) ≡ 188 * packetsFor u
+unit-long pid counter u =
+    flat-length (unitPackets pid counter u) (unit-whole pid counter u) ∙ ap (λ (n : ℕ). 188 * n) (length-unit pid counter u)
+
+pub units-long : (pid counter : ℕ) (us : List TimedUnit) → length (flatten (unitsPackets pid counter us)) ≡ 188 * packetsForUnits us
+units-long pid counter us =
+    flat-length (unitsPackets pid counter us) (units-whole pid counter us) ∙ ap (λ (n : ℕ). 188 * n) (length-units pid counter us)
+
+-- what a call is lent
+pub mid-long : (out : Bytes) (to : ℕ) → to ≤ length out → length (midOf to (length out - to) out) ≡ length out - to
+mid-long out to h = length-take-le (length out - to) (drop to out) (omega (arith, length-drop to out))
+
+-- ---- a unit's packets in the output
+module _ (u : TimedUnit) (first : ℕ) (e : first
+    ≡ firstSize (u .marked) (headSize (u .pts) (u .dts)) (length (u .carried))) (pid counter next flags : ℕ)
+    (head begun behind out out1 : Bytes) (eh : head ≡ header u) (eb : begun ≡ take first (u .carried)) (er : behind
+    ≡ drop first (u .carried))
+    (fits : 188 * packetsFor u ≤ length out) (put : out1 ≡ over (carrying pid true counter flags (head ++ begun)) out) where
+  first-long : length (carrying pid true counter flags (head ++ begun)) ≡ 188
+  first-long =
+      length-carrying pid true counter flags (head ++ begun)
+      (omega (arith, first-short u, ap length (first-is u first e), ap₂ (λ (x y : Bytes). length (x ++ y)) eh eb))
+
+  same-long : length out1 ≡ length out
+  same-long = ap length put ∙ length-over (carrying pid true counter flags (head ++ begun)) out (omega (arith, first-long))
+
+  counted : packetsFor u ≡ suc (othersFor (length behind))
+  counted = others-count u first e ∙ ap (λ (w : Bytes). suc (othersFor (length w))) (sym er)
+
+  pub unit-room : 188 * othersFor (length behind) ≤ length (midOf 188 (length out1 - 188) out1)
+  unit-room = omega (arith, mid-long out1 188 (omega (arith, same-long)), same-long, counted)
+
+  pub unit-written : (after : Bytes) → next ≡ counterAfter counter 1 → flags ≡ flagsOf (u .marked) (within first (framePlace (u .carried)))
+      → after ≡ over (flatten (others (othersFor (length behind)) pid next behind)) (midOf 188 (length out1 - 188) out1)
+      → putMid 188 (length out1 - 188) out1 after ≡ over (flatten (unitPackets pid counter u)) out
+  unit-written after en ef ea =
+      let w = carrying pid true counter flags (head ++ begun) in
+      put-next w (flatten (others (othersFor (length behind)) pid next behind)) out out1 after 188 (sym first-long) put
+      (omega (arith, first-long, others-long pid next behind, counted)) ea
+      ∙ ap₂ (λ (x y : Bytes). over
+      (carrying pid true counter flags (head ++ x) ++ flatten (others (othersFor (length y)) pid next y)) out) eb er
+      ∙ ap (λ (x : Bytes). over x out) (unit-placed u first e pid counter next flags head eh en ef)
+
+-- ---- all units in the output
+-- a slot's unit, of the bytes from its place on
+abbrev pub unitIn : Queued → Bytes → TimedUnit
+unitIn r s = timed (take (r .length) s) (r .pts) (r .dts) (r .marked)
+
+abbrev packetsFrom : ℕ → ℕ → List Queued → Bytes → Bytes
+packetsFrom pid counter rs s = flatten (unitsPackets pid counter (slotUnits rs s))
+
+pub record Filling (pid counter : ℕ) (rs : List Queued) (store out₀ : Bytes) (i at to next : ℕ) (out : Bytes) : Type 0 where
+  pub written : Bytes
+  pub stands : out ≡ over written out₀
+  pub place : to ≡ length written
+  pub rest : written ++ packetsFrom pid next (drop i rs) (drop at store) ≡ packetsFrom pid counter rs store
+  pub low : next < 16
+  pub within : at ≤ length store
+  pub good : formed (drop i rs) (length store - at) ≡ true
+
+flat-append : (ps qs : List Bytes) → flatten (ps ++ qs) ≡ flatten ps ++ flatten qs
+unfolding flatten
+flat-append [] qs = refl
+flat-append (p ∷ ps) qs = ap (λ (x : Bytes). p ++ x) (flat-append ps qs) ∙ sym (append-assoc p (flatten ps) (flatten qs))
+
+module _ (pid counter : ℕ) (rs : List Queued) (store out₀ : Bytes) where
+  pub filling-start : counter < 16 → formed rs (length store) ≡ true → Filling pid counter rs store out₀ 0 0 0 counter out₀
+  filling-start h e =
+      let z : length store ≡ length store - 0 = omega arith in
+      record { written = []; stands = refl; place = refl; rest = refl; low = h; within = omega arith; good = ap (formed rs) (sym z) ∙ e }
+
+  module _ (fits : 188 * slotsPackets rs ≤ length out₀) (all : formed rs (length store) ≡ true) where
+    whole-long : length (packetsFrom pid counter rs store) ≡ 188 * slotsPackets rs
+    whole-long = units-long pid counter (slotUnits rs store) ∙ ap (λ (n : ℕ). 188 * n) (units-packets rs store all)
+
+    module _ {i at to next : ℕ} {out : Bytes} (g : Filling pid counter rs store out₀ i at to next out) where
+      pub filling-long : length out ≡ length out₀
+      filling-long =
+          ap length (g .stands)
+          ∙ length-over (g .written) out₀
+          (omega (arith, ap length (g .rest), whole-long, length-append (g .written) (packetsFrom pid next (drop i rs) (drop at store))))
+
+      pub filling-done : drop i rs ≡ [] → out ≡ over (packetsFrom pid counter rs store) out₀
+      unfolding slotUnits unitsPackets flatten
+      filling-done e =
+          g .stands
+          ∙ ap (λ (w : Bytes). over w out₀)
+          (sym (append-nil (g .written)) ∙ ap (λ (l : List Queued). g .written ++ packetsFrom pid next l (drop at store)) (sym e) ∙ g .rest)
+
+      -- the next slot
+      module _ (r : Queued) (more : drop i rs ≡ r ∷ drop (i + 1) rs) where
+        abbrev s : Bytes
+        s = drop at store
+
+        abbrev u : TimedUnit
+        u = unitIn r s
+
+        good-slot : formed (r ∷ drop (i + 1) rs) (length store - at) ≡ true
+        good-slot = ap (λ (l : List Queued). formed l (length store - at)) (sym more) ∙ g .good
+
+        pub slot-sound : Sound r (drop (i + 1) rs) (length store - at)
+        slot-sound = sound r (drop (i + 1) rs) (length store - at) good-slot
+
+        pub slot-ends : at + r .length ≤ length store
+        slot-ends = let w = g .within in omega (arith, slot-sound .within)
+
+        carried-long : length (take (r .length) s) ≡ r .length
+        carried-long = length-take-le (r .length) s (omega (arith, length-drop at store, slot-ends))
+
+        pub slot-count : packetsFor u ≡ slotPackets r
+        slot-count = unit-packets u ∙ ap (λ (n : ℕ). suc (othersFor (headSize (r .pts) (r .dts) + n - firstMost (r .marked)))) carried-long
+
+        two-parts : packetsFrom pid next (drop i rs) s
+            ≡ flatten (unitPackets pid next u) ++ packetsFrom pid (counterAfter next (packetsFor u)) (drop (i + 1) rs) (drop (r .length) s)
+        unfolding slotUnits unitsPackets
+        two-parts =
+            ap (λ (l : List Queued). packetsFrom pid next l s) more
+            ∙ flat-append (unitPackets pid next u)
+            (unitsPackets pid (counterAfter next (packetsFor u)) (slotUnits (drop (i + 1) rs) (drop (r .length) s)))
+
+        total : to + 188 * packetsFor u ≤ length out₀
+        total =
+            omega (
+              arith,
+              g .place,
+              ap length (g .rest),
+              whole-long,
+              length-append (g .written) (packetsFrom pid next (drop i rs) s),
+              ap length two-parts,
+              length-append (flatten (unitPackets pid next u))
+                  (packetsFrom pid (counterAfter next (packetsFor u)) (drop (i + 1) rs) (drop (r .length) s)),
+              unit-long pid next u,
+            )
+
+        pub slot-room : 188 * packetsFor u ≤ length (midOf to (length out - to) out)
+        slot-room = omega (arith, total, filling-long, mid-long out to (omega (arith, total, filling-long)))
+
+        pub slot-to : to + 188 * slotPackets r ≤ length out₀
+        slot-to = omega (arith, total, slot-count)
+
+        pub filling-next : (n next′ : ℕ) (after : Bytes) → n ≡ slotPackets r → next′ ≡ counterAfter next n
+            → after ≡ over (flatten (unitPackets pid next u)) (midOf to (length out - to) out)
+            → Filling pid counter rs store out₀ (i + 1) (at + r .length) (to + 188 * n) next′ (putMid to (length out - to) out after)
+        filling-next n next′ after en ek ea =
+            let p = flatten (unitPackets pid next u) in
+            let m : n ≡ packetsFor u = en ∙ sym slot-count in
+            let k : next′ ≡ counterAfter next (packetsFor u) = ek ∙ ap (counterAfter next) m in
+            let tail : drop (r .length) s ≡ drop (at + r .length) store = drop-drop (r .length) at store in
+            let left : length store - at - r .length ≡ length store - (at + r .length) = omega arith in
+            record {
+              written = g .written ++ p;
+              stands = put-next (g .written) p out₀ out after to (g .place) (g .stands)
+                  (omega (arith, total, unit-long pid next u, g .place)) ea;
+              place = omega (arith, length-append (g .written) p, unit-long pid next u, g .place, m);
+              rest =
+                  append-assoc (g .written) p (packetsFrom pid next′ (drop (i + 1) rs) (drop (at + r .length) store))
+                  ∙ ap₂ (λ (x : ℕ) (w : Bytes). g .written ++ (p ++ packetsFrom pid x (drop (i + 1) rs) w)) k (sym tail)
+                  ∙ ap (λ (w : Bytes). g .written ++ w) (sym two-parts) ∙ g .rest;
+              low = omega (arith, k);
+              within = slot-ends;
+              good = ap (formed (drop (i + 1) rs)) (sym left) ∙ slot-sound .rest;
+            }
+
+-- a part of the store, as a call is lent it
+pub part-is : (s : Bytes) (at n : ℕ) → take (at + n - at) (drop at s) ≡ take n (drop at s)
+part-is s at n = let e : at + n - at ≡ n = omega arith in ap (λ (k : ℕ). take k (drop at s)) e

@@ -1,0 +1,92 @@
+-- The tests are those of the definition, in its order.
+use borrow.Author.Needs.{needs}
+use mathlib.Core.Path.{refl, sym, _∙_}
+use Rattle.lists.proofs.Tests.{or-by-true, or-by-false}
+use mathlib.Core.Bool.{or-false}
+use Rattle.lists.specs.Lists.{any}
+use Rattle.mux.specs.Sending.{channelWrong}
+use Rattle.mux.proofs.channel.channel_wrong.Statement.{statement}
+use Rattle.mux.proofs.channel.channel_wrong.Tie as tie
+
+video-wrong-requires : tie.Need-video-wrong-requires
+video-wrong-requires c κs = search needs
+
+returns : tie.Need-returns
+unfolding any channelWrong
+returns c = or-by-true _ (sym (c .before .video-wrong .ensures) ∙ c .if1 .taken) refl
+
+map-pid-wrong-requires : tie.Need-map-pid-wrong-requires
+map-pid-wrong-requires c κs = search needs
+
+returns-2 : tie.Need-returns-2
+unfolding any channelWrong
+returns-2 c =
+    or-by-false (sym (c .before .before .before .video-wrong .ensures)
+    ∙ c .before .before .if1 .left) (or-by-true _ (sym (c .before .map-pid-wrong .ensures) ∙ c .if2 .taken) refl)
+
+av1-pid-wrong-requires : tie.Need-av1-pid-wrong-requires
+av1-pid-wrong-requires c κs = search needs
+
+returns-3 : tie.Need-returns-3
+unfolding any channelWrong
+returns-3 c =
+    or-by-false (sym (c .before .before .before .before .before .video-wrong .ensures)
+    ∙ c .before .before .before .before .if1 .left) (or-by-false (sym (c .before .before .before .map-pid-wrong .ensures)
+    ∙ c .before .before .if2 .left) (or-by-true _ (sym (c .before .av1-pid-wrong .ensures) ∙ c .if3 .taken) refl))
+
+program-wrong-requires : tie.Need-program-wrong-requires
+program-wrong-requires c κs = search needs
+
+returns-4 : tie.Need-returns-4
+unfolding any channelWrong
+returns-4 c =
+    or-by-false (sym (c .before .before .before .before .before .before .before .video-wrong .ensures)
+    ∙ c .before .before .before .before .before .before .if1 .left)
+    (or-by-false (sym (c .before .before .before .before .before .map-pid-wrong .ensures) ∙ c .before .before .before .before .if2 .left)
+    (or-by-false (sym (c .before .before .before .av1-pid-wrong .ensures) ∙ c .before .before .if3 .left)
+    (or-by-true _ (sym (c .before .program-wrong .ensures) ∙ c .if4 .taken) refl)))
+
+counters-wrong-requires : tie.Need-counters-wrong-requires
+counters-wrong-requires c κs = search needs
+
+returns-5 : tie.Need-returns-5
+unfolding any channelWrong
+returns-5 c =
+    or-by-false (sym (c .before .before .before .before .before .before .before .before .before .video-wrong .ensures)
+    ∙ c .before .before .before .before .before .before .before .before .if1 .left)
+    (or-by-false
+    (sym (c .before .before .before .before .before .before .before .map-pid-wrong .ensures)
+    ∙ c .before .before .before .before .before .before .if2 .left)
+    (or-by-false (sym (c .before .before .before .before .before .av1-pid-wrong .ensures) ∙ c .before .before .before .before .if3 .left)
+    (or-by-false (sym (c .before .before .before .program-wrong .ensures) ∙ c .before .before .if4 .left)
+    (or-by-true _ (sym (c .before .counters-wrong .ensures) ∙ c .if5 .taken) refl))))
+
+returns-6 : tie.Need-returns-6
+unfolding any channelWrong
+returns-6 c =
+    or-by-false (sym (c .before .before .before .before .before .before .before .before .before .before .video-wrong .ensures)
+    ∙ c .before .before .before .before .before .before .before .before .before .if1 .left)
+    (or-by-false
+    (sym (c .before .before .before .before .before .before .before .before .map-pid-wrong .ensures)
+    ∙ c .before .before .before .before .before .before .before .if2 .left)
+    (or-by-false
+    (sym (c .before .before .before .before .before .before .av1-pid-wrong .ensures)
+    ∙ c .before .before .before .before .before .if3 .left) (or-by-false (sym (c .before .before .before .before .program-wrong .ensures)
+    ∙ c .before .before .before .if4 .left) (or-by-false (sym (c .before .before .counters-wrong .ensures)
+    ∙ c .before .if5 .left) (sym (or-false _))))))
+
+pub channel-wrong-spec : {M : Type 1} → statement M
+channel-wrong-spec =
+    tie.close
+    (tie.spec
+    video-wrong-requires
+    returns
+    map-pid-wrong-requires
+    returns-2
+    av1-pid-wrong-requires
+    returns-3
+    program-wrong-requires
+    returns-4
+    counters-wrong-requires
+    returns-5
+    returns-6)

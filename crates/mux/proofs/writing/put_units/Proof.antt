@@ -1,0 +1,267 @@
+-- What is written, then the packets of the units to come, are the packets of all.
+use borrow.Author.Needs.{needs}
+use native.Mathlib.Omega.{arith}
+use Prim.Native.Nat.{_-_, _*_, _≤_}
+use mathlib.Core.Path.{_≡_, sym, ap, subst, _∙_}
+use mathlib.Core.List.{flatten}
+use lib.ListN.{length, drop, getD, length-take}
+use Rattle.lists.specs.Lists.{Bytes, over}
+use Rattle.lists.proofs.Parts.{next, unmapped}
+use Rattle.mux.proofs.Placing.{Filling, filling-start, filling-long, filling-done, filling-next, slot-sound, slot-ends, slot-room}
+use Rattle.mux.proofs.Placing.{slot-to, part-is}
+use Rattle.mux.specs.Parts.{filled}
+use Rattle.mux.specs.Packets.{packetsFor, unitPackets}
+use Rattle.queue.specs.Queue.{timed, noRecord}
+use borrow.Rule.Slice.PartMut.{midOf}
+use Rattle.mux.proofs.Slotting.{well, slot-next, slot-last}
+use Rattle.mux.proofs.writing.put_units.Statement.{statement}
+use Rattle.mux.proofs.writing.put_units.Tie as tie
+
+abbrev Inv-loop : tie.InvT-loop
+Inv-loop pid counter store out₀ queue count i₀ at₀ to₀ next₀ out i at to next =
+    (i ≤ count) × (count ≤ 8) × Filling pid counter (filled queue) store out₀ i at to next out
+
+abbrev μ-loop : tie.MeasureT-loop
+μ-loop pid counter store out₀ queue count i₀ at₀ to₀ next₀ out i at to next = count - i
+
+loop-holds : tie.Need-loop-holds Inv-loop μ-loop
+loop-holds c = let a = c .before .before .args in
+    let q = a .t3 in
+    let w = well q (length (a .store .now)) (c .before .before .pre .2) in
+    (omega arith, w .0, filling-start (a .pid) (a .counter) (filled q) (a .store .now) (a .out .now) (c .before .before .pre .1) (w .1))
+
+mul-slot : tie.Need-mul-slot Inv-loop μ-loop
+mul-slot c = search needs
+
+element-copy-out-slot : tie.Need-element-copy-out-slot Inv-loop μ-loop
+element-copy-out-slot c = search needs
+
+add-end : tie.Need-add-end Inv-loop μ-loop
+add-end c = let a = c .before .before .before .before .before .before .args in
+    let q = a .t3 in
+    let at = c .before .before .before .loop in
+    let e : length (q .units) ≡ 8 = search (needs, unmapped) in
+    let w = well q (length (a .store .now)) (c .before .before .before .before .before .before .pre .2) in
+    let g = at .inv .2 in
+    let r = getD (q .units) (at .i) noRecord in
+    let n = slot-next (q .units) (q .count) (at .i) noRecord (omega arith) (omega arith) in
+    omega (
+      arith,
+      slot-ends (a .pid) (a .counter) (filled q) (a .store .now) (a .out .now)
+          (c .before .before .before .before .before .before .pre .3) (w .1) g r n,
+    )
+
+sub-put-unit : tie.Need-sub-put-unit Inv-loop μ-loop
+sub-put-unit c = omega arith
+
+part-put-unit-start : tie.Need-part-put-unit-start Inv-loop μ-loop
+part-put-unit-start c = omega arith
+
+part-put-unit-end : tie.Need-part-put-unit-end Inv-loop μ-loop
+part-put-unit-end c = let a = c .before .before .before .before .before .before .args in
+    let q = a .t3 in
+    let at = c .before .before .before .loop in
+    let e : length (q .units) ≡ 8 = search (needs, unmapped) in
+    let w = well q (length (a .store .now)) (c .before .before .before .before .before .before .pre .2) in
+    let g = at .inv .2 in
+    let r = getD (q .units) (at .i) noRecord in
+    let n = slot-next (q .units) (q .count) (at .i) noRecord (omega arith) (omega arith) in
+    slot-ends (a .pid) (a .counter) (filled q) (a .store .now) (a .out .now) (c .before .before .before .before .before .before .pre .3)
+    (w .1) g r n
+
+sub-put-unit-2 : tie.Need-sub-put-unit-2 Inv-loop μ-loop
+sub-put-unit-2 c = let a = c .before .before .before .before .before .before .before .args in
+    let q = a .t3 in
+    let at = c .before .before .before .before .loop in
+    let e : length (q .units) ≡ 8 = search (needs, unmapped) in
+    let w = well q (length (a .store .now)) (c .before .before .before .before .before .before .before .pre .2) in
+    let g = at .inv .2 in
+    let r = getD (q .units) (at .i) noRecord in
+    let n = slot-next (q .units) (q .count) (at .i) noRecord (omega arith) (omega arith) in
+    omega (
+      arith,
+      filling-long (a .pid) (a .counter) (filled q) (a .store .now) (a .out .now)
+          (c .before .before .before .before .before .before .before .pre .3) (w .1) g,
+      slot-to (a .pid) (a .counter) (filled q) (a .store .now)
+          (a .out .now) (c .before .before .before .before .before .before .before .pre .3) (w .1) g r n,
+    )
+
+part-put-unit-start-2 : tie.Need-part-put-unit-start-2 Inv-loop μ-loop
+part-put-unit-start-2 c = let a = c .before .before .before .before .before .before .before .args in
+    let q = a .t3 in
+    let at = c .before .before .before .before .loop in
+    let e : length (q .units) ≡ 8 = search (needs, unmapped) in
+    let w = well q (length (a .store .now)) (c .before .before .before .before .before .before .before .pre .2) in
+    let g = at .inv .2 in
+    let r = getD (q .units) (at .i) noRecord in
+    let n = slot-next (q .units) (q .count) (at .i) noRecord (omega arith) (omega arith) in
+    omega (
+      arith,
+      filling-long (a .pid) (a .counter) (filled q) (a .store .now) (a .out .now)
+          (c .before .before .before .before .before .before .before .pre .3) (w .1) g,
+      slot-to (a .pid) (a .counter) (filled q) (a .store .now)
+          (a .out .now) (c .before .before .before .before .before .before .before .pre .3) (w .1) g r n,
+    )
+
+part-put-unit-end-2 : tie.Need-part-put-unit-end-2 Inv-loop μ-loop
+part-put-unit-end-2 c = let a = c .before .before .before .before .before .before .before .args in
+    let q = a .t3 in
+    let at = c .before .before .before .before .loop in
+    let e : length (q .units) ≡ 8 = search (needs, unmapped) in
+    let w = well q (length (a .store .now)) (c .before .before .before .before .before .before .before .pre .2) in
+    let g = at .inv .2 in
+    let r = getD (q .units) (at .i) noRecord in
+    let n = slot-next (q .units) (q .count) (at .i) noRecord (omega arith) (omega arith) in
+    omega (
+      arith,
+      filling-long (a .pid) (a .counter) (filled q) (a .store .now) (a .out .now)
+          (c .before .before .before .before .before .before .before .pre .3) (w .1) g,
+      slot-to (a .pid) (a .counter) (filled q) (a .store .now)
+          (a .out .now) (c .before .before .before .before .before .before .before .pre .3) (w .1) g r n,
+    )
+
+put-unit-requires : tie.Need-put-unit-requires Inv-loop μ-loop
+put-unit-requires c κs = let a = c .before .before .before .before .before .before .before .before .args in
+    let q = a .t3 in
+    let at = c .before .before .before .before .before .loop in
+    let e : length (q .units) ≡ 8 = search (needs, unmapped) in
+    let w = well q (length (a .store .now)) (c .before .before .before .before .before .before .before .before .pre .2) in
+    let g = at .inv .2 in
+    let r = getD (q .units) (at .i) noRecord in
+    let n = slot-next (q .units) (q .count) (at .i) noRecord (omega arith) (omega arith) in
+    let so = slot-sound (a .pid) (a .counter) (filled q) (a .store .now) (a .out .now)
+    (c .before .before .before .before .before .before .before .before .pre .3) (w .1) g r n in
+    let p = part-is (a .store .now) (at .at) (r .length) in
+    let t = length-take (r .length) (drop (at .at) (a .store .now)) in (
+      c .before .before .before .before .before .before .before .before .pre .0,
+      g .low,
+      so .pts,
+      so .dts,
+      omega (arith, ap length p, t, so .short),
+      subst (λ (x : Bytes). 188 * packetsFor (timed x (r .pts) (r .dts) (r .marked)) ≤ length
+          (midOf (at .to) (length (at .out) - at .to) (at .out))) (sym p)
+          (slot-room (a .pid) (a .counter) (filled q) (a .store .now) (a .out .now)
+          (c .before .before .before .before .before .before .before .before .pre .3) (w .1) g r n),
+    )
+
+slot-packets-requires : tie.Need-slot-packets-requires Inv-loop μ-loop
+slot-packets-requires c κs = let a = c .before .before .before .before .before .before .before .before .before .before .before .args in
+    let q = a .t3 in
+    let at = c .before .before .before .before .before .before .before .before .loop in
+    let e : length (q .units) ≡ 8 = search (needs, unmapped) in
+    let w = well q (length (a .store .now))
+    (c .before .before .before .before .before .before .before .before .before .before .before .pre .2) in
+    let g = at .inv .2 in
+    let r = getD (q .units) (at .i) noRecord in
+    let n = slot-next (q .units) (q .count) (at .i) noRecord (omega arith) (omega arith) in
+    slot-sound (a .pid) (a .counter) (filled q) (a .store .now) (a .out .now)
+    (c .before .before .before .before .before .before .before .before .before .before .before .pre .3) (w .1) g r n .short
+
+mul-to : tie.Need-mul-to Inv-loop μ-loop
+mul-to c = omega (arith, c .slot-packets .ensures .1)
+
+add-to : tie.Need-add-to Inv-loop μ-loop
+add-to c = let a = c .before .before .before .before .before .before .before .before .before .before .before .before .args in
+    let q = a .t3 in
+    let at = c .before .before .before .before .before .before .before .before .before .loop in
+    let e : length (q .units) ≡ 8 = search (needs, unmapped) in
+    let w = well q (length (a .store .now))
+    (c .before .before .before .before .before .before .before .before .before .before .before .before .pre .2) in
+    let g = at .inv .2 in
+    let r = getD (q .units) (at .i) noRecord in
+    let n = slot-next (q .units) (q .count) (at .i) noRecord (omega arith) (omega arith) in
+    omega (
+      arith,
+      c .slot-packets .ensures .0,
+      filling-long (a .pid) (a .counter) (filled q) (a .store .now) (a .out .now)
+          (c .before .before .before .before .before .before .before .before .before .before .before .before .pre .3) (w .1) g,
+      slot-to (a .pid)
+          (a .counter) (filled q) (a .store .now) (a .out .now)
+          (c .before .before .before .before .before .before .before .before .before .before .before .before .pre .3) (w .1) g r n,
+    )
+
+counter-after-requires : tie.Need-counter-after-requires Inv-loop μ-loop
+counter-after-requires c κs =
+    let a = c .before .before .before .before .before .before .before .before .before .before .before .before .args in
+    let q = a .t3 in
+    let at = c .before .before .before .before .before .before .before .before .before .loop in
+    let e : length (q .units) ≡ 8 = search (needs, unmapped) in
+    let w = well q (length (a .store .now))
+    (c .before .before .before .before .before .before .before .before .before .before .before .before .pre .2) in
+    let g = at .inv .2 in
+    let r = getD (q .units) (at .i) noRecord in
+    let n = slot-next (q .units) (q .count) (at .i) noRecord (omega arith) (omega arith) in
+    (g .low, omega (arith, c .slot-packets .ensures .1))
+
+add-i : tie.Need-add-i Inv-loop μ-loop
+add-i c = omega arith
+
+loop-less : tie.Need-loop-less Inv-loop μ-loop
+loop-less c = omega arith
+
+loop-again : tie.Need-loop-again Inv-loop μ-loop
+loop-again c = let a = c .before .before .before .before .before .before .before .before .before .before .before .before .before .args in
+    let q = a .t3 in
+    let at = c .before .before .before .before .before .before .before .before .before .before .loop in
+    let e : length (q .units) ≡ 8 = search (needs, unmapped) in
+    let w = well q (length (a .store .now))
+    (c .before .before .before .before .before .before .before .before .before .before .before .before .before .pre .2) in
+    let g = at .inv .2 in
+    let r = getD (q .units) (at .i) noRecord in
+    let n = slot-next (q .units) (q .count) (at .i) noRecord (omega arith) (omega arith) in
+    let p = part-is (a .store .now) (at .at) (r .length) in (
+      omega arith,
+      at .inv .1,
+      filling-next (a .pid) (a .counter) (filled q) (a .store .now) (a .out .now)
+          (c .before .before .before .before .before .before .before .before .before .before .before .before .before .pre .3) (w .1) g r n _ _ _
+          (c .before .slot-packets .ensures .0) (c .counter-after .ensures)
+          (c .before .before .before .before .put-unit .ensures
+          ∙ ap (λ (x : Bytes). over (flatten (unitPackets (a .pid) (at .next) (timed x (r .pts) (r .dts) (r .marked))))
+          (midOf (at .to) (length (at .out) - at .to) (at .out))) p),
+    )
+
+same-length : tie.Need-same-length Inv-loop μ-loop
+same-length c = let a = c .before .before .before .before .args in
+    let q = a .t3 in
+    let at = c .before .loop in
+    let e : length (q .units) ≡ 8 = search (needs, unmapped) in
+    let w = well q (length (a .store .now)) (c .before .before .before .before .pre .2) in
+    let g = at .inv .2 in
+    filling-long (a .pid) (a .counter) (filled q) (a .store .now) (a .out .now) (c .before .before .before .before .pre .3) (w .1) g
+
+returns : tie.Need-returns Inv-loop μ-loop
+returns c = let a = c .before .before .before .before .args in
+    let q = a .t3 in
+    let at = c .before .loop in
+    let e : length (q .units) ≡ 8 = search (needs, unmapped) in
+    let w = well q (length (a .store .now)) (c .before .before .before .before .pre .2) in
+    let g = at .inv .2 in
+    filling-done (a .pid) (a .counter) (filled q) (a .store .now) (a .out .now) (c .before .before .before .before .pre .3) (w .1) g
+    (slot-last (q .units) (q .count) (at .i) (omega arith))
+
+pub put-units-spec : {M : Type 1} → statement M
+put-units-spec =
+    tie.close
+    (tie.spec
+    Inv-loop
+    μ-loop
+    loop-holds
+    mul-slot
+    element-copy-out-slot
+    add-end
+    sub-put-unit
+    part-put-unit-start
+    part-put-unit-end
+    sub-put-unit-2
+    part-put-unit-start-2
+    part-put-unit-end-2
+    put-unit-requires
+    slot-packets-requires
+    mul-to
+    add-to
+    counter-after-requires
+    add-i
+    loop-less
+    loop-again
+    same-length
+    returns)

@@ -1,0 +1,4 @@
+pub mod Packets
+pub mod Sending
+pub mod Claim
+pub mod Parts

@@ -1,0 +1,133 @@
+// Send.
+ghost use mathlib.Core.Path.{_≡_};
+ghost use mathlib.Core.Bool.{false};
+ghost use mathlib.Core.List.{List};
+ghost use Prim.Native.Nat.{_≤_, _<_};
+ghost use lib.ListN.{length};
+ghost use Rattle.lists.specs.Lists.{over};
+ghost use Rattle.packet.specs.Writing.{counterBefore};
+ghost use Rattle.queue.specs.Queue.{TimedUnit, QueueIs};
+ghost use Rattle.mux.specs.Sending.{channelWrong, Sends};
+ghost use Rattle.mux.specs.Parts.{tablePackets, channelAfter};
+use crate::channel::Channel;
+use crate::channel::channel_wrong;
+use crate::measuring::queue_packets;
+use crate::measuring::well_formed;
+use crate::packets::put_pcr;
+use crate::packets::put_section;
+use crate::sections::pat_section;
+use crate::sections::pmt_section;
+use crate::writing::counter_after;
+use crate::writing::put_units;
+use queue::Queue;
+use refusal::Refusal;
+use refusal::Refused;
+
+// How many bytes and packets were written.
+pub struct Written {
+    pub bytes: usize,
+    pub packets: usize,
+}
+
+// The segment was written; or 52, 53, 8.
+pub enum SendAnswer {
+    Sent(Written),
+    Refused(Refused),
+}
+
+// The answer, the channel with the counters that follow, and the queue then.
+pub struct Sent {
+    pub answer: SendAnswer,
+    pub next: Channel,
+    pub queue: Queue,
+}
+
+// One less modulo 16.
+fn counter_before(counter: u64) -> u64
+    requires { ⌜ counter < 16 ⌝ }
+    ensures { λ r. ⌜ r ≡ counterBefore counter ⌝ }
+{
+    (counter + 15) % 16
+}
+
+// PAT, PMT and PCR.
+fn put_tables(channel: Channel, video: &[u8], out: &mut [u8])
+    requires { ⌜ (channelWrong channel (now video) ≡ false) × (564 ≤ length (now out)) ⌝ }
+    ensures { λ _. ⌜ now (out .exit) ≡ over (tablePackets channel (now (video .entry))) (now (out .entry)) ⌝ }
+{
+    let pat = pat_section(channel.program, channel.map_pid);
+    put_section(0, channel.pat_counter, &pat, out);
+    let pmt = pmt_section(channel.program, channel.av1_pid, video);
+    put_section(channel.map_pid, channel.map_counter, &pmt, &mut out[188..]);
+    let counter = counter_before(channel.av1_counter);
+    let pcr = channel.pcr;
+    put_pcr(channel.av1_pid, counter, pcr, &mut out[376..]);
+}
+
+// A refusal, and channel and queue as they were.
+fn refuse(why: Refusal, channel: Channel, queue: Queue) -> Sent
+    ensures { λ r. ⌜ r ≡ record {
+      answer = SendAnswer.Refused (record { why = why; place = 0 });
+      next = channel;
+      queue = queue;
+    } ⌝ }
+{
+    Sent {
+        answer: SendAnswer::Refused(Refused { why, place: 0 }),
+        next: channel,
+        queue,
+    }
+}
+
+// The channel after so many packets of units.
+fn channel_after(channel: Channel, n: usize) -> Channel
+    requires { ⌜ (channel .«pat_counter» < 16) × (channel .«map_counter» < 16) × (channel .«av1_counter» < 16)
+        × (n ≤ 68408) ⌝ }
+    ensures { λ r. ⌜ r ≡ channelAfter channel n ⌝ }
+{
+    let pat = counter_after(channel.pat_counter, 1);
+    let map = counter_after(channel.map_counter, 1);
+    let av1 = counter_after(channel.av1_counter, n);
+    let mut next = channel;
+    next.pat_counter = pat;
+    next.map_counter = map;
+    next.av1_counter = av1;
+    next
+}
+
+// Writes the queued units, whose bytes stand in the store, as a segment; the queue is then empty.
+pub fn send(queue: Queue, store: &[u8], channel: Channel, video: &[u8], out: &mut [u8]) -> Sent
+    ensures { λ r. ⌜ ((units : List TimedUnit) → QueueIs queue (now (store .entry)) units
+        → Sends channel (now (video .entry)) units (now (out .entry)) r (now (out .exit))) ⌝ }
+{
+    if channel_wrong(channel, video) {
+        return refuse(Refusal::CHANNEL, channel, queue);
+    }
+    if !well_formed(queue, store.len()) {
+        return refuse(Refusal::NO_ROOM, channel, queue); // no queue that the operations lead to
+    }
+    let units = queue_packets(queue, store.len());
+    let packets = 3 + units;
+    if 65535 < packets {
+        return refuse(Refusal::PACKETS_TO_SEND, channel, queue);
+    }
+    if out.len() < 188 * packets {
+        return refuse(Refusal::NO_ROOM, channel, queue);
+    }
+    put_tables(channel, video, out);
+    put_units(
+        channel.av1_pid,
+        channel.av1_counter,
+        queue,
+        store,
+        &mut out[564..],
+    );
+    Sent {
+        answer: SendAnswer::Sent(Written {
+            bytes: 188 * packets,
+            packets,
+        }),
+        next: channel_after(channel, units),
+        queue: Queue::empty(),
+    }
+}

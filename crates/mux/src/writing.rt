@@ -1,0 +1,76 @@
+// A unit's PES, and those of all units, put into the output.
+ghost use mathlib.Core.Path.{_≡_};
+ghost use mathlib.Core.Bool.{true};
+ghost use mathlib.Core.List.{flatten};
+ghost use Prim.Native.Nat.{_*_, _≤_, _<_};
+ghost use lib.ListN.{length};
+ghost use Rattle.lists.specs.Lists.{over};
+ghost use Rattle.queue.specs.Queue.{timed};
+ghost use Rattle.packet.specs.Writing.{counterAfter};
+ghost use Rattle.mux.specs.Packets.{packetsFor, unitPackets, unitsPackets};
+ghost use Rattle.mux.specs.Parts.{filled, slotUnits, wellFormed, slotsPackets};
+use crate::cutting::next_counter;
+use crate::cutting::put_others;
+use crate::headers::pes_header;
+use crate::measuring::slot_packets;
+use crate::starting::first_flags;
+use crate::starting::first_size;
+use crate::starting::put_first;
+use lists::part;
+use lists::rest;
+use queue::Queue;
+use queue::Queued;
+
+// The packets of a unit, whose slot is this.
+fn put_unit(pid: u64, counter: u64, slot: Queued, unit: &[u8], out: &mut [u8])
+    requires { ⌜ (pid < 8192) × (counter < 16) × (slot .pts .0 < 8589934592) × (slot .dts .0 < 8589934592)
+        × (length (now unit) ≤ 1573056)
+        × (188 * packetsFor (timed (now unit) (slot .pts) (slot .dts) (slot .marked)) ≤ length (now out)) ⌝ }
+    ensures { λ _. ⌜ now (out .exit)
+        ≡ over (flatten (unitPackets pid counter
+        (timed (now (unit .entry)) (slot .pts) (slot .dts) (slot .marked)))) (now (out .entry)) ⌝ }
+{
+    let head = pes_header(slot.pts, slot.dts, unit.len());
+    let size = head.size;
+    let bytes = head.bytes;
+    let first = first_size(slot.marked, size, unit.len());
+    let flags = first_flags(slot.marked, unit, first);
+    let front = part(&bytes, 0, size);
+    let begun = part(unit, 0, first);
+    put_first(pid, counter, flags, front, begun, out);
+    let behind = rest(unit, first);
+    put_others(pid, next_counter(counter), behind, &mut out[188..]);
+}
+
+// The counter after so many packets more.
+pub(crate) fn counter_after(counter: u64, n: usize) -> u64
+    requires { ⌜ (counter < 16) × (n ≤ 68408) ⌝ }
+    ensures { λ r. ⌜ r ≡ counterAfter counter n ⌝ }
+{
+    (counter + n as u64) % 16
+}
+
+// The packets of all units, whose bytes stand in the store.
+pub(crate) fn put_units(pid: u64, counter: u64, queue: Queue, store: &[u8], out: &mut [u8])
+    requires { ⌜ (pid < 8192) × (counter < 16) × (wellFormed queue (length (now store)) ≡ true)
+        × (188 * slotsPackets (filled queue) ≤ length (now out)) ⌝ }
+    ensures { λ _. ⌜ now (out .exit)
+        ≡ over (flatten (unitsPackets pid counter (slotUnits (filled queue) (now (store .entry)))))
+        (now (out .entry)) ⌝ }
+{
+    let count = queue.count;
+    let mut i: usize = 0;
+    let mut at: usize = 0;
+    let mut to: usize = 0;
+    let mut next = counter;
+    while i < count {
+        let slot = queue.units[i];
+        let end = at + slot.length;
+        put_unit(pid, next, slot, &store[at..end], &mut out[to..]);
+        let packets = slot_packets(slot);
+        at = end;
+        to += 188 * packets;
+        next = counter_after(next, packets);
+        i += 1;
+    }
+}
