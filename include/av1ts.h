@@ -15,7 +15,7 @@
 
 /* The version of this interface. It goes up by one where a function changes what it takes or a struct grows at its end: a program that was built with
  * another version of this header is to be built anew. CHANGELOG.md says what changed. */
-#define AV1TS_VERSION 2
+#define AV1TS_VERSION 3
 
 /* How it grows. A struct grows at its end and nowhere else: a field that is there keeps its name, its place and its meaning. A number keeps its meaning; new
  * ones come with new functions, or where CHANGELOG.md says so, so a caller handles a number that it does not know as a refusal.
@@ -216,11 +216,11 @@ av1ts_mastering av1ts_read_mastering(const uint8_t *content, size_t content_len)
 av1ts_answer av1ts_write_mastering(const uint64_t value[10], uint8_t *out, size_t out_len);
 
 /* The queue of the segment writer, for at most 8 units. Of each of the first `units` units, oldest first: its length in the store, its PTS and DTS in ticks of
- * 90 kHz, and its random-access mark, 0 or 1; what is behind them is 0. The empty queue is all zeros. The units' bytes stand back to back from the front of a store
+ * 90 kHz, and its random-access mark, 0 or 1; what is behind them is 0. total: how many bytes they have together. The empty queue is all zeros. The units' bytes stand back to back from the front of a store
  * that the caller lends at each call and leaves alone between the calls. What is said below holds of a queue that these functions led to from the empty one, with
  * its store; any other gets an answer too, which says nothing. */
 typedef struct {
-    uint64_t units, length[8], pts[8], dts[8], marked[8];
+    uint64_t units, length[8], pts[8], dts[8], marked[8], total;
 } av1ts_queue;
 
 /* empty 1: there was no unit to drop. queue: the queue then; in a refusal as it was. */
@@ -240,6 +240,9 @@ av1ts_queued av1ts_queue_drop(av1ts_queue queue, uint8_t *store, size_t store_le
 
 /* The empty queue. */
 av1ts_queued av1ts_queue_clear(av1ts_queue queue);
+
+/* How many bytes are queued: total. */
+uint64_t av1ts_queue_total(av1ts_queue queue);
 
 /* What send is told of a segment: the program number, the map PID and the AV1 PID, which is the PCR PID, the PCR in ticks of 27 MHz, and the counter of the next
  * payload of PID 0, the map PID and the AV1 PID. */

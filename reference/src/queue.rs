@@ -43,6 +43,11 @@ impl Queue {
         parts.concat()
     }
 
+    /// "every operation, refused or not, keeps it equal to the sum of the queued lengths"
+    pub fn total(&self) -> u64 {
+        self.units.iter().map(|unit| unit.bytes.len() as u64).sum()
+    }
+
     /// "Refusals: 50 queue full, 51 unit not accepted by reading or a time above 33 bits, .. then 8
     /// for store"; "a refusal changes neither queue, store, ..".
     pub fn add(&mut self, unit: Queued, store_room: usize) -> Result<(), Refusal> {

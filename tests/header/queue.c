@@ -45,6 +45,7 @@ int main(void) {
     r = av1ts_queue_add(q.queue, store, 23, unit, sizeof unit, 1, 1, 1);
     expect("8 for the store", r.number == 8 && same(r.queue, q.queue) && store[12] == 0xEE);
     q = av1ts_queue_add(q.queue, store, sizeof store, other, sizeof other, 12000, 12000, 0);
+    expect("the total after refusals", av1ts_queue_total(r.queue) == 12);
     expect("a second", q.number == 0 && q.queue.units == 2 && q.queue.length[1] == 5 && memcmp(store + 12, other, 5) == 0);
 
     s = av1ts_queue_send(q.queue, store, sizeof store, channel, video, 5, out, sizeof out);
@@ -53,6 +54,7 @@ int main(void) {
     expect("8 for the output", s.number == 8 && s.bytes == 0 && memcmp(out, clean, sizeof out) == 0);
     s = av1ts_queue_send(q.queue, store, sizeof store, channel, video, sizeof video, out, sizeof out);
     expect("send", s.number == 0 && s.bytes == 940 && s.packets == 5 && same(s.queue, empty));
+    expect("totals", av1ts_queue_total(q.queue) == 17 && q.queue.total == 17 && av1ts_queue_total(s.queue) == 0);
     expect("the next counters", s.next.pat_counter == 4 && s.next.map_counter == 8 && s.next.av1_counter == 1 && s.next.program == 1);
     expect("the rest of the output", memcmp(out + 940, clean + 940, sizeof out - 940) == 0);
     expect("PCR: no payload, one less", out[376] == 0x47 && out[379] == (0x20 | 14) && out[380] == 183 && out[381] == 0x10);
@@ -64,6 +66,7 @@ int main(void) {
     memcpy(before, store, sizeof store);
     r = av1ts_queue_drop(q.queue, store, sizeof store);
     expect("drop", r.number == 0 && r.empty == 0 && r.queue.units == 1 && r.queue.length[0] == 5 && r.queue.length[1] == 0);
+    expect("the total then", av1ts_queue_total(r.queue) == 5);
     expect("the bytes move", memcmp(store, other, 5) == 0 && memcmp(store + 5, before + 5, sizeof store - 5) == 0);
     r = av1ts_queue_clear(r.queue);
     expect("clear", r.number == 0 && same(r.queue, empty));

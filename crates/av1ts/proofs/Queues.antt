@@ -46,7 +46,7 @@ cons e f = ap₂ (λ (x : Queued) (y : List Queued). x ∷ y) e f
 
 same-queue : (q : Queue) → length (q .units) ≡ 8 → queueFrom (stateOf q) ≡ q
 same-queue q h =
-    ap (λ (l : List Queued). record { count = q .count; units = l })
+    ap (λ (l : List Queued). record { count = q .count; units = l; total = q .total })
     (cons (slot-back _) (cons (slot-back _) (cons (slot-back _) (cons (slot-back _)
     (cons (slot-back _) (cons (slot-back _) (cons (slot-back _) (cons (slot-back _) refl)))))))
     ∙ eight noRecord (q .units) h)
@@ -72,13 +72,13 @@ holds-queue h q e =
     record { holds = e ∙ handed-in h; few = h .valid .few; stands = h .valid .stands; right = h .valid .right }
 
 -- eight slots, one by one
-pub from-eight : (n : ℕ) (a0 a1 a2 a3 a4 a5 a6 a7 b0 b1 b2 b3 b4 b5 b6 b7 : Queued) → a0 ≡ b0 → a1 ≡ b1 → a2 ≡ b2 → a3 ≡ b3 → a4 ≡ b4
+pub from-eight : (n t : ℕ) (a0 a1 a2 a3 a4 a5 a6 a7 b0 b1 b2 b3 b4 b5 b6 b7 : Queued) → a0 ≡ b0 → a1 ≡ b1 → a2 ≡ b2 → a3 ≡ b3 → a4 ≡ b4
     → a5 ≡ b5
     → a6 ≡ b6 → a7 ≡ b7
-    → _≡_ {A = Queue} (record { count = n; units = a0 ∷ a1 ∷ a2 ∷ a3 ∷ a4 ∷ a5 ∷ a6 ∷ a7 ∷ [] })
-    (record { count = n; units = b0 ∷ b1 ∷ b2 ∷ b3 ∷ b4 ∷ b5 ∷ b6 ∷ b7 ∷ [] })
-from-eight n a0 a1 a2 a3 a4 a5 a6 a7 b0 b1 b2 b3 b4 b5 b6 b7 e0 e1 e2 e3 e4 e5 e6 e7 =
-    ap (λ (l : List Queued). record { count = n; units = l })
+    → _≡_ {A = Queue} (record { count = n; total = t; units = a0 ∷ a1 ∷ a2 ∷ a3 ∷ a4 ∷ a5 ∷ a6 ∷ a7 ∷ [] })
+    (record { count = n; total = t; units = b0 ∷ b1 ∷ b2 ∷ b3 ∷ b4 ∷ b5 ∷ b6 ∷ b7 ∷ [] })
+from-eight n t a0 a1 a2 a3 a4 a5 a6 a7 b0 b1 b2 b3 b4 b5 b6 b7 e0 e1 e2 e3 e4 e5 e6 e7 =
+    ap (λ (l : List Queued). record { count = n; total = t; units = l })
     (cons e0 (cons e1 (cons e2 (cons e3 (cons e4 (cons e5 (cons e6 (cons e7 refl))))))))
 
 -- eight marks, one by one

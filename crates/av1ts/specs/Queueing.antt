@@ -36,7 +36,7 @@ abbrev pub slotAt : QueueState → ℕ → Queued
 slotAt c i = slotFrom (getD (c .length) i 0) (getD (c .pts) i 0) (getD (c .dts) i 0) (getD (c .marked) i 0)
 
 abbrev pub queueFrom : QueueState → Queue
-queueFrom c = record { count = c .units; units = map (slotAt c) indices }
+queueFrom c = record { count = c .units; units = map (slotAt c) indices; total = c .total }
 
 -- ---- a queue that is handed back
 unfoldable pub mark : Bool → ℕ
@@ -50,6 +50,7 @@ stateOf q =
       pts = map (λ (i : ℕ). getD (q .units) i noRecord .pts .0) indices;
       dts = map (λ (i : ℕ). getD (q .units) i noRecord .dts .0) indices;
       marked = map (λ (i : ℕ). mark (getD (q .units) i noRecord .marked)) indices;
+      total = q .total;
     }
 
 -- The validity of the struct with its store: it is that of a queue of these units, which is valid. The struct of zeros

@@ -30,6 +30,7 @@ pub use queueing::av1ts_queue_add;
 pub use queueing::av1ts_queue_clear;
 pub use queueing::av1ts_queue_drop;
 pub use queueing::av1ts_queue_send;
+pub use queueing::av1ts_queue_total;
 pub use replaying::ReplayAnswer;
 pub use replaying::ReplayState;
 pub use replaying::av1ts_replay;

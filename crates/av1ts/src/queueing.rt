@@ -21,8 +21,8 @@ use queue::Queued;
 use ticks::Ticks27;
 use ticks::Ticks90;
 
-// Of each of the first `units` units, oldest first: its length in the store, its times, and its mark, 0 or 1. The rest
-// is 0.
+// Of each of the first `units` units, oldest first: its length in the store, its times, and its mark, 0 or 1; the rest
+// is 0. total: how many bytes they have together.
 #[repr(C)]
 pub struct QueueState {
     pub units: u64,
@@ -30,6 +30,7 @@ pub struct QueueState {
     pub pts: [u64; 8],
     pub dts: [u64; 8],
     pub marked: [u64; 8],
+    pub total: u64,
 }
 
 // number 0: nothing was refused. empty 1: there was no unit to drop.
@@ -98,6 +99,7 @@ fn queue_from(state: QueueState) -> Queue
             slot_at(state, 6),
             slot_at(state, 7),
         ],
+        total: state.total as usize,
     }
 }
 
@@ -157,6 +159,7 @@ fn state_of(queue: Queue) -> QueueState
             mark(u[6].marked),
             mark(u[7].marked),
         ],
+        total: queue.total as u64,
     }
 }
 
@@ -312,6 +315,15 @@ pub extern "C" fn av1ts_queue_clear(queue: QueueState) -> QueuedAnswer
         empty: 0,
         queue: state,
     }
+}
+
+// How many bytes are queued.
+#[no_mangle]
+pub extern "C" fn av1ts_queue_total(queue: QueueState) -> u64
+    ensures { λ r. ⌜ r ≡ queue .total ⌝ }
+{
+    let inner = queue_from(queue);
+    inner.total() as u64
 }
 
 // Writes the queued units as a segment; 52, 53, 8.

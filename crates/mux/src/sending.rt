@@ -122,12 +122,14 @@ pub fn send(queue: Queue, store: &[u8], channel: Channel, video: &[u8], out: &mu
         store,
         &mut out[564..],
     );
+    let next = channel_after(channel, units);
+    let cleared = queue.clear();
     Sent {
         answer: SendAnswer::Sent(Written {
             bytes: 188 * packets,
             packets,
         }),
-        next: channel_after(channel, units),
-        queue: Queue::empty(),
+        next,
+        queue: cleared,
     }
 }

@@ -1,8 +1,8 @@
 -- The empty queue is valid with every store, and every operation keeps validity. Assumes nothing.
-use Prim.Native.Nat.{_≤_}
+use Prim.Native.Nat.{ℕ, _+_, _≤_}
 use mathlib.Core.Bool.{Bool, false}
 use mathlib.Core.Path.{_≡_, refl, sym, ap, subst, _∙_}
-use mathlib.Core.List.{List, [], _∷_, _++_, flatten}
+use mathlib.Core.List.{List, [], _∷_, _++_, map, flatten}
 use native.Mathlib.Omega.{arith}
 use borrow.Author.Tests.{leb-false}
 use lib.Dec.{leb, ltb}
@@ -12,6 +12,7 @@ use Rattle.lists.specs.Lists.{Bytes, any}
 use Rattle.lists.proofs.Tests.{or-neither}
 use Rattle.refusal.specs.Verdict.{Verdict, passed, refused, given}
 use Rattle.refusal.proofs.Verdicts.{passed-after, given-passed, passed-same}
+use Rattle.unit.specs.Unit.{sum}
 use Rattle.queue.specs.declared.records.Queue.{Queue}
 use Rattle.queue.specs.declared.adding.Added.{Added}
 use Rattle.queue.specs.declared.dropping.Dropped.{Dropped}
@@ -109,3 +110,13 @@ bytes-within {queue} {store} {units} q = omega (arith, ap length (q .stands), le
 pub unchanged : {queue : Queue} {store : Bytes} {units : List TimedUnit} → QueueIs queue store units → storeWith units store ≡ store
 unchanged {queue} {store} {units} q =
     ap (λ (w : Bytes). w ++ drop (length (queuedBytes units)) store) (sym (q .stands)) ∙ take-append-drop (length (queuedBytes units)) store
+
+-- ---- 2026-06: the total is "equal to the sum of the queued lengths"; every operation keeps it so, refused or not, since it keeps validity
+bytes-sum : (units : List TimedUnit) → length (queuedBytes units) ≡ sum (map (λ u. length (u .carried)) units)
+unfolding flatten sum
+bytes-sum [] = refl
+bytes-sum (u ∷ us) = length-append (u .carried) (queuedBytes us) ∙ ap (λ (n : ℕ). length (u .carried) + n) (bytes-sum us)
+
+pub total-sum : {queue : Queue} {store : Bytes} {units : List TimedUnit} → QueueIs queue store units
+    → queue .total ≡ sum (map (λ u. length (u .carried)) units)
+total-sum {units = units} q = ap (λ (x : Queue). x .total) (q .holds) ∙ bytes-sum units

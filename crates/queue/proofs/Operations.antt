@@ -2,7 +2,7 @@
 use Prim.Native.Nat.{ℕ, _+_, _-_, _≤_, _<_}
 use mathlib.Core.Bool.{Bool, true, false, true≢false}
 use mathlib.Core.Path.{_≡_, refl, sym, ap, ap₂, subst, _∙_}
-use mathlib.Core.List.{List, [], _∷_, _++_, flatten, append-nil, append-assoc}
+use mathlib.Core.List.{List, [], _∷_, _++_, flatten, append-assoc}
 use native.Mathlib.Omega.{arith}
 use borrow.Author.Tests.{le-leb, lt-leb, lt-ltb, le-ltb}
 use lib.ListN.{length, take, drop, getD, length-append}
@@ -24,9 +24,9 @@ use Rattle.queue.specs.declared.dropping.DropAnswer.the-variants as drop
 use Rattle.queue.specs.Queue.{TimedUnit, mostUnits, queuedBytes, recordOf, slots, queueOf, isRefused, timePast, unacceptable}
 use Rattle.queue.specs.Queue.{unitWrong, QueueIs, adding, isEmpty, dropping, unitsAfter, storeAfter, storeWith}
 use Rattle.queue.specs.Answer.{Adds, Drops}
-use Rattle.queue.specs.Parts.{sumOf, withRecord, withoutFirst}
+use Rattle.queue.specs.Parts.{withRecord, withoutFirst}
 use Rattle.queue.proofs.Keeping.{bytes-within}
-use Rattle.queue.proofs.Slots.{sum-slots, one-more, first-gone}
+use Rattle.queue.proofs.Slots.{more-bytes, one-more, first-gone}
 
 -- ---- 51, by what reading and the times say
 unread : {A B : Type 0} (v : Verdict A) (f : A → Verdict B) (number place : ℕ) → (v >>= f) ≡ refused number place
@@ -54,11 +54,6 @@ pub wrong-dts : (unit : Bytes) (pts dts : Ticks90) (c : Counts) {r : Bool} → c
 unfolding unacceptable
 wrong-dts unit pts dts c e h k = or-by-false (is-read unit c e) (or-by-false h k)
 
-more-bytes : (l : List TimedUnit) (x : TimedUnit) → queuedBytes (l ++ (x ∷ [])) ≡ queuedBytes l ++ x .carried
-unfolding flatten
-more-bytes [] x = append-nil (x .carried)
-more-bytes (y ∷ l) x = ap (λ (r : Bytes). y .carried ++ r) (more-bytes l x) ∙ sym (append-assoc (y .carried) (queuedBytes l) (x .carried))
-
 -- bytes put behind those at the front
 put-behind : (w v store : Bytes) (n : ℕ) → n ≡ length w → take n store ≡ w → placed store n v ≡ over (w ++ v) store
 put-behind w v store n e t =
@@ -79,11 +74,11 @@ module _ {queue : Queue} {store : Bytes} {units : List TimedUnit} (q : QueueIs q
   pub counts : queue .count ≡ length units
   counts = ap (λ (x : Queue). x .count) (q .holds)
 
-  pub sums : sumOf (queue .units) ≡ length (queuedBytes units)
-  sums = ap (λ (x : Queue). sumOf (x .units)) (q .holds) ∙ sum-slots units
+  pub totals : queue .total ≡ length (queuedBytes units)
+  totals = ap (λ (x : Queue). x .total) (q .holds)
 
-  pub sums-within : sumOf (queue .units) ≤ length store
-  sums-within = omega (arith, sums, bytes-within q)
+  pub total-within : queue .total ≤ length store
+  total-within = omega (arith, totals, bytes-within q)
 
   -- ---- add
   module _ (u : TimedUnit) where
@@ -110,9 +105,9 @@ module _ {queue : Queue} {store : Bytes} {units : List TimedUnit} (q : QueueIs q
       unfolding adding
       adds-unacceptable w r e = refused-by 51 r e (pass-on 50 (lt-leb mostUnits (length units) (omega (arith, counts))) (refuse 51 _ w))
 
-      module _ (w : unitWrong u ≡ false) (used : ℕ) (is : used ≡ sumOf (queue .units)) where
+      module _ (w : unitWrong u ≡ false) (used : ℕ) (is : used ≡ queue .total) where
         longer-length : length (queuedBytes (units ++ (u ∷ []))) ≡ used + length (u .carried)
-        longer-length = ap length (more-bytes units u) ∙ omega (arith, length-append (queuedBytes units) (u .carried), sums)
+        longer-length = ap length (more-bytes units u) ∙ omega (arith, length-append (queuedBytes units) (u .carried), totals)
 
         pub adds-no-room : length store - used < length (u .carried) → (r : Added) → r ≡ refusing 8 → Adds u units store r store
         unfolding adding
@@ -120,7 +115,7 @@ module _ {queue : Queue} {store : Bytes} {units : List TimedUnit} (q : QueueIs q
             refused-by 8 r e
             (pass-on 50 (lt-leb mostUnits (length units) (omega (arith, counts)))
             (pass-on 51 w
-            (refuse 8 _ (lt-ltb (length store) (length (queuedBytes (units ++ (u ∷ [])))) (omega (arith, longer-length, sums-within))))))
+            (refuse 8 _ (lt-ltb (length store) (length (queuedBytes (units ++ (u ∷ [])))) (omega (arith, longer-length, total-within))))))
 
         passes : length (u .carried) ≤ length store - used → adding u (length store) units ≡ passed (units ++ (u ∷ []))
         unfolding adding
@@ -128,7 +123,7 @@ module _ {queue : Queue} {store : Bytes} {units : List TimedUnit} (q : QueueIs q
             sym (pass-on 50 (lt-leb mostUnits (length units) (omega (arith, counts)))
             (pass-on 51 w
             (pass-on 8
-            (le-ltb (length store) (length (queuedBytes (units ++ (u ∷ [])))) (omega (arith, longer-length, sums-within))) refl)))
+            (le-ltb (length store) (length (queuedBytes (units ++ (u ∷ [])))) (omega (arith, longer-length, total-within))) refl)))
 
         pub adds-added : length (u .carried) ≤ length store - used → (after : Bytes) (longer : Queue)
             → after ≡ placed store used (u .carried) → longer ≡ withRecord queue (recordOf u)
@@ -142,7 +137,7 @@ module _ {queue : Queue} {store : Bytes} {units : List TimedUnit} (q : QueueIs q
                   el ∙ ap (λ (x : Queue). withRecord x (recordOf u)) (q .holds) ∙ one-more units u (omega (arith, counts))
                   ∙ sym (ap (λ (v : Verdict (List TimedUnit)). queueOf (unitsAfter v units)) f);
               leaves =
-                  ea ∙ put-behind (queuedBytes units) (u .carried) store used (is ∙ sums) (ap (λ (n : ℕ). take n store) (is ∙ sums)
+                  ea ∙ put-behind (queuedBytes units) (u .carried) store used (is ∙ totals) (ap (λ (n : ℕ). take n store) (is ∙ totals)
                   ∙ q .stands)
                   ∙ ap (λ (w : Bytes). over w store) (sym (more-bytes units u))
                   ∙ sym (ap (λ (v : Verdict (List TimedUnit)). storeAfter v store) f);
@@ -164,13 +159,13 @@ module _ {queue : Queue} {store : Bytes} where
   first-length (u ∷ us) d q n = (u, us, refl, ap (λ (x : Queue). getD (x .units) 0 d .length) (q .holds))
 
   pub first-within : (units : List TimedUnit) (d : Queued) → QueueIs queue store units → (queue .count ≡ 0 → ⊥)
-      → getD (queue .units) 0 d .length ≤ sumOf (queue .units)
+      → getD (queue .units) 0 d .length ≤ queue .total
   unfolding flatten
   first-within units d q n =
       let f = first-length units d q n in
       omega (
         arith,
-        sums q,
+        totals q,
         ap (λ (l : List TimedUnit). length (queuedBytes l)) (f .2),
         length-append (f .0 .carried)
             (queuedBytes (f .1)),
@@ -178,13 +173,13 @@ module _ {queue : Queue} {store : Bytes} where
       )
 
   pub drops-dropped : {units : List TimedUnit} (u : TimedUnit) (us : List TimedUnit) (q : QueueIs queue store units) → units ≡ u ∷ us
-      → (used first : ℕ) → used ≡ sumOf (queue .units) → first ≡ length (u .carried)
+      → (used first : ℕ) → used ≡ queue .total → first ≡ length (u .carried)
       → (after : Bytes) (shorter : Queue) → after ≡ over (take (used - first) (drop first store)) store → shorter ≡ withoutFirst queue
       → Drops units store (record { answer = dropped.Dropped; queue = shorter }) after
   unfolding isEmpty dropping flatten
   drops-dropped {units} u us q e used first eu ef after shorter ea es =
       let b : queuedBytes units ≡ u .carried ++ queuedBytes us = ap queuedBytes e in
-      let n : used - first ≡ length (queuedBytes us) = omega (arith, sums q, ap length b, length-append (u .carried) (queuedBytes us)) in
+      let n : used - first ≡ length (queuedBytes us) = omega (arith, totals q, ap length b, length-append (u .carried) (queuedBytes us)) in
       let t : take (used - first) (drop first store) ≡ queuedBytes us =
       ap₂ (λ (i j : ℕ). take i (drop j store)) n ef
       ∙ behind-first (u .carried) (queuedBytes us) store (subst (λ (w : Bytes). take (length w) store ≡ w) b (q .stands)) in

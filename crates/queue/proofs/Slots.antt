@@ -1,53 +1,23 @@
--- The slots of a queue: their lengths together, one more record, the first one gone. Assumes nothing.
-use Prim.Native.Nat.{ℕ, zero, suc, _+_, _-_, _≤_, _<_}
-use mathlib.Core.Path.{_≡_, refl, sym, ap, _∙_}
-use mathlib.Core.List.{List, [], _∷_, _++_, map, flatten, append-assoc}
+-- The slots of a queue: one more record, the first one gone. Assumes nothing.
+use Prim.Native.Nat.{ℕ, zero, suc, _+_, _≤_, _<_}
+use mathlib.Core.Path.{_≡_, refl, sym, ap, ap₂, _∙_}
+use mathlib.Core.List.{List, [], _∷_, _++_, map, flatten, append-nil, append-assoc}
 use native.Mathlib.Omega.{arith}
 use native.Mathlib.Numerals.{add-one}
-use lib.ListN.{length, take, drop, getD, set, replicate, length-append, length-drop, length-set, take-append-drop, drop-of-length-le}
-use lib.Seq.{drop-cons, drop-drop, take-suc-set, take-suc, drop-set-lt, getD-drop, take-all}
+use lib.ListN.{length, take, drop, getD, set, replicate, length-append, length-drop, length-set, take-append-drop}
+use lib.Seq.{drop-drop, take-suc-set, take-suc, drop-set-lt, getD-drop, take-all}
+use Rattle.lists.specs.Lists.{Bytes}
 use Rattle.queue.specs.declared.records.Queued.{Queued}
 use Rattle.queue.specs.declared.records.Queue.{Queue}
 use Rattle.queue.specs.Queue.{TimedUnit, mostUnits, queuedBytes, recordOf, noRecord, slots, queueOf}
-use Rattle.queue.specs.Parts.{sumOf, withRecord, withoutFirst}
+use Rattle.queue.specs.Parts.{withRecord, withoutFirst}
 
--- ---- the lengths together
-pub sum-next : (l : List Queued) (i : ℕ) (d : Queued) → i < length l → sumOf (drop i l) ≡ getD l i d .length + sumOf (drop (i + 1) l)
-unfolding sumOf
-sum-next l i d h = rw (add-one, drop-cons l i d h)
-
-pub sum-end : (l : List Queued) (i : ℕ) → length l ≤ i → sumOf (drop i l) ≡ 0
-unfolding sumOf
-sum-end l i h = rw (drop-of-length-le l {i = i} h)
-
-sum-append : (l m : List Queued) → sumOf (l ++ m) ≡ sumOf l + sumOf m
-unfolding sumOf
-sum-append [] m = omega arith
-sum-append (r ∷ l) m = omega (arith, sum-append l m)
-
-sum-none : (n k : ℕ) → sumOf (drop n (replicate k noRecord)) ≡ 0
-unfolding sumOf
-sum-none zero zero = refl
-sum-none zero (suc k) = omega (arith, sum-none zero k)
-sum-none (suc n) zero = refl
-sum-none (suc n) (suc k) = sum-none n k
-
-sum-records : (units : List TimedUnit) → sumOf (map recordOf units) ≡ length (queuedBytes units)
-unfolding sumOf flatten
-sum-records [] = refl
-sum-records (u ∷ us) = omega (arith, sum-records us, length-append (u .carried) (queuedBytes us))
-
--- of a queue: the bytes of its units
-pub sum-slots : (units : List TimedUnit) → sumOf (slots units) ≡ length (queuedBytes units)
-unfolding slots
-sum-slots units =
-    omega (
-      arith,
-      sum-append (map recordOf units) (drop (length units) (replicate mostUnits noRecord)),
-      sum-none
-          (length units) mostUnits,
-      sum-records units,
-    )
+-- ---- how many bytes there are with one more unit
+pub more-bytes : (l : List TimedUnit) (x : TimedUnit) → queuedBytes (l ++ (x ∷ [])) ≡ queuedBytes l ++ x .carried
+unfolding flatten
+more-bytes [] x = append-nil (x .carried)
+more-bytes (y ∷ l) x =
+    ap (λ (r : Bytes). y .carried ++ r) (more-bytes l x) ∙ sym (append-assoc (y .carried) (queuedBytes l) (x .carried))
 
 -- ---- one more record
 set-next : (units : List TimedUnit) (u : TimedUnit) (all : List Queued) → length units < length all
@@ -58,15 +28,19 @@ set-next [] u (a ∷ all) h = refl
 set-next (x ∷ units) u [] h = absurd (omega arith)
 set-next (x ∷ units) u (a ∷ all) h = ap (λ (l : List Queued). recordOf x ∷ l) (set-next units u all (omega arith))
 
-abbrev pub queueWith : ℕ → List Queued → Queue
-queueWith count l = record { count = count; units = l }
+abbrev pub queueWith : ℕ → List Queued → ℕ → Queue
+queueWith count l total = record { count = count; units = l; total = total }
+
+same-queue : {n n′ t t′ : ℕ} {l l′ : List Queued} → n ≡ n′ → l ≡ l′ → t ≡ t′ → queueWith n l t ≡ queueWith n′ l′ t′
+same-queue {n} {n′} {t} {t′} {l} {l′} en el et =
+    ap₂ (λ (x : ℕ) (y : List Queued). queueWith x y t) en el ∙ ap (queueWith n′ l′) et
 
 pub one-more : (units : List TimedUnit) (u : TimedUnit) → length units < 8
     → withRecord (queueOf units) (recordOf u) ≡ queueOf (units ++ (u ∷ []))
 unfolding slots
 one-more units u h =
-    ap (queueWith (length units + 1)) (set-next units u (replicate mostUnits noRecord) h)
-    ∙ ap (λ (n : ℕ). queueWith n (slots (units ++ (u ∷ [])))) (sym (length-append units (u ∷ [])))
+    same-queue (sym (length-append units (u ∷ []))) (set-next units u (replicate mostUnits noRecord) h)
+    (sym (ap length (more-bytes units u) ∙ length-append (queuedBytes units) (u .carried)))
 
 -- ---- the first record gone
 all-none : (n k : ℕ) → n ≤ k → drop n (replicate k noRecord) ++ (noRecord ∷ []) ≡ drop n (replicate (suc k) noRecord)
@@ -76,12 +50,12 @@ all-none (suc n) zero h = absurd (omega arith)
 all-none (suc n) (suc k) h = all-none n k (omega arith)
 
 pub first-gone : (u : TimedUnit) (us : List TimedUnit) → length (u ∷ us) ≤ 8 → withoutFirst (queueOf (u ∷ us)) ≡ queueOf us
-unfolding slots
+unfolding slots flatten
 first-gone u us h =
-    let n : suc (length us) - 1 ≡ length us = omega arith in
-    ap (λ (k : ℕ). queueWith k ((map recordOf us ++ drop (length us) (replicate 7 noRecord)) ++ (noRecord ∷ []))) n
-    ∙ ap (queueWith (length us)) (append-assoc (map recordOf us) (drop (length us) (replicate 7 noRecord)) (noRecord ∷ [])
+    same-queue (omega arith)
+    (append-assoc (map recordOf us) (drop (length us) (replicate 7 noRecord)) (noRecord ∷ [])
     ∙ ap (λ (l : List Queued). map recordOf us ++ l) (all-none (length us) 7 (omega arith)))
+    (omega (arith, length-append (u .carried) (queuedBytes us)))
 
 -- one record moves down
 pub record Moved (l units : List Queued) (i : ℕ) : Type 0 where

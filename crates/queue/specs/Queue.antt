@@ -61,9 +61,11 @@ noRecord = record { length = 0; pts = record { 0 = 0 }; dts = record { 0 = 0 }; 
 unfoldable pub slots : List TimedUnit → List Queued
 slots units = map recordOf units ++ drop (length units) (replicate mostUnits noRecord)
 
--- the queue of these units
+-- the queue of these units. 2026-06: "Store the total in the queue .. equal to the sum of the queued lengths", which
+-- is how
+-- many bytes they have together (`total-sum` in proofs/Keeping.antt)
 abbrev pub queueOf : List TimedUnit → Queue
-queueOf units = record { count = length units; units = slots units }
+queueOf units = record { count = length units; units = slots units; total = length (queuedBytes units) }
 
 -- The validity of a queue with its store: it holds these units, each of which could be added, and their bytes stand
 -- "back to back from the front of a lent store, oldest first". It is proved that the empty queue is one with every

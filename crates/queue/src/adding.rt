@@ -73,7 +73,10 @@ pub fn add(
     if not_acceptable(unit, pts, dts) {
         return refuse(Refusal::QUEUED_UNIT, queue);
     }
-    let used = queue.used(store.len());
+    let used = queue.total;
+    if store.len() < used {
+        return refuse(Refusal::NO_ROOM, queue); // no queue that the operations lead to
+    }
     if store.len() - used < unit.len() {
         return refuse(Refusal::NO_ROOM, queue);
     }

@@ -28,8 +28,14 @@ pub fn drop_oldest(queue: Queue, store: &mut [u8]) -> Dropped
             queue,
         };
     }
-    let used = queue.used(store.len());
+    let used = queue.total;
     let first = queue.units[0].length;
+    if store.len() < used {
+        return Dropped {
+            answer: DropAnswer::Empty, // no queue that the operations lead to
+            queue,
+        };
+    }
     if used < first {
         return Dropped {
             answer: DropAnswer::Empty,

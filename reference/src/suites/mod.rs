@@ -91,6 +91,7 @@ const QUEUES: &[&Definition] = &[
     &queue::limits::SUITE,
     &queue::sending::SUITE,
     &queue::chain::SUITE,
+    &queue::total::SUITE,
 ];
 
 const REPLAY: &[&Definition] = &[

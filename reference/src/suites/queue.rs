@@ -7,6 +7,7 @@ pub mod scripts;
 pub mod sending;
 pub mod sizes;
 pub mod states;
+pub mod total;
 
 use super::segment;
 use super::under_test::library;
@@ -37,6 +38,7 @@ pub const CHANNEL: Channel = Channel {
 pub fn in_c(queue: &model::Queue) -> Queue {
     let mut answer = Queue {
         units: queue.units.len() as u64,
+        total: queue.total(),
         ..Queue::default()
     };
     for (index, unit) in queue.units.iter().enumerate() {
@@ -136,6 +138,13 @@ fn clear(queue: Queue) -> Queued {
         return av1ts::queue::clear(queue);
     }
     done(Queue::default())
+}
+
+fn total(queue: Queue) -> u64 {
+    if library() {
+        return av1ts::queue::total(queue);
+    }
+    queue.total
 }
 
 fn send(queue: Queue, store: &[u8], channel: Channel, descriptor: &[u8], out: &mut [u8]) -> Sent {
@@ -279,12 +288,16 @@ impl Session {
         };
         let answer =
             (got.number, got.place, got.empty) == (expected.number, expected.place, expected.empty);
-        let store = self.store.is_expected();
+        let store = self.store.is_expected() && total(got.queue) == self.model.total();
         suite.case(labels, answer && same_queue && store && inputs, || {
             format!(
                 "queue {:?}: expected {expected:?}, got {got:?}, store {}",
                 self.queue,
-                if store { "right" } else { "or guards wrong" }
+                if store {
+                    "and total right"
+                } else {
+                    "or guards or total wrong"
+                }
             )
         });
         self.queue = got.queue;

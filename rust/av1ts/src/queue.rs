@@ -1,7 +1,8 @@
 //! The queue of units to send, and sending them.
 
-/// `av1ts_queue`: lengths, times and marks of the queued units, oldest first. The empty queue is
-/// the default. Their bytes stand in the store that is lent to each operation.
+/// `av1ts_queue`: lengths, times and marks of the queued units, oldest first, and the sum of the
+/// lengths. The empty queue is the default. Their bytes stand in the store that is lent to each
+/// operation.
 #[repr(C)]
 #[derive(Clone, Copy, Debug, Default, PartialEq, Eq)]
 pub struct Queue {
@@ -10,6 +11,7 @@ pub struct Queue {
     pub pts: [u64; 8],
     pub dts: [u64; 8],
     pub marked: [u64; 8],
+    pub total: u64,
 }
 
 /// `av1ts_queued`: the queue after an operation; in a refusal the one that was handed in. `empty`
@@ -63,6 +65,7 @@ extern "C" {
     ) -> Queued;
     fn av1ts_queue_drop(queue: Queue, store: *mut u8, store_len: usize) -> Queued;
     fn av1ts_queue_clear(queue: Queue) -> Queued;
+    fn av1ts_queue_total(queue: Queue) -> u64;
     fn av1ts_queue_send(
         queue: Queue,
         store: *const u8,
@@ -110,6 +113,12 @@ pub fn drop_oldest(queue: Queue, store: &mut [u8]) -> Queued {
 pub fn clear(queue: Queue) -> Queued {
     // SAFETY: nothing is lent; the C side takes any queue.
     unsafe { av1ts_queue_clear(queue) }
+}
+
+/// The bytes that are queued, as the queue has them stored.
+pub fn total(queue: Queue) -> u64 {
+    // SAFETY: nothing is lent; the C side takes any queue.
+    unsafe { av1ts_queue_total(queue) }
 }
 
 /// Writes the packets of all queued units to the front of `out`, which empties the queue.

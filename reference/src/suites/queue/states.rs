@@ -16,6 +16,7 @@ pub const SUITE: Definition = Definition {
             "a time above 33 bits",
             "a mark above 1",
             "slots behind the last unit",
+            "a total that is not the sum",
             "any numbers",
             "the store was changed",
             "another store, shorter",
@@ -47,6 +48,7 @@ fn all(suite: &mut Suite, random: &mut Random, queue: Queue, room: usize, label:
         format!("drop of {queue:?}: guards wrong")
     });
     let _ = queue::clear(queue);
+    let _ = queue::total(queue);
     suite.case(&[label], guards(&store), || {
         format!("clear of {queue:?}: guards wrong")
     });
@@ -110,6 +112,15 @@ fn run(suite: &mut Suite) {
             room,
             "slots behind the last unit",
         );
+        let mut queue = right;
+        queue.total = random.pick(&[0, right.total - 1, right.total + 1, 1 << 33, u64::MAX]);
+        all(
+            suite,
+            &mut random,
+            queue,
+            room,
+            "a total that is not the sum",
+        );
         let mut number = || match random.below(4) {
             0 => 0,
             1 => random.next() % 9,
@@ -118,6 +129,7 @@ fn run(suite: &mut Suite) {
         };
         let mut queue = Queue {
             units: number(),
+            total: number(),
             ..Queue::default()
         };
         for slot in 0..8 {

@@ -30,7 +30,7 @@ slot-at-requires-8 c κs = search needs
 
 returns : tie.Need-returns
 returns c =
-    from-eight _ _ _ _ _ _ _ _ _ _ _ _ _ _ _ _ _ (c .before .before .before .before .before .before .before .slot-at .ensures)
+    from-eight _ _ _ _ _ _ _ _ _ _ _ _ _ _ _ _ _ _ (c .before .before .before .before .before .before .before .slot-at .ensures)
     (c .before .before .before .before .before .before .slot-at2 .ensures) (c .before .before .before .before .before .slot-at3 .ensures)
     (c .before .before .before .before .slot-at4 .ensures) (c .before .before .before .slot-at5 .ensures)
     (c .before .before .slot-at6 .ensures) (c .before .slot-at7 .ensures) (c .slot-at8 .ensures)

@@ -130,7 +130,8 @@ mark-requires-8 c κs = search needs
 
 returns : tie.Need-returns
 returns c = let q = c .before .before .before .before .before .before .before .before .before .args .queue in
-    ap (λ (m : List ℕ). record { units = q .count; length = stateOf q .length; pts = stateOf q .pts; dts = stateOf q .dts; marked = m })
+    ap (λ (m : List ℕ). record
+    { units = q .count; length = stateOf q .length; pts = stateOf q .pts; dts = stateOf q .dts; marked = m; total = q .total })
     (marks-eight (c .before .before .before .before .before .before .before .mark .ensures)
     (c .before .before .before .before .before .before .mark2 .ensures) (c .before .before .before .before .before .mark3 .ensures)
     (c .before .before .before .before .mark4 .ensures) (c .before .before .before .mark5 .ensures) (c .before .before .mark6 .ensures)

@@ -89,7 +89,8 @@ put-pcr-requires c κs =
           (c .before .before .before .before .before .before .before .before .before .before .before .before .before .before .pat-section
           .ensures) (c .before .before .before .before .before .before .before .before .pmt-section .ensures)
           (c .before .before .before .before .before .before .before .before .before .before .before .before .before .before .before .before
-          .before .pre .1) (c .before .before .before .before .before .before .before .before .before .before .before .put-section .ensures) _
+          .before .pre .1)
+          (c .before .before .before .before .before .before .before .before .before .before .before .put-section .ensures) _
           (c .before .before .before .before .before .put-section2 .ensures),
     )
 

@@ -90,8 +90,8 @@ part-put-units-end c = search needs
 
 put-units-requires : tie.Need-put-units-requires
 put-units-requires c κs =
-    let a = c .before .before .before .before .before .before .before .before .before .before .before .before .before .before .before .args
-    in
+    let a = c .before .before .before .before .before .before .before .before .before .before .before .before .before .before .before
+    .args in
     let w = sym (c .before .before .before .before .before .before .before .before .before .before .before .channel-wrong .ensures)
     ∙ c .before .before .before .before .before .before .before .before .before .before .if1 .left in
     let ok = allowed (a .channel) (a .video .now) w in
@@ -106,9 +106,6 @@ put-units-requires c κs =
           (omega (arith, n .0, room)),
     )
 
-mul-t15 : tie.Need-mul-t15
-mul-t15 c = omega (arith, c .before .before .before .before .before .before .before .before .before .before .queue-packets .ensures .1)
-
 channel-after-requires : tie.Need-channel-after-requires
 channel-after-requires c κs =
     let a = c .before .before .before .before .before .before .before .before .before .before .before .before .before .before .before
@@ -122,8 +119,16 @@ channel-after-requires c κs =
     let n = c .before .before .before .before .before .before .before .before .before .before .queue-packets .ensures in
     (ok .pat-low, ok .map-counter, ok .av1-low, n .1)
 
-empty-requires : tie.Need-empty-requires
-empty-requires c κs = search needs
+clear-requires : tie.Need-clear-requires
+clear-requires c κs = search needs
+
+mul-t17 : tie.Need-mul-t17
+mul-t17 c =
+    omega (
+      arith,
+      c .before .before .before .before .before .before .before .before .before .before .before .before .queue-packets .ensures
+          .1,
+    )
 
 same-length : tie.Need-same-length
 same-length c = search needs
@@ -148,7 +153,7 @@ returns-5 c = λ units q.
     sends-sent q (a .channel) (a .video .now) (a .out .now) w
     (omega (arith, n .0, v, c .before .before .before .before .before .before .before .before .before .before .before .if3 .left))
     (omega (arith, n .0, v, fits)) _ _ _ _ _ (omega (arith, n .0, v))
-    (omega (arith, n .0, v)) (c .before .channel-after .ensures ∙ ap (channelAfter (a .channel)) (n .0 ∙ v)) (c .empty .ensures)
+    (omega (arith, n .0, v)) (c .before .channel-after .ensures ∙ ap (channelAfter (a .channel)) (n .0 ∙ v)) (c .clear .ensures)
     (all-written (a .channel) (a .video .now) w (a .out .now) _
     (c .before .before .before .before .before .before .before .before .put-tables .ensures) (omega (arith, fits)) units _ _ (valid-units q)
     (omega (arith, n .0, v, fits))
@@ -176,8 +181,8 @@ send-spec =
     part-put-units-start
     part-put-units-end
     put-units-requires
-    mul-t15
     channel-after-requires
-    empty-requires
+    clear-requires
+    mul-t17
     same-length
     returns-5)

@@ -213,7 +213,8 @@ loop-again c = let a = c .before .before .before .before .before .before .before
       omega arith,
       at .inv .1,
       filling-next (a .pid) (a .counter) (filled q) (a .store .now) (a .out .now)
-          (c .before .before .before .before .before .before .before .before .before .before .before .before .before .pre .3) (w .1) g r n _ _ _
+          (c .before .before .before .before .before .before .before .before .before .before .before .before .before .pre .3)
+          (w .1) g r n _ _ _
           (c .before .slot-packets .ensures .0) (c .counter-after .ensures)
           (c .before .before .before .before .put-unit .ensures
           ∙ ap (λ (x : Bytes). over (flatten (unitPackets (a .pid) (at .next) (timed x (r .pts) (r .dts) (r .marked))))

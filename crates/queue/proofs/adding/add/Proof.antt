@@ -1,10 +1,10 @@
 -- The tries are those of the definition, in its order; where none refuses, the unit's bytes stand behind those that are queued.
 use borrow.Author.Needs.{needs}
 use native.Mathlib.Omega.{arith}
-use mathlib.Core.Path.{sym, _∙_}
-use Rattle.lists.proofs.Parts.{tail-placed}
+use mathlib.Core.Path.{refl, sym, _∙_}
 use Rattle.queue.specs.Queue.{timed}
-use Rattle.queue.proofs.Operations.{sums-within, adds-full, adds-unacceptable, adds-no-room, adds-added}
+use Rattle.lists.proofs.Parts.{tail-placed}
+use Rattle.queue.proofs.Operations.{total-within, adds-full, adds-unacceptable, adds-no-room, adds-added}
 use Rattle.queue.proofs.adding.add.Statement.{statement}
 use Rattle.queue.proofs.adding.add.Tie as tie
 
@@ -12,7 +12,7 @@ refuse-requires : tie.Need-refuse-requires
 refuse-requires c κs = search needs
 
 returns : tie.Need-returns
-returns c units q =
+returns c = λ units q.
     let a = c .before .before .before .before .before .args in
     adds-full q (timed (a .unit .now) (a .pts) (a .dts) (a .marked)) (c .before .if1 .taken) _ (c .refuse .ensures)
 
@@ -23,27 +23,31 @@ refuse-requires-2 : tie.Need-refuse-requires-2
 refuse-requires-2 c κs = search needs
 
 returns-2 : tie.Need-returns-2
-returns-2 c units q =
+returns-2 c = λ units q.
     let a = c .before .before .before .before .before .before .before .args in
-    adds-unacceptable q (timed (a .unit .now) (a .pts) (a .dts) (a .marked)) (omega arith)
-    (sym (c .before .before .not-acceptable .ensures) ∙ c .before .if2 .taken) _ (c .refuse2 .ensures)
-
-used-requires : tie.Need-used-requires
-used-requires c κs = search needs
-
-sub-if3 : tie.Need-sub-if3
-sub-if3 c = search needs
+    adds-unacceptable q (timed (a .unit .now) (a .pts) (a .dts) (a .marked)) (omega arith) (sym (c .before .before .not-acceptable .ensures)
+    ∙ c .before .if2 .taken) _ (c .refuse2 .ensures)
 
 refuse-requires-3 : tie.Need-refuse-requires-3
 refuse-requires-3 c κs = search needs
 
 returns-3 : tie.Need-returns-3
-returns-3 c units q =
+returns-3 c = λ units q.
+    let t = total-within q in
+    absurd (omega (arith, c .before .if3 .taken))
+
+sub-if4 : tie.Need-sub-if4
+sub-if4 c = search needs
+
+refuse-requires-4 : tie.Need-refuse-requires-4
+refuse-requires-4 c κs = search needs
+
+returns-4 : tie.Need-returns-4
+returns-4 c = λ units q.
     let a = c .before .before .before .before .before .before .before .before .before .args in
-    let used = c .before .before .used in
     adds-no-room q (timed (a .unit .now) (a .pts) (a .dts) (a .marked)) (omega arith)
-    (sym (c .before .before .before .before .not-acceptable .ensures) ∙ c .before .before .before .if2 .left) _
-    (used .ensures .0 (sums-within q)) (c .before .if3 .taken) _ (c .refuse3 .ensures)
+    (sym (c .before .before .before .before .not-acceptable .ensures)
+    ∙ c .before .before .before .if2 .left) _ refl (c .before .if4 .taken) _ (c .refuse4 .ensures)
 
 sub-copy : tie.Need-sub-copy
 sub-copy c = search needs
@@ -63,15 +67,14 @@ with-requires c κs = search needs
 same-length : tie.Need-same-length
 same-length c = search needs
 
-returns-4 : tie.Need-returns-4
-returns-4 c units q =
+returns-5 : tie.Need-returns-5
+returns-5 c = λ units q.
     let a = c .before .before .before .before .before .before .before .before .before .before .before .before .before .args in
-    let used = c .before .before .before .before .before .before .used in
+    let t = total-within q in
     adds-added q (timed (a .unit .now) (a .pts) (a .dts) (a .marked)) (omega arith)
     (sym (c .before .before .before .before .before .before .before .before .not-acceptable .ensures)
-    ∙ c .before .before .before .before .before .before .before .if2 .left) (used .result)
-    (used .ensures .0 (sums-within q)) (omega arith) _ _
-    (tail-placed (used .result) (a .store .now) (a .unit .now) _ (used .ensures .1) (c .before .before .before .copy .ensures))
+    ∙ c .before .before .before .before .before .before .before .if2 .left) (a .queue .total) refl (omega arith) _ _
+    (tail-placed (a .queue .total) (a .store .now) (a .unit .now) _ (omega arith) (c .before .before .before .copy .ensures))
     (c .with .ensures)
 
 pub add-spec : {M : Type 1} → statement M
@@ -83,14 +86,15 @@ add-spec =
     not-acceptable-requires
     refuse-requires-2
     returns-2
-    used-requires
-    sub-if3
     refuse-requires-3
     returns-3
+    sub-if4
+    refuse-requires-4
+    returns-4
     sub-copy
     part-copy-start
     part-copy-end
     copy-requires
     with-requires
     same-length
-    returns-4)
+    returns-5)
