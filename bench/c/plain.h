@@ -29,6 +29,8 @@ plain_answer plain_check_unit(const uint8_t *unit, size_t len);
 size_t plain_copy_payloads(const uint8_t *segment, size_t len, unsigned pid, uint8_t *out,
                            size_t room);
 
+size_t plain_copy_into_packets(const uint8_t *bytes, size_t len, uint8_t *out, size_t room);
+
 uint64_t plain_crc32(const uint8_t *bytes, size_t len);
 
 /* The struct of measured_header: number 0 is success; in a refusal all else is 0. */

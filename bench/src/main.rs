@@ -12,6 +12,7 @@ mod multiplex;
 mod payload;
 mod plain;
 mod segment;
+mod sending;
 mod table;
 mod unit;
 
@@ -64,6 +65,7 @@ fn pass(repeats: Repeats) -> Result<Rows, String> {
     unit::measure(repeats, &mut rows.by_byte)?;
     checksum::measure(repeats, &mut rows.by_byte)?;
     segment::measure(repeats, &mut rows.by_byte)?;
+    sending::measure(repeats, &mut rows.by_byte)?;
     header::measure(repeats, &mut rows.by_header)?;
     Ok(rows)
 }

@@ -105,6 +105,12 @@ mod copy {
             out: *mut u8,
             room: usize,
         ) -> usize;
+        fn plain_copy_into_packets(
+            bytes: *const u8,
+            len: usize,
+            out: *mut u8,
+            room: usize,
+        ) -> usize;
     }
 
     /// Copies what the packets of one PID carry after their PES headers; gives the bytes copied.
@@ -121,5 +127,12 @@ mod copy {
             )
         }
     }
+
+    /// Copies bytes into packets, 184 each; gives the bytes written.
+    pub fn copy_into_packets(bytes: &[u8], out: &mut [u8]) -> usize {
+        // SAFETY: both slices are valid for their lengths and do not overlap; the C side touches
+        // nothing outside them.
+        unsafe { plain_copy_into_packets(bytes.as_ptr(), bytes.len(), out.as_mut_ptr(), out.len()) }
+    }
 }
-pub use copy::copy_payloads;
+pub use copy::{copy_into_packets, copy_payloads};
