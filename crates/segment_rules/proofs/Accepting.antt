@@ -34,11 +34,11 @@ use Rattle.segment_rules.proofs.Running.{length-packets}
 
 -- ---- lists
 -- all of a list and one more
-all-and-one : {A : Type 0} (P : A → Type 0) (l : List A) (a : A) → All P l → P a → All P (l ++ (a ∷ []))
+pub all-and-one : {A : Type 0} (P : A → Type 0) (l : List A) (a : A) → All P l → P a → All P (l ++ (a ∷ []))
 all-and-one P [] a h p = (p, tt)
 all-and-one P (b ∷ l) a h p = (h .0, all-and-one P l a (h .1) p)
 
-all-so : {A : Type 0} {P Q : A → Type 0} (l : List A) → ((a : A) → P a → Q a) → All P l → All Q l
+pub all-so : {A : Type 0} {P Q : A → Type 0} (l : List A) → ((a : A) → P a → Q a) → All P l → All Q l
 all-so [] f h = tt
 all-so (a ∷ l) f h = (f a (h .0), all-so l f (h .1))
 
@@ -62,7 +62,7 @@ firstsOf units = map (λ u. u .first) units
 octets-none : Octets []
 octets-none i = omega arith
 
-octets-payload : (p : Bytes) → Octets p → Octets (payload p)
+pub octets-payload : (p : Bytes) → Octets p → Octets (payload p)
 unfolding payload pick
 octets-payload p o = go (hasPayload p)
   where
@@ -70,7 +70,7 @@ octets-payload p o = go (hasPayload p)
     go true = octets-drop p (headerLength p) o
     go false = octets-none
 
-octets-packet : (n : ℕ) (s : Bytes) (k : ℕ) → Octets s → Octets (getD (packetsOf n s) k [])
+pub octets-packet : (n : ℕ) (s : Bytes) (k : ℕ) → Octets s → Octets (getD (packetsOf n s) k [])
 unfolding packetsOf
 octets-packet zero s k o = octets-none
 octets-packet (suc n) s zero o = octets-take packetLength s o
@@ -81,7 +81,7 @@ abbrev pub Timed : Times → Type 0
 Timed Absent = ⊥
 Timed (Stamps pts dts) = (pts .0 < 2 ^ 33) × (dts .0 < 2 ^ 33)
 
-stamped : (w : Bytes) → Octets w → noTimes w ≡ false → Timed (timesOf w)
+pub stamped : (w : Bytes) → Octets w → noTimes w ≡ false → Timed (timesOf w)
 unfolding timesOf pick
 stamped w o e = rw e (pts-width w o, dts-width w o)
 

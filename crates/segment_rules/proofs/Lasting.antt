@@ -34,7 +34,7 @@ module _ (edition : Edition) (rooms : Rooms) (P : Tables → Type 0) (W : Bytes 
     off : (number : ℕ) (givenWhen : State → Bool) → Keeps In (rule i p number givenWhen)
     off number givenWhen = rule-keeps In i p number givenWhen
 
-    to-24 : Keeps In (inSequence (upTo24 i p))
+    pub to-24 : Keeps In (inSequence (upTo24 i p))
     unfolding rule21 rule22 rule23 pcrCounts rule24
     to-24 = sequence-keeps In (upTo24 i p)
         (off 21 _, (off 22 _, (off 23 _, (tables-step P _ (clock i p), (tables-step P _ (count i p), tt)))))

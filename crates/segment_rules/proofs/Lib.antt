@@ -10,6 +10,9 @@ pub mod Naming
 pub mod Marking
 pub mod Alike
 pub mod Repeating
+pub mod Editions
+pub mod Comparing
+pub mod Contents
 pub mod Examples
 pub mod Moving
 pub mod Fitting

@@ -40,7 +40,7 @@ tried i number b v a e =
     (given-passed number b (at-passed i (given number b) (k .0)), k .1)
 
 -- a step whose value is not handed on
-passed-so : {A B : Type 0} (v : Verdict A) (w : Verdict B) (b : B) → (v >> w) ≡ passed b → (a : A) × (v ≡ passed a) × (w ≡ passed b)
+pub passed-so : {A B : Type 0} (v : Verdict A) (w : Verdict B) (b : B) → (v >> w) ≡ passed b → (a : A) × (v ≡ passed a) × (w ≡ passed b)
 unfolding _>>_
 passed-so (passed a) w b e = (a, refl, e)
 passed-so (refused number place) w b e = never e

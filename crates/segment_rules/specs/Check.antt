@@ -7,7 +7,7 @@ use lib.Dec.{eqb, ltb}
 use lib.ListN.{length, replicate}
 use Rattle.lists.specs.Lists.{Bytes, over}
 use Rattle.refusal.specs.Verdict.{Verdict, NoValue, passed, refused, _>>=_, _>>_, given}
-use Rattle.descriptor.specs.Edition.{Edition}
+use Rattle.descriptor.specs.Edition.{Edition, editionOf}
 use Rattle.packet.specs.Header.{pid, packetLength, packets}
 use Rattle.pmt.specs.Pmt.{MapContent}
 use Rattle.pes.specs.declared.header.Times.{Times}
@@ -83,6 +83,12 @@ module _ (edition : Edition) (rooms : Rooms) where
   unfoldable pub checkSegment : Bytes → Verdict Accepted
   checkSegment s = rule20 s >> (run start (packets s) >>= ending)
 
+-- the check in the edition of this number. 2026-08: "44 at place 0 for an unknown edition, before 20"
+unfoldable pub checkIn : ℕ → Rooms → Bytes → Verdict Accepted
+checkIn n rooms s = do
+  edition ← editionOf n
+  checkSegment edition rooms s
+
 -- ---- the three outputs
 pub record Outputs : Type 0 where
   pub bytes : Bytes
@@ -99,7 +105,8 @@ roomsOf o = record { bytes = length (o .bytes); lens = length (o .lens); times =
 abbrev pub lengths : List AccessUnit → List ℕ
 lengths units = map (λ u. length (u .carried)) units
 
--- a number that no time of 33 bits equals, where the unit has no times; with 30 there is no such unit
+-- 2026-08: "the unit's two times then being 8,589,934,592, which no 33-bit time equals", where it has none; with 30
+-- there is no such unit
 abbrev pub noTime : ℕ
 noTime = 2 ^ 33
 

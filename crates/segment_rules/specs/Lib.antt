@@ -2,3 +2,5 @@ pub mod State
 pub mod Rules
 pub mod Check
 pub mod Named
+pub mod Comparison
+pub mod Content
