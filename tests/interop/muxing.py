@@ -1,4 +1,4 @@
-"""Segments of units, by this program and, where the tool has it, by the library's queue and send."""
+"""Segments of units by this program; the library's queue and send write others, by av1ts mux."""
 from obus import carried
 from stream import REGISTRATION, Stream, entry, pes, pmt
 
@@ -20,7 +20,3 @@ def mux(film, video):
             stream.tables(None, tables).clock((dts - 45000) * 300)
         stream.pes(pes(carried(unit), pts, None if dts == pts else dts))
     return stream.data
-
-
-def has_mux(tests):
-    return '\n  mux ' in tests.run('--help').stdout.decode()

@@ -1,14 +1,13 @@
-"""Commands and answers of requests that the library may not have yet: each is tried where the tool has it."""
+"""Commands and answers of the requests. Those that the library may not have yet are tried where the tool has them."""
 from stream import AV1_ENTRY, DELIMITER, DRAFT, FRAME, NEXT, REGISTRATION, SEQUENCE, SIZE, UNIT, VIDEO, Stream, carried, entry, good, pes, pmt
 
 
 def run(tests):
     commands = tests.run('--help').stdout.decode()
     edition = b'knows no draft' not in tests.run('check', good().data, '--edition', 'draft').stderr
-    if '\n  salvage ' in commands:
-        salvage(tests)
-    if '\n  mux ' in commands:
-        mux(tests)
+    salvage(tests)
+    mux(tests)
+    mux_times(tests)
     if '\n  sheet ' in commands:
         sheet(tests)
     if edition:
@@ -55,6 +54,42 @@ def mux(tests):
     tests.status('an OBU that is cut short', 2, 'mux', (DELIMITER + SEQUENCE)[:-1], '-o', '-', '--descriptor', VIDEO.hex(), error='goes past the end')
     tests.status('no descriptor', 2, 'mux', unit, '-o', '-', error='--descriptor is needed')
     tests.status('no frame rate', 2, 'mux', unit, '-o', '-', '--descriptor', VIDEO.hex(), '--fps', '0', error='no frame rate')
+
+
+def ivf(frames, rate, scale):
+    """An IVF file of frames with their times."""
+    def word(number, size):
+        return number.to_bytes(size, 'little')
+    head = b'DKIF' + word(0, 2) + word(32, 2) + b'AV01' + word(176, 2) + word(144, 2) + word(rate, 4) + word(scale, 4) + word(len(frames), 8)
+    return head + b''.join(word(len(frame), 4) + word(time, 8) + frame for time, frame in frames)
+
+
+def mux_times(tests):
+    target = tests.work / 'timed.ts'
+    to = ['-o', target, '--force', '--descriptor', VIDEO.hex()]
+
+    def times(name, *args):
+        tests.status(name, 0, 'mux', *args, *to)
+        answer = tests.json(f'{name}: what it wrote', 'check', target, '--json', '--units')
+        tests.holds(f'{name}: it is accepted', answer['verdict'] == 'accepted')
+        return [(unit['pts'], unit['dts']) for unit in answer['units']]
+
+    first = tests.file(UNIT, 'first.unit')
+    others = [tests.file(NEXT, f'{index}.unit') for index in range(9)]
+    tests.holds('carried units by the frame rate', times('mux of ten units', first, *others, '--fps', '30000/1001')
+                == [(90000 + 3003 * k, 90000 + 3003 * k) for k in range(10)])
+    tests.holds('as they were', tests.run('units', target, '--obu', '-').stdout == DELIMITER + SEQUENCE + FRAME + 9 * (DELIMITER + FRAME))
+    film = [(0, DELIMITER + SEQUENCE + FRAME), (1, DELIMITER + FRAME), (3, DELIMITER + FRAME)]
+    tests.holds('the times of an IVF file', times('mux of an IVF file', tests.file(ivf(film, 25, 1), 'film.ivf'), '--fps', '50', '--pts', '0')
+                == [(0, 0), (3600, 3600), (10800, 10800)])
+    hidden = bytes.fromhex('3204 0000 AABB')
+    shown = times('mux of a hidden frame', tests.file(ivf([(0, DELIMITER + SEQUENCE + hidden + FRAME)], 25, 1), 'hidden.ivf'))
+    tests.holds('a hidden frame has its DTS as PTS, before the shown one', shown == [(88200, 88200), (90000, 90000)])
+    cut = ivf(film, 25, 1)
+    tests.status('an IVF frame that is cut short', 2, 'mux', cut[:-1], *to, error='an IVF frame is cut short')
+    tests.status('an IVF header that is cut short', 2, 'mux', cut[:23], *to, error='no time base')
+    tests.status('a PID that is none', 1, 'mux', first, *to, '--pid', '0x1FFF', error='refused 52')
+    tests.status('a PTS past 33 bits', 1, 'mux', first, *to, '--pts', str(1 << 33), error='refused 51')
 
 
 def sheet(tests):
