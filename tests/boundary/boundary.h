@@ -47,10 +47,12 @@ void try_descriptor(void);
 void try_segment(void);
 void try_replay(void);
 void try_mastering(void);
+void try_queue(void);
 
 /* once */
 void try_null_pointers(void);
 void try_limits(void);
+void try_queue_limits(void);
 
 /* The sample's packets, for segments. */
 extern const uint8_t *sample;

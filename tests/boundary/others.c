@@ -158,7 +158,9 @@ void try_null_pointers(void) {
     av1ts_replay_state fresh = {0, 0, 0, 0, 0, 0, 0};
     uint8_t field[10] = {0};
     uint64_t value[10] = {0};
-    uint8_t unit[] = {0, 0, 1, 0x30, 0xAA};
+    uint8_t unit[] = {0, 0, 1, 0x30, 0xAA}, video[] = {0x80, 4, 0x81, 8, 0x0C, 0xC0};
+    const av1ts_channel channel = {1, 0x20, 0x30, 0, 0, 0, 0};
+    av1ts_queue queue;
     calls("a call with null pointers");
     expect(av1ts_escape(NULL, 0, NULL, 0).number == 0, "escape of no bytes");
     expect(av1ts_escape(unit, 5, NULL, 0).number == 8, "escape to no room");
@@ -180,4 +182,14 @@ void try_null_pointers(void) {
     expect(av1ts_replay(fresh, 1, NULL, 0, NULL, 0).number == 0, "replay of nothing");
     expect(av1ts_read_mastering(NULL, 0).number == 48, "read_mastering of nothing");
     expect(av1ts_write_mastering(value, NULL, 0).number == 8, "write_mastering to no room");
+    memset(&queue, 0, sizeof queue);
+    expect(av1ts_queue_add(queue, NULL, 0, NULL, 0, 0, 0, 0).number == 51, "queue_add of nothing");
+    expect(av1ts_queue_add(queue, NULL, 0, unit, 5, 0, 0, 0).number == 8, "queue_add to no store");
+    expect(av1ts_queue_drop(queue, NULL, 0).empty == 1, "queue_drop of nothing");
+    expect(av1ts_queue_send(queue, NULL, 0, channel, NULL, 0, NULL, 0).number == 52, "queue_send without a descriptor");
+    expect(av1ts_queue_send(queue, NULL, 0, channel, video, sizeof video, NULL, 0).number == 8, "queue_send to no room");
+    memset(&queue, 0xFF, sizeof queue);
+    expect(av1ts_queue_add(queue, NULL, 0, unit, 5, 0, 0, 0).number == 50, "queue_add to a queue of ones");
+    expect(av1ts_queue_drop(queue, NULL, 0).number == 0, "queue_drop of a queue of ones");
+    expect(av1ts_queue_send(queue, NULL, 0, channel, video, sizeof video, NULL, 0).number != 0, "queue_send of a queue of ones");
 }

@@ -4,6 +4,7 @@
 mod descriptor;
 mod mastering;
 mod payload;
+mod queue;
 mod refusal;
 mod replay;
 mod salvage;
@@ -14,6 +15,7 @@ mod walk;
 pub use descriptor::{Rewritten, VideoDescriptor};
 pub use mastering::MasteringFigures;
 pub use payload::{Unescaped, escape, unescape};
+pub use queue::{Channel, Queue, QueuedUnit};
 pub use refusal::{Refusal, Refused};
 pub use replay::{Arrival, Replay};
 pub use salvage::{Mark, Salvaged, salvage};
