@@ -345,8 +345,8 @@ fn changed(suite: &mut Suite, caller: &mut Caller, kind: &Kind, place: usize, ma
         let bytes = packets.concat();
         let label = format!("{name}, a byte changed: 24");
         let at_24 = verdict(&packets).map_or_else(|refusal| refusal.number == 24, |_| false);
-        let more: &[&str] = if at_24 { &[&label] } else { &[] };
-        caller.check_as(suite, &bytes, wide(&bytes), more, |verdict| {
+        let more: Vec<&str> = at_24.then_some(label.as_str()).into_iter().collect();
+        caller.check_as(suite, &bytes, wide(&bytes), &more, |verdict| {
             // From the payload or what stands behind a PCR on, nothing else is looked at.
             let is_24 = verdict.as_ref().map_or_else(
                 |refusal| (refusal.number, refusal.place) == (24, second as u64),
@@ -725,7 +725,7 @@ fn runs(suite: &mut Suite, caller: &mut Caller, random: &mut Random) {
             }
             let step = match random.below(40) {
                 0 => random.below(16) as u8,
-                1..12 => 0,
+                1..=11 => 0,
                 _ => u8::from(packet.has_payload()),
             };
             last[which] = (last[which] + step) % 16;
