@@ -4,8 +4,8 @@
  * pointer and a length; a null pointer with length 0 is fine for every one of them, input or output: where the length is 0 the pointer is not used.
  *
  * number 0 says that nothing was refused. Success writes from the front of each output and the rest of it keeps its old bytes. Otherwise number and place
- * say what was refused and where, every other field is 0 and every output keeps its old bytes. Two functions differ: a refused av1ts_walk_step has the
- * place handed in as next_at, and a refused av1ts_check_segment leaves zeros throughout its three outputs.
+ * say what was refused and where, every other field is 0 and every output keeps its old bytes. Two kinds differ: a refused av1ts_walk_step has the
+ * place handed in as next_at, and a refused check of a segment leaves zeros throughout its three outputs.
  */
 #ifndef AV1TS_H
 #define AV1TS_H
@@ -58,6 +58,7 @@ enum {
     AV1TS_REFUSED_PES_LENGTH = 32,         /* PES length wrong */
     AV1TS_REFUSED_NO_TABLES = 33,          /* no PAT or no PMT */
     AV1TS_REFUSED_UNIT_COUNT = 34,         /* a 1,025th unit */
+    AV1TS_REFUSED_EDITION = 44,            /* an unknown edition */
 
     /* the transport buffer */
     AV1TS_REFUSED_ARRIVAL_TIME = 46,  /* a time goes back, or jumps over a second */
@@ -174,6 +175,14 @@ typedef struct {
  * the index of the packet that began the PES, 32 PES length wrong and the refusals of reading its unit; 33 (place: the packet count) no PAT or no PMT. */
 av1ts_segment av1ts_check_segment(const uint8_t *segment, size_t segment_len, uint8_t *out, size_t out_len, size_t *lengths, size_t lengths_len, uint64_t *times,
                                   size_t times_len);
+
+/* The same in an edition: 0 current, as av1ts_check_segment checks, or 1 draft, for recordings made to the draft of 2018. Under draft the registration is 'AV1 '
+ * (41 56 31 20) in place of 'AV01', a descriptor of tag 0x80 is not looked at, and a PES may have PTS_DTS_flags 00, with any header length: both times of its unit
+ * are then 8,589,934,592, which no time of 33 bits equals.
+ * Refuses: 44 (place 0) an edition that is neither 0 nor 1, before anything else; then as av1ts_check_segment does, under draft never by 30. Every refusal leaves
+ * zeros throughout the three outputs. */
+av1ts_segment av1ts_check_segment_edition(uint64_t edition, const uint8_t *segment, size_t segment_len, uint8_t *out, size_t out_len, size_t *lengths,
+                                          size_t lengths_len, uint64_t *times, size_t times_len);
 
 /* The state of a replay of the transport buffer. fill and highest are in bits times 27,000,000. has_last 1: last is the time of the last arrival; 0: there was
  * none, and last is 0. arrivals: how many since the fresh state. has_above 1: above is the index, since the fresh state, of the first arrival after which the fill

@@ -5,6 +5,7 @@
 pub mod compose;
 pub mod crc;
 pub mod descriptor;
+pub mod edition;
 pub mod listing;
 pub mod mastering;
 pub mod obu;

@@ -1,5 +1,6 @@
 //! The PES header of the AV1 stream (13818-1, 2.4.3.6 and 2.4.3.7), and the refusals 29 and 30.
 
+use crate::edition::{Edition, NO_TIME};
 use crate::refusal::Refusal;
 
 /// What a PES header says.
@@ -9,7 +10,7 @@ pub struct Header {
     pub length: usize,
     /// The header's own bytes.
     pub size: usize,
-    /// Ticks of 90 kHz.
+    /// Ticks of 90 kHz; or no time, as the draft has it.
     pub pts: u64,
     /// "DTS is PTS where absent."
     pub dts: u64,
@@ -55,8 +56,9 @@ fn time(bytes: &[u8]) -> Time {
 
 /// "PES: 00 00 01 BD, the bits 10, scrambling 00, data_alignment 1, flags 10 or 11 (01 is 29, 00 is
 /// 30), header whole in the first packet, length byte at least 5 or 10, PTS and DTS prefixes and
-/// marker bits as in 13818-1." "Within a starting packet 29 comes before 30".
-pub fn header(payload: &[u8], index: usize) -> Result<Header, Refusal> {
+/// marker bits as in 13818-1." "Within a starting packet 29 comes before 30". Under draft
+/// "PTS_DTS_flags 00 is accepted with any length byte".
+pub fn header(payload: &[u8], edition: Edition, index: usize) -> Result<Header, Refusal> {
     let wrong = |condition| Err(Refusal::new(29, index, condition));
     if payload.len() < 9 {
         return wrong("29: under 9 bytes");
@@ -80,7 +82,17 @@ pub fn header(payload: &[u8], index: usize) -> Result<Header, Refusal> {
     if 9 + length_byte > payload.len() {
         return wrong("29: header not whole in the packet");
     }
+    let length = usize::from(u16::from_be_bytes([payload[4], payload[5]]));
+    let size = 9 + length_byte;
     let with_dts = match payload[7] >> 6 {
+        0b00 if edition == Edition::Draft => {
+            return Ok(Header {
+                length,
+                size,
+                pts: NO_TIME,
+                dts: NO_TIME,
+            });
+        }
         0b00 => return Err(Refusal::new(30, index, "30: flags 00")),
         0b01 => return wrong("29: flags 01"),
         0b10 => false,
@@ -111,8 +123,8 @@ pub fn header(payload: &[u8], index: usize) -> Result<Header, Refusal> {
         dts = time.ticks;
     }
     Ok(Header {
-        length: usize::from(u16::from_be_bytes([payload[4], payload[5]])),
-        size: 9 + length_byte,
+        length,
+        size,
         pts: pts.ticks,
         dts,
     })

@@ -1,7 +1,8 @@
 //! Sections (13818-1, 2.4.4): the PAT, the PMT, and the refusals 25 to 28.
 
 use crate::crc::crc;
-use crate::descriptor::{self, REGISTRATION, VIDEO_TAG};
+use crate::descriptor::{self, VIDEO_TAG};
+use crate::edition::Edition;
 use crate::packet::{NULL, Packet};
 use crate::refusal::Refusal;
 
@@ -148,7 +149,7 @@ pub fn descriptors(mut bytes: &[u8]) -> Option<Vec<Vec<u8>>> {
 /// "PMT: table 2, the PAT's program number, descriptors and entries filling their lengths exactly, no
 /// PID twice, none equal to 0, 0x1FFF or the map PID. After the CRC the entries are tried in order,
 /// each wholly for 26; 27 is given where bytes remain after a twelfth that passed; 28 last."
-pub fn pmt(section: &[u8], pat: &Pat, index: usize) -> Result<Pmt, Refusal> {
+pub fn pmt(section: &[u8], pat: &Pat, edition: Edition, index: usize) -> Result<Pmt, Refusal> {
     let (program, body) = common(Table::Pmt, section, index)?;
     if program != pat.program {
         return wrong!(Table::Pmt, index, "another program");
@@ -200,7 +201,7 @@ pub fn pmt(section: &[u8], pat: &Pat, index: usize) -> Result<Pmt, Refusal> {
         });
         rest = &rest[5 + length..];
     }
-    let av1_pid = av1_entry(&entries, index)?;
+    let av1_pid = av1_entry(&entries, edition, index)?;
     let pids = entries.iter().map(|entry| entry.pid).collect();
     Ok(Pmt {
         pcr_pid,
@@ -211,12 +212,14 @@ pub fn pmt(section: &[u8], pat: &Pat, index: usize) -> Result<Pmt, Refusal> {
 
 /// "28: not exactly one AV1 entry, the registration 'AV01' elsewhere in an entry's loop or with
 /// stream_type other than 0x06, or the AV1 entry has two video descriptors or one refused by 40."
-/// "The AV1 entry has stream_type 0x06 and the registration as its first descriptor."
-fn av1_entry(entries: &[Entry], index: usize) -> Result<u16, Refusal> {
+/// "The AV1 entry has stream_type 0x06 and the registration as its first descriptor." Under draft its
+/// own registration is "read for 'AV01' in 28", and "tag 0x80 is not interpreted".
+fn av1_entry(entries: &[Entry], edition: Edition, index: usize) -> Result<u16, Refusal> {
     let wrong = |condition| Err(Refusal::new(28, index, condition));
+    let registration = edition.registration();
     for entry in entries {
         for (place, descriptor) in entry.descriptors.iter().enumerate() {
-            if *descriptor == REGISTRATION {
+            if *descriptor == registration {
                 if place != 0 {
                     return wrong("28: registration not the first");
                 }
@@ -228,13 +231,16 @@ fn av1_entry(entries: &[Entry], index: usize) -> Result<u16, Refusal> {
     }
     // The registration now stands only at the front of loops, of entries with stream_type 0x06.
     let registered =
-        |entry: &&Entry| matches!(entry.descriptors.first(), Some(first) if *first == REGISTRATION);
+        |entry: &&Entry| matches!(entry.descriptors.first(), Some(first) if *first == registration);
     let av1: Vec<&Entry> = entries.iter().filter(registered).collect();
     let entry = match av1[..] {
         [] => return wrong("28: no AV1 entry"),
         [entry] => entry,
         _ => return wrong("28: two AV1 entries"),
     };
+    if edition == Edition::Draft {
+        return Ok(entry.pid);
+    }
     let mut videos = Vec::new();
     for descriptor in &entry.descriptors {
         if descriptor[0] == VIDEO_TAG {

@@ -1,5 +1,6 @@
 //! A segment: its packets in order, its program, and its AV1 access units.
 
+use crate::edition::Edition;
 use crate::packet::{self, NULL, Packet};
 use crate::refusal::Refusal;
 use crate::section::{self, Pat, Pmt, Table};
@@ -49,7 +50,7 @@ impl Totals {
     }
 }
 
-/// A unit as carried, with its times in ticks of 90 kHz.
+/// A unit as carried, with its times in ticks of 90 kHz; or no times, as the draft has it.
 #[derive(Clone, Debug, PartialEq, Eq)]
 pub struct Unit {
     pub bytes: Vec<u8>,
@@ -118,6 +119,7 @@ struct Last {
 
 /// The check as it stands before a packet. A section that was read is kept with its bytes.
 struct Check {
+    edition: Edition,
     rooms: Rooms,
     pat: Option<(Vec<u8>, Pat)>,
     pmt: Option<(Vec<u8>, Pmt)>,
@@ -129,8 +131,18 @@ struct Check {
     totals: Totals,
 }
 
-/// "Packets in order, each in this sequence, PES closing aside; the first refusal is the verdict."
+/// The check of the current edition.
 pub fn check(segment: &[u8], rooms: Rooms) -> Result<Accepted, Refusal> {
+    check_edition(0, segment, rooms)
+}
+
+/// "Packets in order, each in this sequence, PES closing aside; the first refusal is the verdict."
+pub fn check_edition(edition: u64, segment: &[u8], rooms: Rooms) -> Result<Accepted, Refusal> {
+    // "44 at place 0 for an unknown edition, before 20"
+    let edition = match Edition::of(edition) {
+        Some(edition) => edition,
+        _ => return Err(Refusal::new(44, 0, "44: an unknown edition")),
+    };
     // "no bytes, not a multiple of 188, or over 65,535 packets (place 0)"
     if segment.is_empty() {
         return Err(Refusal::new(20, 0, "20: no bytes"));
@@ -143,6 +155,7 @@ pub fn check(segment: &[u8], rooms: Rooms) -> Result<Accepted, Refusal> {
         return Err(Refusal::new(20, 0, "20: over 65,535 packets"));
     }
     let mut check = Check {
+        edition,
         rooms,
         pat: None,
         pmt: None,
@@ -306,7 +319,7 @@ impl Check {
             return section::later(Table::Pmt, section, first, index);
         }
         let (_, pat) = self.pat.as_ref().expect("the map PID is the PAT's");
-        let pmt = section::pmt(section, pat, index)?;
+        let pmt = section::pmt(section, pat, self.edition, index)?;
         self.pmt = Some((section.to_vec(), pmt));
         Ok(())
     }
@@ -333,7 +346,7 @@ impl Check {
 
     /// "Within a starting packet 29 comes before 30, then 31, 34, 8."
     fn start(&mut self, payload: &[u8], index: usize) -> Result<(), Refusal> {
-        let header = pes::header(payload, index)?;
+        let header = pes::header(payload, self.edition, index)?;
         if !self.pcr {
             return Err(Refusal::new(31, index, "31: no PCR yet"));
         }

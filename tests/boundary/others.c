@@ -40,11 +40,42 @@ void try_descriptor(void) {
     expect(written[0].number == 0 ? written[0].count == 6 : written[0].number == 41 || (written[0].number == 8 && room < 6), "write_descriptor: its answer");
 }
 
-/* A part of the sample, damaged more often than not. */
-static size_t make_segment(uint8_t *segment) {
+/* The CRC of a section (13818-1 Annex A). */
+static uint32_t crc(const uint8_t *bytes, size_t size) {
+    uint32_t sum = 0xFFFFFFFF;
+    for (size_t i = 0; i < size; i++) {
+        sum ^= (uint32_t)bytes[i] << 24;
+        for (int bit = 0; bit < 8; bit++)
+            sum = sum << 1 ^ (sum >> 31 ? 0x04C11DB7 : 0);
+    }
+    return sum;
+}
+
+/* A packet of the sample as the draft has it: the registration of a PMT is 'AV1 ', and now and then a PES has no times. */
+static void make_draft(uint8_t *packet) {
+    uint8_t *payload = packet + 4 + (packet[3] & 0x20 ? 1 + packet[4] : 0);
+    if ((packet[1] & 0x40) == 0)
+        return;
+    if (memcmp(payload, "\0\2", 2) == 0) {
+        size_t length = (size_t)(payload[2] & 15) << 8 | payload[3];
+        for (size_t i = 0; i + 6 <= length; i++)
+            if (memcmp(payload + i, "\5\4AV01", 6) == 0)
+                memcpy(payload + i, "\5\4AV1 ", 6);
+        uint32_t sum = crc(payload + 1, length - 1);
+        for (int i = 0; i < 4; i++)
+            payload[length + (size_t)i] = (uint8_t)(sum >> (24 - 8 * i));
+    }
+    if (memcmp(payload, "\0\0\1\275", 4) == 0 && one_in(3))
+        payload[7] &= 0x3F;
+}
+
+/* A part of the sample, or of the sample as a draft recording, damaged more often than not. */
+static size_t make_segment(uint8_t *segment, int draft) {
     size_t packets = sample_length / 188, first = one_in(8) ? below(packets) : 0;
     size_t size = (1 + length_up_to(packets - first - 1)) * 188;
     memcpy(segment, sample + first * 188, size);
+    for (size_t k = 0; draft && k < size; k += 188)
+        make_draft(segment + k);
     if (one_in(3))
         return size;
     for (size_t k = length_up_to(4); k > 0; k--) {
@@ -60,25 +91,33 @@ static size_t make_segment(uint8_t *segment) {
 }
 
 void try_segment(void) {
-    static const uint64_t numbers[] = {1, 2, 3, 4, 5, 6, 7, 8, 9, 10, 20, 21, 22, 23, 24, 25, 26, 27, 28, 29, 30, 31, 32, 33, 34, 42, 0};
+    static const uint64_t numbers[] = {1, 2, 3, 4, 5, 6, 7, 8, 9, 10, 20, 21, 22, 23, 24, 25, 26, 27, 28, 29, 30, 31, 32, 33, 34, 42, 44, 0};
     static uint8_t segment[1 << 16];
-    size_t size = make_segment(segment), word = sizeof(size_t), packets = size / 188;
+    uint64_t edition = one_in(20) ? next() : below(2);
+    size_t size = make_segment(segment, one_in(10) ? one_in(2) : edition == 1), word = sizeof(size_t), packets = size / 188;
     size_t room = one_in(4) ? length_up_to(size) : size, many = one_in(4) ? below(80) : 80, times_room = one_in(4) ? below(160) : 160;
     av1ts_segment both[2];
-    uint64_t left[2];
+    uint64_t left[2], most_time = (UINT64_C(1) << 33) - (edition != 1);
     for (int side = 0; side < 2; side++) {
         const uint8_t *in = give(0, side, segment, size);
         uint8_t *out = lend(1, side, room);
         size_t *lengths = lend(2, side, many * word);
         uint64_t *times = lend(3, side, times_room * 8);
         size_t sum = 0;
-        calls("av1ts_check_segment");
-        both[side] = av1ts_check_segment(in, size, out, room, lengths, many, times, times_room);
+        if (edition == 0 && one_in(2)) {
+            calls("av1ts_check_segment");
+            both[side] = av1ts_check_segment(in, size, out, room, lengths, many, times, times_room);
+        } else {
+            calls("av1ts_check_segment_edition");
+            both[side] = av1ts_check_segment_edition(edition, in, size, out, room, lengths, many, times, times_room);
+        }
         if (both[side].number != 0) {
             expect(cleared(1) && cleared(2) && cleared(3), "check_segment: a refusal clears its outputs");
         } else {
             for (uint64_t i = 0; i < both[side].units && i < many; i++)
                 sum += lengths[i];
+            for (uint64_t i = 0; i < 2 * both[side].units && i < times_room; i++)
+                expect(times[i] <= most_time, "check_segment: its times");
             expect(both[side].units <= many && 2 * both[side].units <= times_room && sum <= room, "check_segment: its units have room");
             expect(kept(1, sum) && kept(2, both[side].units * word) && kept(3, both[side].units * 16), "check_segment: what it leaves");
         }
@@ -87,6 +126,8 @@ void try_segment(void) {
     av1ts_segment a = both[0];
     expect(memcmp(&both[0], &both[1], sizeof a) == 0 && left[0] == left[1], "check_segment: the same on both sides");
     expect(a.number == 0 || is_one_of(a.number, numbers), "check_segment: its answer");
+    expect((a.number == 44) == (edition > 1) && (a.number != 44 || a.place == 0), "check_segment: its edition");
+    expect(a.number != 30 || edition == 0, "check_segment: a draft recording may have no times");
     expect(a.number == 0 || all_zero(&a.program, (sizeof a - offsetof(av1ts_segment, program)) / 8), "check_segment: a refusal says nothing else");
     expect(a.number == 0 || a.place <= packets, "check_segment: its place");
     expect(a.number != 0 || a.null_packets + a.section + a.av1 + a.other_listed + a.unlisted == packets, "check_segment: its totals add up");
@@ -179,6 +220,8 @@ void try_null_pointers(void) {
     expect(av1ts_write_descriptor(field, NULL, 0).number == 8, "write_descriptor to no room");
     expect(av1ts_rewrite_descriptor(NULL, 0, NULL, 0).number == 40, "rewrite_descriptor of nothing");
     expect(av1ts_check_segment(NULL, 0, NULL, 0, NULL, 0, NULL, 0).number == 20, "check_segment of nothing");
+    expect(av1ts_check_segment_edition(1, NULL, 0, NULL, 0, NULL, 0, NULL, 0).number == 20, "check_segment_edition of nothing");
+    expect(av1ts_check_segment_edition(2, NULL, 0, NULL, 0, NULL, 0, NULL, 0).number == 44, "check_segment_edition of nothing in no edition");
     expect(av1ts_replay(fresh, 1, NULL, 0, NULL, 0).number == 0, "replay of nothing");
     expect(av1ts_read_mastering(NULL, 0).number == 48, "read_mastering of nothing");
     expect(av1ts_write_mastering(value, NULL, 0).number == 8, "write_mastering to no room");

@@ -4,14 +4,12 @@ from stream import AV1_ENTRY, DELIMITER, DRAFT, FRAME, NEXT, REGISTRATION, SEQUE
 
 def run(tests):
     commands = tests.run('--help').stdout.decode()
-    edition = b'knows no draft' not in tests.run('check', good().data, '--edition', 'draft').stderr
     salvage(tests)
     mux(tests)
     mux_times(tests)
+    editions(tests)
     if '\n  sheet ' in commands:
         sheet(tests)
-    if edition:
-        editions(tests)
     other = pmt(entry(6, 0x100, REGISTRATION + bytes.fromhex('8004 8104 0CC0')))
     data = Stream().tables(None, other).clock(0).pes(pes(UNIT)).data
     found = tests.json('a descriptor of another channel', 'check', data, '--json')
@@ -114,6 +112,9 @@ def editions(tests):
     tests.holds('the hint names the edition', any('accepted by --edition draft' in hint for hint in hints))
     answer = tests.json('a draft as JSON', 'check', data, '--edition', 'draft', '--units', '--json')
     tests.holds('a unit without times', answer['edition'] == 'draft' and answer['units'][1]['pts'] is None)
+    tests.status('a current one as draft', 1, 'check', good().data, '--edition', 'draft', has='refused 28')
+    untimed = Stream().tables().clock(0).pes(pes(UNIT, flags=0)).data
+    tests.status('no times as current', 1, 'check', untimed, has='refused 30')
 
 
 def comparison(tests, data, found):

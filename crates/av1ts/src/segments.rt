@@ -1,9 +1,8 @@
 // Checking a segment and extracting its access units.
 ghost use mathlib.Core.Path.{_≡_};
 ghost use Rattle.refusal.specs.Number.{numberOf};
-ghost use Rattle.descriptor.specs.Edition.{current};
-ghost use Rattle.segment_rules.specs.Check.{checkSegment, outputsOf, roomsOf, outputsAfter};
-ghost use Rattle.segment.specs.Answer.{checking};
+ghost use Rattle.segment_rules.specs.Check.{checkIn, outputsOf, roomsOf, outputsAfter};
+ghost use Rattle.segment.specs.Answer.{checking, checkSays};
 ghost use Rattle.av1ts.specs.Answers.{acceptedAnswer, refusedAnswer, segmentAnswer};
 use refusal::Refused;
 use segment::SegmentCheck;
@@ -61,6 +60,16 @@ fn segment_refusal(r: Refused) -> SegmentAnswer
     }
 }
 
+fn segment_answer(checked: SegmentCheck) -> SegmentAnswer
+    ensures { λ r. ⌜ r ≡ segmentAnswer (checkSays checked) ⌝ }
+{
+    match checked {
+        SegmentCheck::Accepted(summary) => accepted(summary),
+        SegmentCheck::Refused(refused) => segment_refusal(refused),
+    }
+}
+
+// The check in edition 0, the current one.
 #[no_mangle]
 pub extern "C" fn av1ts_check_segment(
     segment: &[u8],
@@ -68,16 +77,35 @@ pub extern "C" fn av1ts_check_segment(
     lengths: &mut [usize],
     times: &mut [u64],
 ) -> SegmentAnswer
-    ensures { λ r. ⌜ r ≡ segmentAnswer (checking current
+    ensures { λ r. ⌜ r ≡ segmentAnswer (checking 0
         (roomsOf (outputsOf (now (out .entry)) (now (lengths .entry)) (now (times .entry)))) (now (segment .entry))) ⌝ }
     ensures { λ _. ⌜ outputsOf (now (out .exit)) (now (lengths .exit)) (now (times .exit))
-        ≡ outputsAfter (checkSegment current
+        ≡ outputsAfter (checkIn 0
         (roomsOf (outputsOf (now (out .entry)) (now (lengths .entry)) (now (times .entry)))) (now (segment .entry)))
         (outputsOf (now (out .entry)) (now (lengths .entry)) (now (times .entry))) ⌝ }
 {
-    let checked = segment::check(segment, out, lengths, times);
-    match checked {
-        SegmentCheck::Accepted(summary) => accepted(summary),
-        SegmentCheck::Refused(refused) => segment_refusal(refused),
-    }
+    let checked = segment::check(0, segment, out, lengths, times);
+    let answer = checked.answer;
+    segment_answer(answer)
+}
+
+// The check in the edition of this number: 0 current, 1 draft.
+#[no_mangle]
+pub extern "C" fn av1ts_check_segment_edition(
+    edition: u64,
+    segment: &[u8],
+    out: &mut [u8],
+    lengths: &mut [usize],
+    times: &mut [u64],
+) -> SegmentAnswer
+    ensures { λ r. ⌜ r ≡ segmentAnswer (checking edition
+        (roomsOf (outputsOf (now (out .entry)) (now (lengths .entry)) (now (times .entry)))) (now (segment .entry))) ⌝ }
+    ensures { λ _. ⌜ outputsOf (now (out .exit)) (now (lengths .exit)) (now (times .exit))
+        ≡ outputsAfter (checkIn edition
+        (roomsOf (outputsOf (now (out .entry)) (now (lengths .entry)) (now (times .entry)))) (now (segment .entry)))
+        (outputsOf (now (out .entry)) (now (lengths .entry)) (now (times .entry))) ⌝ }
+{
+    let checked = segment::check(edition, segment, out, lengths, times);
+    let answer = checked.answer;
+    segment_answer(answer)
 }

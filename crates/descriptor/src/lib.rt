@@ -1,10 +1,13 @@
 // The AV1 descriptors (000, 2; document 01, "The AV1 descriptors"; request 2026-12).
+mod edition;
 mod fields;
 mod reading;
 mod registration;
 mod rewriting;
 mod writing;
 
+pub use edition::Edition;
+pub use edition::Named;
 pub use fields::Delay;
 pub use fields::Fields;
 pub use fields::Video;

@@ -1,6 +1,6 @@
 -- The descriptors of a loop, one at a time: what is found in those before a place, and those from there on, are what is found in all. Assumes nothing.
 use Prim.Native.Nat.{ℕ, zero, suc, _+_, _-_, _≤_, _<_}
-use mathlib.Core.Bool.{Bool, true, false, _||_}
+use mathlib.Core.Bool.{Bool, true, false, _&&_, _||_}
 use mathlib.Core.Path.{_≡_, refl, sym, ap, ap₂, _∙_}
 use mathlib.Core.List.{List, [], _∷_, _++_, append-nil, append-assoc}
 use native.Mathlib.Omega.{arith}
@@ -13,7 +13,7 @@ use Rattle.lists.specs.Bytes.{byte}
 use Rattle.lists.proofs.Picks.{by-true, by-false, by-eq, by-ne}
 use Rattle.refusal.specs.Verdict.{Verdict, passed, refused, _>>=_, _>>_, given}
 use Rattle.descriptor.specs.Descriptor.{videoTag, wrong}
-use Rattle.descriptor.specs.Edition.{current}
+use Rattle.descriptor.specs.Edition.{Edition}
 use Rattle.pmt.specs.Pmt.{descriptorSize, descriptorsWithin, descriptors, isVideo, videoDescriptors, videoWrong, isRegistration, registrationFirst, registrationLater}
 use Rattle.pmt.specs.Answer.{videoOf}
 use Rattle.pmt.specs.Parts.{videosOf, anotherVideo, withVideo, foundIn, withDescriptor, loopFound}
@@ -23,40 +23,53 @@ use Rattle.pmt.specs.declared.loops.Videos.{Videos}
 use Rattle.pmt.specs.declared.loops.Found.{Found}
 
 -- ---- one descriptor, as the code takes it in
--- it is no video descriptor
-pub no-video : (v : Videos) (d : Bytes) → (byte d 0 ≡ videoTag → ⊥) → v ≡ withVideo v d
+-- the edition has no video descriptors
+pub not-interpreted : (edition : Edition) (v : Videos) (d : Bytes) → edition .interpretsVideo ≡ false → v ≡ withVideo edition v d
 unfolding withVideo
-no-video v d h = by-ne (anotherVideo (v .first) d) h refl
+not-interpreted edition v d h =
+    by-false (anotherVideo (v .first) d) (ap (λ (t : Bool). t && eqb (byte d 0) videoTag) h) refl
+
+-- by its tag
+by-tag : (edition : Edition) (v w : Videos) (d : Bytes) → edition .interpretsVideo ≡ true
+    → v ≡ pick (eqb (byte d 0) videoTag) (anotherVideo (w .first) d) w → v ≡ withVideo edition w d
+unfolding withVideo
+by-tag edition v w d h e =
+    e ∙ ap (λ (t : Bool). pick (t && eqb (byte d 0) videoTag) (anotherVideo (w .first) d) w) (sym h)
+
+-- it is no video descriptor
+pub no-video : (edition : Edition) (v : Videos) (d : Bytes) → edition .interpretsVideo ≡ true → (byte d 0 ≡ videoTag → ⊥)
+    → v ≡ withVideo edition v d
+no-video edition v d i h = by-tag edition v v d i (by-ne (anotherVideo (v .first) d) h refl)
 
 -- it is the first
-pub first-video : (v : Videos) (d : Bytes) (a b c e : ℕ) (t : Bool) → byte d 0 ≡ videoTag → v .first ≡ Absent → a ≡ byte d 2 → b ≡ byte d 3 → c ≡ byte d 4 → e ≡ byte d 5 → t ≡ wrong d
-    → record { first = Present a b c e; wrong = t } ≡ withVideo v d
-unfolding withVideo
-first-video v d a b c e t tag absent p q r s f =
+pub first-video : (edition : Edition) (v : Videos) (d : Bytes) (a b c e : ℕ) (t : Bool) → edition .interpretsVideo ≡ true
+    → byte d 0 ≡ videoTag → v .first ≡ Absent → a ≡ byte d 2 → b ≡ byte d 3 → c ≡ byte d 4 → e ≡ byte d 5 → t ≡ wrong d
+    → record { first = Present a b c e; wrong = t } ≡ withVideo edition v d
+first-video edition v d a b c e t i tag absent p q r s f =
     let g : record { first = Present a b c e; wrong = t } ≡ anotherVideo Absent d = cc in
-    by-eq v tag (g ∙ ap (λ (x : Video). anotherVideo x d) (sym absent))
+    by-tag edition _ v d i (by-eq v tag (g ∙ ap (λ (x : Video). anotherVideo x d) (sym absent)))
 
 -- it is another
 again : (x : Video) (d : Bytes) (a b c e : ℕ) → x ≡ Present a b c e → record { first = x; wrong = true } ≡ anotherVideo x d
 again x d a b c e p = rw p
 
-pub video-again : (v : Videos) (d : Bytes) (a b c e : ℕ) → byte d 0 ≡ videoTag → v .first ≡ Present a b c e → record { first = v .first; wrong = true } ≡ withVideo v d
-unfolding withVideo
-video-again v d a b c e tag p = by-eq v tag (again (v .first) d a b c e p)
+pub video-again : (edition : Edition) (v : Videos) (d : Bytes) (a b c e : ℕ) → edition .interpretsVideo ≡ true → byte d 0 ≡ videoTag
+    → v .first ≡ Present a b c e → record { first = v .first; wrong = true } ≡ withVideo edition v d
+video-again edition v d a b c e i tag p = by-tag edition _ v d i (by-eq v tag (again (v .first) d a b c e p))
 
 abbrev having : Bool → Bool → Videos → Found
 having first later videos = record { first = first; later = later; videos = videos }
 
-pub as-first : (f : Found) (d : Bytes) (first registration : Bool) (v : Videos) → first ≡ true → registration ≡ isRegistration current d → v ≡ withVideo (f .videos) d
-    → having registration (f .later) v ≡ withDescriptor f first d
+pub as-first : (edition : Edition) (f : Found) (d : Bytes) (first registration : Bool) (v : Videos) → first ≡ true
+    → registration ≡ isRegistration edition d → v ≡ withVideo edition (f .videos) d → having registration (f .later) v ≡ withDescriptor edition f first d
 unfolding withDescriptor
-as-first f d first registration v p q r =
+as-first edition f d first registration v p q r =
     by-true _ p (ap₂ (λ (b : Bool) (x : Videos). having b (f .later) x) q r)
 
-pub as-later : (f : Found) (d : Bytes) (first later : Bool) (v : Videos) → first ≡ false → later ≡ (f .later || isRegistration current d) → v ≡ withVideo (f .videos) d
-    → having (f .first) later v ≡ withDescriptor f first d
+pub as-later : (edition : Edition) (f : Found) (d : Bytes) (first later : Bool) (v : Videos) → first ≡ false
+    → later ≡ (f .later || isRegistration edition d) → v ≡ withVideo edition (f .videos) d → having (f .first) later v ≡ withDescriptor edition f first d
 unfolding withDescriptor
-as-later f d first later v p q r = by-false _ p (ap₂ (having (f .first)) q r)
+as-later edition f d first later v p q r = by-false _ p (ap₂ (having (f .first)) q r)
 
 -- ---- one more descriptor than those before it
 any-more : {A : Type 0} (f : A → Bool) (l : List A) (a : A) → any f (l ++ (a ∷ [])) ≡ (any f l || f a)
@@ -93,30 +106,32 @@ unfolding pick
 videos-by true ds d = another ds d
 videos-by false ds d = ap videosOf (sym (append-nil ds))
 
-videos-more : (ds : List Bytes) (d : Bytes) → withVideo (videosOf (videoDescriptors current ds)) d ≡ videosOf (videoDescriptors current (ds ++ (d ∷ [])))
+videos-more : (edition : Edition) (ds : List Bytes) (d : Bytes)
+    → withVideo edition (videosOf (videoDescriptors edition ds)) d ≡ videosOf (videoDescriptors edition (ds ++ (d ∷ [])))
 unfolding withVideo those
-videos-more ds d =
-    videos-by (isVideo current d) (videoDescriptors current ds) d
-    ∙ ap videosOf (sym (those-append (isVideo current) ds (d ∷ [])))
+videos-more edition ds d =
+    videos-by (isVideo edition d) (videoDescriptors edition ds) d
+    ∙ ap videosOf (sym (those-append (isVideo edition) ds (d ∷ [])))
 
 -- there is none
 unfoldable pub isEmpty : List Bytes → Bool
 isEmpty [] = true
 isEmpty (d ∷ ds) = false
 
-pub found-more : (ds : List Bytes) (d : Bytes) → withDescriptor (foundIn ds) (isEmpty ds) d ≡ foundIn (ds ++ (d ∷ []))
+pub found-more : (edition : Edition) (ds : List Bytes) (d : Bytes)
+    → withDescriptor edition (foundIn edition ds) (isEmpty ds) d ≡ foundIn edition (ds ++ (d ∷ []))
 unfolding withDescriptor isEmpty pick registrationFirst registrationLater any
-found-more [] d = ap (having (isRegistration current d) false) (videos-more [] d)
-found-more (e ∷ ds) d =
-    ap₂ (having (isRegistration current e)) (sym (any-more (isRegistration current) ds d)) (videos-more (e ∷ ds) d)
+found-more edition [] d = ap (having (isRegistration edition d) false) (videos-more edition [] d)
+found-more edition (e ∷ ds) d =
+    ap₂ (having (isRegistration edition e)) (sym (any-more (isRegistration edition) ds d)) (videos-more edition (e ∷ ds) d)
 
 -- ---- the loop from a place on
 -- the descriptors before the place, what is found in them, and how many may still come
-pub record Walked (s : Bytes) (found : Found) (at : ℕ) : Type 0 where
+pub record Walked (edition : Edition) (s : Bytes) (found : Found) (at : ℕ) : Type 0 where
   pub within : at ≤ length s
   pub before : List Bytes
   pub start : eqb at 0 ≡ isEmpty before
-  pub has : found ≡ foundIn before
+  pub has : found ≡ foundIn edition before
   pub spare : ℕ
   pub enough : length s ≤ at + spare
   pub rest : descriptors s ≡ (descriptorsWithin spare (drop at s) >>= λ more. passed (before ++ more))
@@ -129,7 +144,7 @@ bind-passed (refused number place) = refl
 abbrev nothing : Found
 nothing = having false false (record { first = Absent; wrong = false })
 
-pub walk-start : (s : Bytes) → Walked s nothing 0
+pub walk-start : {edition : Edition} (s : Bytes) → Walked edition s nothing 0
 unfolding isEmpty registrationFirst registrationLater those videoOf videoWrong
 walk-start s =
     record {
@@ -148,9 +163,10 @@ unfolding descriptorsWithin
 no-more zero = refl
 no-more (suc n) = refl
 
-pub walk-end : {s : Bytes} {found : Found} {at : ℕ} → Walked s found at → length s ≤ at → passed found ≡ loopFound s
+pub walk-end : {edition : Edition} {s : Bytes} {found : Found} {at : ℕ} → Walked edition s found at → length s ≤ at
+    → passed found ≡ loopFound edition s
 unfolding loopFound _>>=_
-walk-end {s} {found} {at} w h =
+walk-end {edition} {s} {found} {at} w h =
     let e : descriptorsWithin (w .spare) (drop at s) ≡ passed [] =
     ap (descriptorsWithin (w .spare)) (drop-of-length-le s {i = at} h) ∙ no-more (w .spare) in
     let f : descriptors s ≡ passed (w .before) =
@@ -177,14 +193,15 @@ unfolding isEmpty
 not-empty [] d = refl
 not-empty (e ∷ ds) d = refl
 
-spared : {s : Bytes} {found : Found} {at : ℕ} (w : Walked s found at) → at < length s → (n : ℕ) × (w .spare ≡ suc n)
-spared {s} {found} {at} w h = go (w .spare) (w .enough)
+spared : {edition : Edition} {s : Bytes} {found : Found} {at : ℕ} (w : Walked edition s found at) → at < length s → (n : ℕ) × (w .spare ≡ suc n)
+spared {edition} {s} {found} {at} w h = go (w .spare) (w .enough)
   where
     go : (n : ℕ) → length s ≤ at + n → (m : ℕ) × (n ≡ suc m)
     go zero e = absurd (omega arith)
     go (suc m) e = (m, refl)
 
-module _ {s : Bytes} {found : Found} {at : ℕ} (w : Walked s found at) (h : at < length s) (size : ℕ) (e : size ≡ 2 + byte s (at + 1)) where
+module _ {edition : Edition} {s : Bytes} {found : Found} {at : ℕ} (w : Walked edition s found at) (h : at < length s) (size : ℕ)
+    (e : size ≡ 2 + byte s (at + 1)) where
   left : length (drop at s) ≡ length s - at
   left = length-drop at s
 
@@ -200,7 +217,7 @@ module _ {s : Bytes} {found : Found} {at : ℕ} (w : Walked s found at) (h : at 
       w .rest ∙ ap (λ (v : Verdict (List Bytes)). v >>= λ more. passed (w .before ++ more)) one
 
   -- the descriptor runs past the end
-  pub walk-short : length s - at < size → refused 26 0 ≡ loopFound s
+  pub walk-short : length s - at < size → refused 26 0 ≡ loopFound edition s
   unfolding loopFound _>>=_ _>>_ given pick
   walk-short k =
       let f : descriptors s ≡ refused 26 0 =
@@ -211,7 +228,8 @@ module _ {s : Bytes} {found : Found} {at : ℕ} (w : Walked s found at) (h : at 
       rw f
 
   -- it does not
-  pub walk-next : size ≤ length s - at → (next : Found) → next ≡ withDescriptor found (eqb at 0) (take (at + size - at) (drop at s)) → Walked s next (at + size)
+  pub walk-next : size ≤ length s - at → (next : Found) → next ≡ withDescriptor edition found (eqb at 0) (take (at + size - at) (drop at s))
+      → Walked edition s next (at + size)
   unfolding _>>_ given pick
   walk-next k next p =
       let d = take size (drop at s) in
@@ -226,8 +244,8 @@ module _ {s : Bytes} {found : Found} {at : ℕ} (w : Walked s found at) (h : at 
         before = w .before ++ (d ∷ []);
         start = ne-eqb (at + size) 0 (λ z. omega arith) ∙ sym (not-empty (w .before) d);
         has =
-            p ∙ ap (λ (k : ℕ). withDescriptor found (eqb at 0) (take k (drop at s))) part
-            ∙ ap₂ (λ (x : Found) (t : Bool). withDescriptor x t d) (w .has) (w .start) ∙ found-more (w .before) d;
+            p ∙ ap (λ (k : ℕ). withDescriptor edition found (eqb at 0) (take k (drop at s))) part
+            ∙ ap₂ (λ (x : Found) (t : Bool). withDescriptor edition x t d) (w .has) (w .start) ∙ found-more edition (w .before) d;
         spare = n;
         enough = let g = w .enough in omega arith;
         rest =

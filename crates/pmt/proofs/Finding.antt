@@ -9,7 +9,7 @@ use Rattle.lists.specs.Lists.{pick, any, those}
 use Rattle.lists.proofs.Picks.{by-true}
 use Rattle.lists.proofs.Tests.{case}
 use Rattle.refusal.specs.Verdict.{Verdict, passed, refused, _>>=_, _>>_, given}
-use Rattle.descriptor.specs.Edition.{current}
+use Rattle.descriptor.specs.Edition.{Edition}
 use Rattle.pmt.specs.Pmt.{MapEntry, videoDescriptors, videoWrong, registrationFirst, registrationLater, isAv1, strayRegistration, oneAv1, av1Entry}
 use Rattle.pmt.specs.Answer.{firstOf, videoOf, mapOf}
 use Rattle.pmt.specs.Parts.{kindFrom, kindOf, withKind, withAll, listOf, mapFrom, listedMap}
@@ -31,63 +31,6 @@ module _ (k : Kind) (slot : ℕ) (a : Av1) where
 
   pub take-first : (v : Video) → k ≡ Right v → a ≡ Missing → One slot v ≡ withKind k slot a
   take-first v e f = rw (e, f)
-
--- ---- an entry's kind, by the two tests of the definition
-abbrev stray : MapEntry → Bool
-stray e = strayRegistration current e
-
-abbrev av1 : MapEntry → Bool
-av1 e = isAv1 current e
-
-ruled : Bool → Bool → Bool → Video → Kind
-ruled elsewhere first wrong v = pick elsewhere Stray (pick first (pick wrong Stray (Right v)) Other)
-
-tests : (later first six wrong : Bool) (v : Video)
-    → pick later Stray (pick (not first) Other (pick (not six) Stray (pick wrong Stray (Right v)))) ≡ ruled (later || (first && not six)) (six && first) wrong v
-unfolding pick ruled
-tests true first six wrong v = refl
-tests false true true wrong v = refl
-tests false true false wrong v = refl
-tests false false true wrong v = refl
-tests false false false wrong v = refl
-
-abbrev videoIn : MapEntry → Video
-videoIn e = videoOf (videoDescriptors current (e .descriptors))
-
-abbrev videosWrong : MapEntry → Bool
-videosWrong e = videoWrong (videoDescriptors current (e .descriptors))
-
-kind-ruled : (e : MapEntry) → kindOf e ≡ ruled (stray e) (av1 e) (videosWrong e) (videoIn e)
-unfolding kindFrom strayRegistration isAv1
-kind-ruled e = tests (registrationLater current (e .descriptors)) (registrationFirst current (e .descriptors)) (eqb (e .streamType) 6) (videosWrong e) (videoIn e)
-
-module _ (e : MapEntry) where
-  kind-stray : stray e ≡ true → kindOf e ≡ Stray
-  unfolding ruled pick
-  kind-stray p = kind-ruled e ∙ rw p
-
-  kind-other : stray e ≡ false → av1 e ≡ false → kindOf e ≡ Other
-  unfolding ruled pick
-  kind-other p q = kind-ruled e ∙ rw (p, q)
-
-  kind-wrong : stray e ≡ false → av1 e ≡ true → videosWrong e ≡ true → kindOf e ≡ Stray
-  unfolding ruled pick
-  kind-wrong p q r = kind-ruled e ∙ rw (p, q, r)
-
-  kind-right : stray e ≡ false → av1 e ≡ true → videosWrong e ≡ false → kindOf e ≡ Right (videoIn e)
-  unfolding ruled pick
-  kind-right p q r = kind-ruled e ∙ rw (p, q, r)
-
--- ---- what is against the rule stays so
-wrong-kind : (k : Kind) (slot : ℕ) → withKind k slot Wrong ≡ Wrong
-wrong-kind Other slot = refl
-wrong-kind (Right v) slot = refl
-wrong-kind Stray slot = refl
-
-wrong-stays : (es : List MapEntry) (slot : ℕ) → withAll es slot Wrong ≡ Wrong
-unfolding withAll
-wrong-stays [] slot = refl
-wrong-stays (e ∷ es) slot = ap (withAll es (suc slot)) (wrong-kind (kindOf e) slot) ∙ wrong-stays es (suc slot)
 
 -- ---- a list's first element, by a test of it
 module _ {A : Type 0} (f : A → Bool) (a : A) (s : List A) where
@@ -115,119 +58,178 @@ module _ {A : Type 0} (f : A → Bool) (a : A) (s : List A) where
   unfolding firstOf
   first-out e = ap (λ (t : Bool). elim t as (λ x. ℕ) [ true ↦ 0 | false ↦ suc (firstOf f s) ]) e
 
--- ---- after an AV1 entry none may come
-unfoldable alone : List MapEntry → Av1 → Av1
-alone [] a = a
-alone (e ∷ es) a = Wrong
+-- ---- in this edition
+module _ (edition : Edition) where
+  -- ---- an entry's kind, by the two tests of the definition
+  abbrev stray : MapEntry → Bool
+  stray e = strayRegistration edition e
 
-pick-same : (t : Bool) (a : Av1) → a ≡ pick t a a
-unfolding pick
-pick-same true a = refl
-pick-same false a = refl
+  abbrev av1 : MapEntry → Bool
+  av1 e = isAv1 edition e
 
-abbrev strayIn : List MapEntry → Bool
-strayIn es = any stray es
+  ruled : Bool → Bool → Bool → Video → Kind
+  ruled elsewhere first wrong v = pick elsewhere Stray (pick first (pick wrong Stray (Right v)) Other)
 
-abbrev av1In : List MapEntry → List MapEntry
-av1In es = those av1 es
+  tests : (later first six wrong : Bool) (v : Video)
+      → pick later Stray (pick (not first) Other (pick (not six) Stray (pick wrong Stray (Right v)))) ≡ ruled (later || (first && not six)) (six && first) wrong v
+  unfolding pick ruled
+  tests true first six wrong v = refl
+  tests false true true wrong v = refl
+  tests false true false wrong v = refl
+  tests false false true wrong v = refl
+  tests false false false wrong v = refl
 
--- a second one is against the rule, whatever its video descriptors
-second : (e : MapEntry) (slot at : ℕ) (v : Video) → stray e ≡ false → av1 e ≡ true → withKind (kindOf e) slot (One at v) ≡ Wrong
-second e slot at v p q =
-    case (videosWrong e)
-    (λ r. ap (λ (k : Kind). withKind k slot (One at v)) (kind-wrong e p q r))
-    (λ r. ap (λ (k : Kind). withKind k slot (One at v)) (kind-right e p q r))
+  abbrev videoIn : MapEntry → Video
+  videoIn e = videoOf (videoDescriptors edition (e .descriptors))
 
-one-then : (es : List MapEntry) (slot at : ℕ) (v : Video) → withAll es slot (One at v) ≡ pick (strayIn es) Wrong (alone (av1In es) (One at v))
-unfolding withAll any those alone pick
-one-then [] slot at v = refl
-one-then (e ∷ es) slot at v =
-    case (stray e)
-    (λ p. ap (λ (k : Kind). withAll es (suc slot) (withKind k slot (One at v))) (kind-stray e p) ∙ wrong-stays es (suc slot)
-    ∙ by-true (alone (av1In (e ∷ es)) (One at v)) (any-in stray e es p) refl)
-    (λ p. case (av1 e)
-    (λ q. ap (withAll es (suc slot)) (second e slot at v p q) ∙ wrong-stays es (suc slot) ∙ pick-same (strayIn (e ∷ es)) Wrong
-    ∙ ap (λ (l : List MapEntry). pick (strayIn (e ∷ es)) Wrong (alone l (One at v))) (sym (those-in av1 e es q)))
-    (λ q. ap (λ (k : Kind). withAll es (suc slot) (withKind k slot (One at v))) (kind-other e p q) ∙ one-then es (suc slot) at v
-    ∙ ap₂ (λ (b : Bool) (l : List MapEntry). pick b Wrong (alone l (One at v))) (sym (any-out stray e es p))
-    (sym (those-out av1 e es q))))
+  abbrev videosWrong : MapEntry → Bool
+  videosWrong e = videoWrong (videoDescriptors edition (e .descriptors))
 
--- ---- the map of the entries, with the one AV1 entry
-module _ (pcrPid : ℕ) (l : Listed) where
-  abbrev mapWith : ℕ → Video → ProgramMap
-  mapWith slot v = record { «pcr_pid» = pcrPid; count = l .count; entries = l .entries; av1 = slot; video = v }
+  kind-ruled : (e : MapEntry) → kindOf edition e ≡ ruled (stray e) (av1 e) (videosWrong e) (videoIn e)
+  unfolding kindFrom strayRegistration isAv1
+  kind-ruled e = tests (registrationLater edition (e .descriptors)) (registrationFirst edition (e .descriptors)) (eqb (e .streamType) 6) (videosWrong e) (videoIn e)
 
-  -- the definition's verdict, by its two tests: whether a registration is astray, and which are AV1 entries
-  abbrev judged : Bool → List MapEntry → ℕ → Verdict ProgramMap
-  judged astray those-av1 slot = (given 28 astray >> oneAv1 current those-av1) >>= λ e. passed (mapWith slot (videoIn e))
+  module _ (e : MapEntry) where
+    kind-stray : stray e ≡ true → kindOf edition e ≡ Stray
+    unfolding ruled pick
+    kind-stray p = kind-ruled e ∙ rw p
 
-  never-right : (e : MapEntry) (astray : Bool) (others : List MapEntry) (slot : ℕ) → videosWrong e ≡ true → refused 28 0 ≡ judged astray (e ∷ others) slot
-  unfolding _>>=_ _>>_ given pick oneAv1
-  never-right e true others slot p = refl
-  never-right e false [] slot p = rw p
-  never-right e false (x ∷ xs) slot p = refl
+    kind-other : stray e ≡ false → av1 e ≡ false → kindOf edition e ≡ Other
+    unfolding ruled pick
+    kind-other p q = kind-ruled e ∙ rw (p, q)
 
-  only-one : (e : MapEntry) (astray : Bool) (others : List MapEntry) (slot : ℕ) → videosWrong e ≡ false
-      → mapFrom (pick astray Wrong (alone others (One slot (videoIn e)))) pcrPid l ≡ judged astray (e ∷ others) slot
-  unfolding _>>=_ _>>_ given pick oneAv1 alone
-  only-one e true others slot p = refl
-  only-one e false [] slot p = rw p
-  only-one e false (x ∷ xs) slot p = refl
+    kind-wrong : stray e ≡ false → av1 e ≡ true → videosWrong e ≡ true → kindOf edition e ≡ Stray
+    unfolding ruled pick
+    kind-wrong p q r = kind-ruled e ∙ rw (p, q, r)
 
-  against : (astray : Bool) (others : List MapEntry) (slot : ℕ) → astray ≡ true → refused 28 0 ≡ judged astray others slot
-  unfolding _>>=_ _>>_ given pick
-  against astray others slot e = rw e
+    kind-right : stray e ≡ false → av1 e ≡ true → videosWrong e ≡ false → kindOf edition e ≡ Right (videoIn e)
+    unfolding ruled pick
+    kind-right p q r = kind-ruled e ∙ rw (p, q, r)
 
-  none-found : (slot : ℕ) → refused 28 0 ≡ judged (strayIn []) (av1In []) slot
-  unfolding _>>=_ _>>_ given pick oneAv1 any those
-  none-found slot = refl
+  -- ---- what is against the rule stays so
+  wrong-kind : (k : Kind) (slot : ℕ) → withKind k slot Wrong ≡ Wrong
+  wrong-kind Other slot = refl
+  wrong-kind (Right v) slot = refl
+  wrong-kind Stray slot = refl
 
-  -- of entries of which the first stands in this slot: the definition's verdict, and the code's after an entry of this kind
-  abbrev verdict : List MapEntry → ℕ → Verdict ProgramMap
-  verdict es slot = judged (strayIn es) (av1In es) (slot + firstOf av1 es)
+  wrong-stays : (es : List MapEntry) (slot : ℕ) → withAll edition es slot Wrong ≡ Wrong
+  unfolding withAll
+  wrong-stays [] slot = refl
+  wrong-stays (e ∷ es) slot = ap (withAll edition es (suc slot)) (wrong-kind (kindOf edition e) slot) ∙ wrong-stays es (suc slot)
 
-  abbrev taking : List MapEntry → ℕ → Kind → Verdict ProgramMap
-  taking es slot k = mapFrom (withAll es (suc slot) (withKind k slot Missing)) pcrPid l
+  -- ---- after an AV1 entry none may come
+  unfoldable alone : List MapEntry → Av1 → Av1
+  alone [] a = a
+  alone (e ∷ es) a = Wrong
 
-  module _ (e : MapEntry) (es : List MapEntry) (slot : ℕ) (p : stray e ≡ false) where
-    -- the entry is another
-    passing : av1 e ≡ false → verdict es (suc slot) ≡ verdict (e ∷ es) slot
-    passing q =
-        let n : suc slot + firstOf av1 es ≡ slot + firstOf av1 (e ∷ es) = omega (arith, first-out av1 e es q) in
-        ap₂ (λ (b : Bool) (s : List MapEntry). judged b s (suc slot + firstOf av1 es)) (sym (any-out stray e es p)) (sym (those-out av1 e es q))
-        ∙ ap (judged (strayIn (e ∷ es)) (av1In (e ∷ es))) n
+  pick-same : (t : Bool) (a : Av1) → a ≡ pick t a a
+  unfolding pick
+  pick-same true a = refl
+  pick-same false a = refl
 
-    -- the entry is an AV1 entry
-    module _ (q : av1 e ≡ true) where
-      here : judged (strayIn es) (e ∷ av1In es) slot ≡ verdict (e ∷ es) slot
-      here =
-          let n : slot ≡ slot + firstOf av1 (e ∷ es) = omega (arith, first-in av1 e es q) in
-          ap₂ (λ (b : Bool) (s : List MapEntry). judged b s slot) (sym (any-out stray e es p)) (sym (those-in av1 e es q))
+  abbrev strayIn : List MapEntry → Bool
+  strayIn es = any stray es
+
+  abbrev av1In : List MapEntry → List MapEntry
+  av1In es = those av1 es
+
+  -- a second one is against the rule, whatever its video descriptors
+  second : (e : MapEntry) (slot at : ℕ) (v : Video) → stray e ≡ false → av1 e ≡ true → withKind (kindOf edition e) slot (One at v) ≡ Wrong
+  second e slot at v p q =
+      case (videosWrong e)
+      (λ r. ap (λ (k : Kind). withKind k slot (One at v)) (kind-wrong e p q r))
+      (λ r. ap (λ (k : Kind). withKind k slot (One at v)) (kind-right e p q r))
+
+  one-then : (es : List MapEntry) (slot at : ℕ) (v : Video) → withAll edition es slot (One at v) ≡ pick (strayIn es) Wrong (alone (av1In es) (One at v))
+  unfolding withAll any those alone pick
+  one-then [] slot at v = refl
+  one-then (e ∷ es) slot at v =
+      case (stray e)
+      (λ p. ap (λ (k : Kind). withAll edition es (suc slot) (withKind k slot (One at v))) (kind-stray e p) ∙ wrong-stays es (suc slot)
+      ∙ by-true (alone (av1In (e ∷ es)) (One at v)) (any-in stray e es p) refl)
+      (λ p. case (av1 e)
+      (λ q. ap (withAll edition es (suc slot)) (second e slot at v p q) ∙ wrong-stays es (suc slot) ∙ pick-same (strayIn (e ∷ es)) Wrong
+      ∙ ap (λ (l : List MapEntry). pick (strayIn (e ∷ es)) Wrong (alone l (One at v))) (sym (those-in av1 e es q)))
+      (λ q. ap (λ (k : Kind). withAll edition es (suc slot) (withKind k slot (One at v))) (kind-other e p q) ∙ one-then es (suc slot) at v
+      ∙ ap₂ (λ (b : Bool) (l : List MapEntry). pick b Wrong (alone l (One at v))) (sym (any-out stray e es p))
+      (sym (those-out av1 e es q))))
+
+  -- ---- the map of the entries, with the one AV1 entry
+  module _ (pcrPid : ℕ) (l : Listed) where
+    abbrev mapWith : ℕ → Video → ProgramMap
+    mapWith slot v = record { «pcr_pid» = pcrPid; count = l .count; entries = l .entries; av1 = slot; video = v }
+
+    -- the definition's verdict, by its two tests: whether a registration is astray, and which are AV1 entries
+    abbrev judged : Bool → List MapEntry → ℕ → Verdict ProgramMap
+    judged astray those-av1 slot = (given 28 astray >> oneAv1 edition those-av1) >>= λ e. passed (mapWith slot (videoIn e))
+
+    never-right : (e : MapEntry) (astray : Bool) (others : List MapEntry) (slot : ℕ) → videosWrong e ≡ true → refused 28 0 ≡ judged astray (e ∷ others) slot
+    unfolding _>>=_ _>>_ given pick oneAv1
+    never-right e true others slot p = refl
+    never-right e false [] slot p = rw p
+    never-right e false (x ∷ xs) slot p = refl
+
+    only-one : (e : MapEntry) (astray : Bool) (others : List MapEntry) (slot : ℕ) → videosWrong e ≡ false
+        → mapFrom (pick astray Wrong (alone others (One slot (videoIn e)))) pcrPid l ≡ judged astray (e ∷ others) slot
+    unfolding _>>=_ _>>_ given pick oneAv1 alone
+    only-one e true others slot p = refl
+    only-one e false [] slot p = rw p
+    only-one e false (x ∷ xs) slot p = refl
+
+    against : (astray : Bool) (others : List MapEntry) (slot : ℕ) → astray ≡ true → refused 28 0 ≡ judged astray others slot
+    unfolding _>>=_ _>>_ given pick
+    against astray others slot e = rw e
+
+    none-found : (slot : ℕ) → refused 28 0 ≡ judged (strayIn []) (av1In []) slot
+    unfolding _>>=_ _>>_ given pick oneAv1 any those
+    none-found slot = refl
+
+    -- of entries of which the first stands in this slot: the definition's verdict, and the code's after an entry of this kind
+    abbrev verdict : List MapEntry → ℕ → Verdict ProgramMap
+    verdict es slot = judged (strayIn es) (av1In es) (slot + firstOf av1 es)
+
+    abbrev taking : List MapEntry → ℕ → Kind → Verdict ProgramMap
+    taking es slot k = mapFrom (withAll edition es (suc slot) (withKind k slot Missing)) pcrPid l
+
+    module _ (e : MapEntry) (es : List MapEntry) (slot : ℕ) (p : stray e ≡ false) where
+      -- the entry is another
+      passing : av1 e ≡ false → verdict es (suc slot) ≡ verdict (e ∷ es) slot
+      passing q =
+          let n : suc slot + firstOf av1 es ≡ slot + firstOf av1 (e ∷ es) = omega (arith, first-out av1 e es q) in
+          ap₂ (λ (b : Bool) (s : List MapEntry). judged b s (suc slot + firstOf av1 es)) (sym (any-out stray e es p)) (sym (those-out av1 e es q))
           ∙ ap (judged (strayIn (e ∷ es)) (av1In (e ∷ es))) n
 
-      taken : taking es slot (kindOf e) ≡ verdict (e ∷ es) slot
-      taken =
-          case (videosWrong e)
-          (λ r. ap (taking es slot) (kind-wrong e p q r) ∙ ap (λ (a : Av1). mapFrom a pcrPid l) (wrong-stays es (suc slot))
-          ∙ never-right e (strayIn es) (av1In es) slot r ∙ here)
-          (λ r. ap (taking es slot) (kind-right e p q r) ∙ ap (λ (a : Av1). mapFrom a pcrPid l) (one-then es (suc slot) slot (videoIn e))
-          ∙ only-one e (strayIn es) (av1In es) slot r ∙ here)
+      -- the entry is an AV1 entry
+      module _ (q : av1 e ≡ true) where
+        here : judged (strayIn es) (e ∷ av1In es) slot ≡ verdict (e ∷ es) slot
+        here =
+            let n : slot ≡ slot + firstOf av1 (e ∷ es) = omega (arith, first-in av1 e es q) in
+            ap₂ (λ (b : Bool) (s : List MapEntry). judged b s slot) (sym (any-out stray e es p)) (sym (those-in av1 e es q))
+            ∙ ap (judged (strayIn (e ∷ es)) (av1In (e ∷ es))) n
 
-  found : (es : List MapEntry) (slot : ℕ) → mapFrom (withAll es slot Missing) pcrPid l ≡ verdict es slot
-  unfolding withAll
-  found [] slot = none-found (slot + firstOf av1 [])
-  found (e ∷ es) slot =
-      case (stray e)
-      (λ p. ap (taking es slot) (kind-stray e p) ∙ ap (λ (a : Av1). mapFrom a pcrPid l) (wrong-stays es (suc slot))
-      ∙ against (strayIn (e ∷ es)) (av1In (e ∷ es)) (slot + firstOf av1 (e ∷ es)) (any-in stray e es p))
-      (λ p. case (av1 e)
-      (λ q. taken e es slot p q)
-      (λ q. ap (taking es slot) (kind-other e p q) ∙ found es (suc slot) ∙ passing e es slot p q))
+        taken : taking es slot (kindOf edition e) ≡ verdict (e ∷ es) slot
+        taken =
+            case (videosWrong e)
+            (λ r. ap (taking es slot) (kind-wrong e p q r) ∙ ap (λ (a : Av1). mapFrom a pcrPid l) (wrong-stays es (suc slot))
+            ∙ never-right e (strayIn es) (av1In es) slot r ∙ here)
+            (λ r. ap (taking es slot) (kind-right e p q r) ∙ ap (λ (a : Av1). mapFrom a pcrPid l) (one-then es (suc slot) slot (videoIn e))
+            ∙ only-one e (strayIn es) (av1In es) slot r ∙ here)
 
--- the map of the listed entries is the one that the definition has, or its 28
-pub listed-map : (pcrPid : ℕ) (es : List MapEntry)
-    → listedMap pcrPid (listOf es) ≡ (av1Entry current es >>= λ e. passed (mapOf current (record { pcrPid = pcrPid; entries = es; av1 = e })))
-unfolding av1Entry
-listed-map pcrPid es =
-    let n : 0 + firstOf av1 es ≡ firstOf av1 es = omega arith in
-    found pcrPid (listOf es) es 0 ∙ ap (judged pcrPid (listOf es) (strayIn es) (av1In es)) n
+    found : (es : List MapEntry) (slot : ℕ) → mapFrom (withAll edition es slot Missing) pcrPid l ≡ verdict es slot
+    unfolding withAll
+    found [] slot = none-found (slot + firstOf av1 [])
+    found (e ∷ es) slot =
+        case (stray e)
+        (λ p. ap (taking es slot) (kind-stray e p) ∙ ap (λ (a : Av1). mapFrom a pcrPid l) (wrong-stays es (suc slot))
+        ∙ against (strayIn (e ∷ es)) (av1In (e ∷ es)) (slot + firstOf av1 (e ∷ es)) (any-in stray e es p))
+        (λ p. case (av1 e)
+        (λ q. taken e es slot p q)
+        (λ q. ap (taking es slot) (kind-other e p q) ∙ found es (suc slot) ∙ passing e es slot p q))
+
+  -- the map of the listed entries is the one that the definition has, or its 28
+  pub listed-map : (pcrPid : ℕ) (es : List MapEntry)
+      → listedMap pcrPid (listOf edition es) ≡ (av1Entry edition es >>= λ e. passed (mapOf edition (record { pcrPid = pcrPid; entries = es; av1 = e })))
+  unfolding av1Entry
+  listed-map pcrPid es =
+      let n : 0 + firstOf av1 es ≡ firstOf av1 es = omega arith in
+      found pcrPid (listOf edition es) es 0 ∙ ap (judged pcrPid (listOf edition es) (strayIn es) (av1In es)) n

@@ -13,7 +13,7 @@ use Rattle.lists.proofs.Parts.{drop-take}
 use Rattle.refusal.specs.Verdict.{Verdict, passed, refused, _>>=_, _>>_, given}
 use Rattle.refusal.proofs.Verdicts.{refuse, pass-on, go-on, stops, stop, then-bind}
 use Rattle.psi.specs.Section.{commonWrong, beforeCrc, upToCrc, tableIdExtension}
-use Rattle.descriptor.specs.Edition.{current}
+use Rattle.descriptor.specs.Edition.{Edition}
 use Rattle.pmt.specs.Pmt.{MapEntry, MapContent, descriptors, entries, av1Entry, pcrPid, programInfoLength, programInfo, entryBytes, readPmt}
 use Rattle.pmt.specs.Answer.{mapOf, mapped, pmtSays, noMap, mapBeside}
 use Rattle.pmt.specs.Parts.{loopFound, listOf, listRead, mapFrom, listedMap, bodyMap}
@@ -50,11 +50,11 @@ unfolding mapBeside
 refused-beside r number e f = f ∙ sym (ap mapBeside e)
 
 -- ---- what stands behind the fixed fields
-module _ (mapPid : ℕ) (s : Bytes) (most : 16 ≤ length s) (n : ℕ) (e : n ≡ programInfoLength s) where
+module _ (edition : Edition) (mapPid : ℕ) (s : Bytes) (most : 16 ≤ length s) (n : ℕ) (e : n ≡ programInfoLength s) where
   behind : length (upToCrc 12 s) ≡ length s - 4 - 12
   behind = omega (arith, length-drop 12 (beforeCrc s), length-take-le (length s - 4) s (omega arith))
 
-  pub info-cut : length s - 4 < 12 + n → refused 26 0 ≡ bodyMap mapPid s
+  pub info-cut : length s - 4 < 12 + n → refused 26 0 ≡ bodyMap edition mapPid s
   unfolding bodyMap
   info-cut h =
       let b : length (upToCrc 12 s) < programInfoLength s = omega (arith, behind) in
@@ -78,25 +78,25 @@ module _ (mapPid : ℕ) (s : Bytes) (most : 16 ≤ length s) (n : ℕ) (e : n �
     entries-lent =
         sym (drop-take (12 + n) (length s - 4) s fits) ∙ sym (drop-drop n 12 (beforeCrc s)) ∙ ap (λ (i : ℕ). drop i (upToCrc 12 s)) e
 
-    pub info-unfilled : loopFound (take (12 + n - 12) (drop 12 s)) ≡ refused 26 0 → refused 26 0 ≡ bodyMap mapPid s
+    pub info-unfilled : loopFound edition (take (12 + n - 12) (drop 12 s)) ≡ refused 26 0 → refused 26 0 ≡ bodyMap edition mapPid s
     unfolding bodyMap
-    info-unfilled f = pass-on 26 info-fits (stops _ (unfilled-loop (programInfo s) (ap loopFound (sym info-lent) ∙ f)))
+    info-unfilled f = pass-on 26 info-fits (stops _ (unfilled-loop edition (programInfo s) (ap (loopFound edition) (sym info-lent) ∙ f)))
 
-    module _ (found : Found) (f : loopFound (take (12 + n - 12) (drop 12 s)) ≡ passed found) where
+    module _ (found : Found) (f : loopFound edition (take (12 + n - 12) (drop 12 s)) ≡ passed found) where
       info-filled : (ds : List Bytes) × (descriptors (programInfo s) ≡ passed ds)
-      info-filled = let p = filled-loop (programInfo s) found (ap loopFound (sym info-lent) ∙ f) in (p .0, p .1)
+      info-filled = let p = filled-loop edition (programInfo s) found (ap (loopFound edition) (sym info-lent) ∙ f) in (p .0, p .1)
 
-      body : {r : Verdict ProgramMap} → r ≡ (listRead mapPid (entryBytes s) >>= listedMap (pcrPid s)) → r ≡ bodyMap mapPid s
+      body : {r : Verdict ProgramMap} → r ≡ (listRead edition mapPid (entryBytes s) >>= listedMap (pcrPid s)) → r ≡ bodyMap edition mapPid s
       unfolding bodyMap
       body p = pass-on 26 info-fits (passes (info-filled .0) (info-filled .1) p)
 
-      pub entries-refused : (number : ℕ) → listRead mapPid (take (length s - 4 - (12 + n)) (drop (12 + n) s)) ≡ refused number 0 → refused number 0 ≡ bodyMap mapPid s
-      entries-refused number p = body (stop number 0 _ (ap (listRead mapPid) (sym entries-lent) ∙ p))
+      pub entries-refused : (number : ℕ) → listRead edition mapPid (take (length s - 4 - (12 + n)) (drop (12 + n) s)) ≡ refused number 0 → refused number 0 ≡ bodyMap edition mapPid s
+      entries-refused number p = body (stop number 0 _ (ap (listRead edition mapPid) (sym entries-lent) ∙ p))
 
-      pub entries-passed : (l : Listed) → listRead mapPid (take (length s - 4 - (12 + n)) (drop (12 + n) s)) ≡ passed l → (pcr : ℕ) → pcr ≡ pcrPid s
-          → listedMap pcr l ≡ bodyMap mapPid s
+      pub entries-passed : (l : Listed) → listRead edition mapPid (take (length s - 4 - (12 + n)) (drop (12 + n) s)) ≡ passed l → (pcr : ℕ) → pcr ≡ pcrPid s
+          → listedMap pcr l ≡ bodyMap edition mapPid s
       entries-passed l p pcr q =
-          ap (λ (i : ℕ). listedMap i l) q ∙ body (go-on l _ (ap (listRead mapPid) (sym entries-lent) ∙ p) refl)
+          ap (λ (i : ℕ). listedMap i l) q ∙ body (go-on l _ (ap (listRead edition mapPid) (sym entries-lent) ∙ p) refl)
 
 -- ---- the whole section
 bind-bind : {A B C : Type 0} (v : Verdict A) (f : A → B) (g : B → C) → ((v >>= λ a. passed (f a)) >>= λ b. passed (g b)) ≡ (v >>= λ a. passed (g (f a)))
@@ -107,17 +107,17 @@ bind-bind (refused number place) f g = refl
 abbrev content : ℕ → List MapEntry → MapEntry → MapContent
 content pcr es e = record { pcrPid = pcr; entries = es; av1 = e }
 
-lists-map : (pcr : ℕ) (v : Verdict (List MapEntry))
-    → ((v >>= λ es. av1Entry current es >>= λ e. passed (content pcr es e)) >>= λ m. passed (mapOf current m)) ≡ ((v >>= λ es. passed (listOf es)) >>= listedMap pcr)
+lists-map : (edition : Edition) (pcr : ℕ) (v : Verdict (List MapEntry))
+    → ((v >>= λ es. av1Entry edition es >>= λ e. passed (content pcr es e)) >>= λ m. passed (mapOf edition m)) ≡ ((v >>= λ es. passed (listOf edition es)) >>= listedMap pcr)
 unfolding _>>=_
-lists-map pcr (passed es) = bind-bind (av1Entry current es) (content pcr es) (mapOf current) ∙ sym (listed-map pcr es)
-lists-map pcr (refused number place) = refl
+lists-map edition pcr (passed es) = bind-bind (av1Entry edition es) (content pcr es) (mapOf edition) ∙ sym (listed-map edition pcr es)
+lists-map edition pcr (refused number place) = refl
 
-pub section-map : (program mapPid : ℕ) (s : Bytes)
-    → mapped current (readPmt current program mapPid s) ≡ (given 26 (commonWrong 2 16 s) >> (given 26 (not (eqb (tableIdExtension s) program)) >> bodyMap mapPid s))
+pub section-map : (edition : Edition) (program mapPid : ℕ) (s : Bytes)
+    → mapped edition (readPmt edition program mapPid s) ≡ (given 26 (commonWrong 2 16 s) >> (given 26 (not (eqb (tableIdExtension s) program)) >> bodyMap edition mapPid s))
 unfolding mapped readPmt bodyMap listRead
-section-map program mapPid s =
-    let g : MapContent → Verdict ProgramMap = λ m. passed (mapOf current m) in
+section-map edition program mapPid s =
+    let g : MapContent → Verdict ProgramMap = λ m. passed (mapOf edition m) in
     let common = given 26 (commonWrong 2 16 s) in
     let number = given 26 (not (eqb (tableIdExtension s) program)) in
     let info = given 26 (ltb (length (upToCrc 12 s)) (programInfoLength s)) in
@@ -128,4 +128,4 @@ section-map program mapPid s =
     (then-bind info _ g
     ∙ ap (λ (v : Verdict ProgramMap). info >> v)
     (then-bind (descriptors (programInfo s)) _ g
-    ∙ ap (λ (v : Verdict ProgramMap). descriptors (programInfo s) >> v) (lists-map (pcrPid s) (entries mapPid (entryBytes s))))))
+    ∙ ap (λ (v : Verdict ProgramMap). descriptors (programInfo s) >> v) (lists-map edition (pcrPid s) (entries mapPid (entryBytes s))))))

@@ -13,6 +13,7 @@ use Rattle.lists.proofs.Parts.{drop-take}
 use Rattle.lists.proofs.Tests.{or-by-true, or-by-false}
 use Rattle.refusal.specs.Verdict.{Verdict, passed, refused, _>>=_}
 use Rattle.refusal.proofs.Verdicts.{refuse, pass-on, go-on, stop, passed-then, passed-same, never}
+use Rattle.descriptor.specs.Edition.{Edition}
 use Rattle.pmt.specs.Pmt.{descriptors, streamType, elementaryPid, esInfoLength, entrySize, esInfo, pidWrong, entry}
 use Rattle.pmt.specs.Parts.{foundIn, loopFound, kindFrom, triedEntry}
 use Rattle.pmt.specs.declared.loops.Found.{Found}
@@ -25,18 +26,19 @@ unfolding _>>=_
 refused-first (passed a) f number place e = never (sym e)
 refused-first (refused n p) f number place e = let g : n ≡ number = cc in let h : p ≡ place = cc in ap₂ refused g h
 
-pub unfilled-loop : (s : Bytes) → loopFound s ≡ refused 26 0 → descriptors s ≡ refused 26 0
+pub unfilled-loop : (edition : Edition) (s : Bytes) → loopFound edition s ≡ refused 26 0 → descriptors s ≡ refused 26 0
 unfolding loopFound
-unfilled-loop s e = refused-first (descriptors s) foundIn 26 0 e
+unfilled-loop edition s e = refused-first (descriptors s) (foundIn edition) 26 0 e
 
-pub filled-loop : (s : Bytes) (f : Found) → loopFound s ≡ passed f → (ds : List Bytes) × (descriptors s ≡ passed ds) × (foundIn ds ≡ f)
+pub filled-loop : (edition : Edition) (s : Bytes) (f : Found) → loopFound edition s ≡ passed f
+    → (ds : List Bytes) × (descriptors s ≡ passed ds) × (foundIn edition ds ≡ f)
 unfolding loopFound
-filled-loop s f e =
-    let p = passed-then (descriptors s) (λ ds. passed (foundIn ds)) f e in
-    (p .0, p .1, passed-same (foundIn (p .0)) f (p .2))
+filled-loop edition s f e =
+    let p = passed-then (descriptors s) (λ ds. passed (foundIn edition ds)) f e in
+    (p .0, p .1, passed-same (foundIn edition (p .0)) f (p .2))
 
 -- ---- the entry at the head of s
-module _ (mapPid : ℕ) (earlier : List ℕ) (s : Bytes) where
+module _ (edition : Edition) (mapPid : ℕ) (earlier : List ℕ) (s : Bytes) where
   abbrev short : Bool
   short = ltb (length s) 5 || ltb (length s) (entrySize s)
 
@@ -44,15 +46,15 @@ module _ (mapPid : ℕ) (earlier : List ℕ) (s : Bytes) where
   abbrev made : ℕ → ℕ → Kind → Tried
   made pid size k = record { entry = record { pid = pid; «stream_type» = streamType s }; size = size; kind = k }
 
-  too-short : short ≡ true → refused 26 0 ≡ triedEntry mapPid earlier s
+  too-short : short ≡ true → refused 26 0 ≡ triedEntry edition mapPid earlier s
   unfolding triedEntry entry
   too-short e = stop 26 0 _ (sym (refuse 26 _ e))
 
-  pub few-bytes : length s < 5 → refused 26 0 ≡ triedEntry mapPid earlier s
+  pub few-bytes : length s < 5 → refused 26 0 ≡ triedEntry edition mapPid earlier s
   few-bytes h = too-short (sym (or-by-true _ (lt-ltb _ _ h) refl))
 
   module _ (most : 5 ≤ length s) (n : ℕ) (e : n ≡ esInfoLength s) where
-    pub cut-short : length s < 5 + n → refused 26 0 ≡ triedEntry mapPid earlier s
+    pub cut-short : length s < 5 + n → refused 26 0 ≡ triedEntry edition mapPid earlier s
     cut-short h =
         let k : length s < entrySize s = omega arith in
         too-short (sym (or-by-false (le-ltb _ _ most) (sym (lt-ltb _ _ k))))
@@ -66,23 +68,23 @@ module _ (mapPid : ℕ) (earlier : List ℕ) (s : Bytes) where
       lent =
           sym (drop-take 5 (5 + n) s (omega arith)) ∙ ap (λ (k : ℕ). drop 5 (take (5 + k) s)) e
 
-      pub unfilled : loopFound (take (5 + n - 5) (drop 5 s)) ≡ refused 26 0 → refused 26 0 ≡ triedEntry mapPid earlier s
+      pub unfilled : loopFound edition (take (5 + n - 5) (drop 5 s)) ≡ refused 26 0 → refused 26 0 ≡ triedEntry edition mapPid earlier s
       unfolding triedEntry entry
       unfilled g =
-          let d : descriptors (esInfo s) ≡ refused 26 0 = unfilled-loop (esInfo s) (ap loopFound (sym lent) ∙ g) in
+          let d : descriptors (esInfo s) ≡ refused 26 0 = unfilled-loop edition (esInfo s) (ap (loopFound edition) (sym lent) ∙ g) in
           stop 26 0 _ (sym (pass-on 26 whole (stop 26 0 _ d)))
 
-      module _ (f : Found) (g : loopFound (take (5 + n - 5) (drop 5 s)) ≡ passed f) (pid : ℕ) (p : pid ≡ elementaryPid s) where
-        loop : (ds : List Bytes) × (descriptors (esInfo s) ≡ passed ds) × (foundIn ds ≡ f)
-        loop = filled-loop (esInfo s) f (ap loopFound (sym lent) ∙ g)
+      module _ (f : Found) (g : loopFound edition (take (5 + n - 5) (drop 5 s)) ≡ passed f) (pid : ℕ) (p : pid ≡ elementaryPid s) where
+        loop : (ds : List Bytes) × (descriptors (esInfo s) ≡ passed ds) × (foundIn edition ds ≡ f)
+        loop = filled-loop edition (esInfo s) f (ap (loopFound edition) (sym lent) ∙ g)
 
-        pub pid-refused : pidWrong mapPid earlier pid ≡ true → refused 26 0 ≡ triedEntry mapPid earlier s
+        pub pid-refused : pidWrong mapPid earlier pid ≡ true → refused 26 0 ≡ triedEntry edition mapPid earlier s
         unfolding triedEntry entry
         pid-refused w =
             stop 26 0 _ (sym (pass-on 26 whole (go-on (loop .0) _ (loop .1) (refuse 26 _ (ap (pidWrong mapPid earlier) (sym p) ∙ w)))))
 
         pub entry-passed : pidWrong mapPid earlier pid ≡ false → (k : Kind) → k ≡ kindFrom (byte s 0) f
-            → passed (made pid (5 + n) k) ≡ triedEntry mapPid earlier s
+            → passed (made pid (5 + n) k) ≡ triedEntry edition mapPid earlier s
         unfolding triedEntry entry
         entry-passed w k h =
             go-on _ _ (sym (pass-on 26 whole (go-on (loop .0) _ (loop .1) (pass-on 26 (ap (pidWrong mapPid earlier) (sym p) ∙ w) refl))))

@@ -12,6 +12,7 @@ use Rattle.lists.proofs.Tests.{or-neither}
 use Rattle.lists.proofs.Parts.{to-end}
 use Rattle.refusal.specs.Verdict.{passed, refused, _>>=_}
 use Rattle.refusal.proofs.Verdicts.{go-on, stop, passed-then, passed-after, passed-same, given-passed}
+use Rattle.descriptor.specs.Edition.{Edition}
 use Rattle.pmt.specs.Pmt.{MapEntry, entrySize, entry, pids, mostEntries, entriesAfter}
 use Rattle.pmt.specs.Pmt as pmt
 use Rattle.pmt.specs.Answer.{listed, noEntries, slots}
@@ -49,25 +50,25 @@ entry-within mapPid earlier s e p =
     let short = given-passed 26 _ (passed-after _ _ e p .0) in
     ltb-false _ _ (or-neither (ltb (length s) 5) (ltb (length s) (entrySize s)) short .1)
 
-with-one-more : (es : List MapEntry) (e : MapEntry) (slot : ℕ) (a : Av1) → withAll (es ++ (e ∷ [])) slot a ≡ withKind (kindOf e) (slot + length es) (withAll es slot a)
+with-one-more : (edition : Edition) (es : List MapEntry) (e : MapEntry) (slot : ℕ) (a : Av1) → withAll edition (es ++ (e ∷ [])) slot a ≡ withKind (kindOf edition e) (slot + length es) (withAll edition es slot a)
 unfolding withAll
-with-one-more [] e slot a = let n : slot ≡ slot + 0 = omega arith in ap (λ (k : ℕ). withKind (kindOf e) k a) n
-with-one-more (x ∷ es) e slot a =
+with-one-more edition [] e slot a = let n : slot ≡ slot + 0 = omega arith in ap (λ (k : ℕ). withKind (kindOf edition e) k a) n
+with-one-more edition (x ∷ es) e slot a =
     let n : suc slot + length es ≡ slot + suc (length es) = omega arith in
-    with-one-more es e (suc slot) (withKind (kindOf x) slot a)
-    ∙ ap (λ (k : ℕ). withKind (kindOf e) k (withAll es (suc slot) (withKind (kindOf x) slot a))) n
+    with-one-more edition es e (suc slot) (withKind (kindOf edition x) slot a)
+    ∙ ap (λ (k : ℕ). withKind (kindOf edition e) k (withAll edition es (suc slot) (withKind (kindOf edition x) slot a))) n
 
 -- ---- the entries before a place, as the code has them, and those from there on
-pub record Turned (mapPid : ℕ) (s : Bytes) (entries : List Entry) (av1 : Av1) (count at : ℕ) : Type 0 where
+pub record Turned (edition : Edition) (mapPid : ℕ) (s : Bytes) (entries : List Entry) (av1 : Av1) (count at : ℕ) : Type 0 where
   pub within : at ≤ length s
   pub few : count ≤ 12
   pub before : List MapEntry
   pub counted : count ≡ length before
   pub slotted : entries ≡ slots before
-  pub known : av1 ≡ withAll before 0 Missing
+  pub known : av1 ≡ withAll edition before 0 Missing
   pub rest : pmt.entries mapPid s ≡ entriesAfter (mostEntries - count) mapPid before (drop at s)
 
-pub turn-start : (mapPid : ℕ) (s : Bytes) → Turned mapPid s noEntries Missing 0 0
+pub turn-start : {edition : Edition} (mapPid : ℕ) (s : Bytes) → Turned edition mapPid s noEntries Missing 0 0
 unfolding slots withAll
 turn-start mapPid s =
     record {
@@ -83,23 +84,24 @@ turn-start mapPid s =
 abbrev list : ℕ → List Entry → Av1 → Listed
 list count entries av1 = record { answer = Passed; count = count; entries = entries; av1 = av1 }
 
-module _ {mapPid : ℕ} {s : Bytes} {entries : List Entry} {av1 : Av1} {count at : ℕ} (t : Turned mapPid s entries av1 count at) where
+module _ {edition : Edition} {mapPid : ℕ} {s : Bytes} {entries : List Entry} {av1 : Av1} {count at : ℕ}
+    (t : Turned edition mapPid s entries av1 count at) where
   -- the entries fill the bytes
-  pub turn-end : length s ≤ at → passed (list count entries av1) ≡ listRead mapPid s
+  pub turn-end : length s ≤ at → passed (list count entries av1) ≡ listRead edition mapPid s
   unfolding listRead _>>=_
   turn-end h =
       let e : pmt.entries mapPid s ≡ passed (t .before) =
       t .rest ∙ ap (entriesAfter (mostEntries - count) mapPid (t .before)) (drop-of-length-le s {i = at} h) ∙ none-left _ mapPid (t .before) in
       rw e
       (ap₂ (λ (l : List Entry) (a : Av1). passed (list count l a)) (t .slotted) (t .known)
-      ∙ ap (λ (n : ℕ). passed (list n (slots (t .before)) (withAll (t .before) 0 Missing))) (t .counted))
+      ∙ ap (λ (n : ℕ). passed (list n (slots (t .before)) (withAll edition (t .before) 0 Missing))) (t .counted))
 
   module _ (h : at < length s) where
     some : 0 < length (drop at s)
     some = omega (arith, length-drop at s)
 
     -- bytes remain after a twelfth
-    pub turn-full : 12 ≤ count → refused 27 0 ≡ listRead mapPid s
+    pub turn-full : 12 ≤ count → refused 27 0 ≡ listRead edition mapPid s
     unfolding listRead
     turn-full k =
         let n : mostEntries - count ≡ 0 = omega arith in
@@ -116,21 +118,21 @@ module _ {mapPid : ℕ} {s : Bytes} {entries : List Entry} {av1 : Av1} {count at
           ∙ one-more (mostEntries - (count + 1)) mapPid (t .before) (drop at s) some
 
       -- as it is lent
-      lent : triedEntry mapPid (pidsIn entries count) (take (length s - at) (drop at s)) ≡ triedEntry mapPid (pids (t .before)) (drop at s)
+      lent : triedEntry edition mapPid (pidsIn entries count) (take (length s - at) (drop at s)) ≡ triedEntry edition mapPid (pids (t .before)) (drop at s)
       lent =
-          ap₂ (triedEntry mapPid)
+          ap₂ (triedEntry edition mapPid)
           (ap₂ pidsIn (t .slotted) (t .counted) ∙ pids-in-slots (t .before))
           (to-end s at)
 
-      pub turn-refused : triedEntry mapPid (pidsIn entries count) (take (length s - at) (drop at s)) ≡ refused 26 0 → refused 26 0 ≡ listRead mapPid s
+      pub turn-refused : triedEntry edition mapPid (pidsIn entries count) (take (length s - at) (drop at s)) ≡ refused 26 0 → refused 26 0 ≡ listRead edition mapPid s
       unfolding listRead triedEntry
       turn-refused e =
           let r : entry mapPid (pids (t .before)) (drop at s) ≡ refused 26 0 = refused-first _ _ 26 0 (sym lent ∙ e) in
           stop 26 0 _ (turn ∙ sym (stop 26 0 _ r))
 
-      module _ (x : Tried) (p : triedEntry mapPid (pidsIn entries count) (take (length s - at) (drop at s)) ≡ passed x) where
+      module _ (x : Tried) (p : triedEntry edition mapPid (pidsIn entries count) (take (length s - at) (drop at s)) ≡ passed x) where
         next : (e : MapEntry) × (entry mapPid (pids (t .before)) (drop at s) ≡ passed e)
-            × (record { entry = listed e; size = entrySize (drop at s); kind = kindOf e } ≡ x)
+            × (record { entry = listed e; size = entrySize (drop at s); kind = kindOf edition e } ≡ x)
         unfolding triedEntry
         next =
             let q = passed-then (entry mapPid (pids (t .before)) (drop at s)) _ x (sym lent ∙ p) in
@@ -145,7 +147,7 @@ module _ {mapPid : ℕ} {s : Bytes} {entries : List Entry} {av1 : Av1} {count at
         pub turn-further : 0 < x .size
         turn-further = omega (arith, size-is)
 
-        pub turn-next : (a : Av1) → a ≡ withKind (x .kind) count av1 → Turned mapPid s (set entries count (x .entry)) a (count + 1) (at + x .size)
+        pub turn-next : (a : Av1) → a ≡ withKind (x .kind) count av1 → Turned edition mapPid s (set entries count (x .entry)) a (count + 1) (at + x .size)
         turn-next a f =
             let e = next .0 in
             let z = size-is in
@@ -161,7 +163,7 @@ module _ {mapPid : ℕ} {s : Bytes} {entries : List Entry} {av1 : Av1} {count at
                   ∙ ap (λ (i : ℕ). set (slots (t .before)) i (listed e)) (t .counted) ∙ slots-set (t .before) e (omega (arith, t .counted));
               known =
                   f ∙ ap₂ (λ (y : Tried) (b : Av1). withKind (y .kind) count b) (sym (next .2)) (t .known)
-                  ∙ ap (λ (i : ℕ). withKind (kindOf e) i (withAll (t .before) 0 Missing)) (sym n) ∙ sym (with-one-more (t .before) e 0 Missing);
+                  ∙ ap (λ (i : ℕ). withKind (kindOf edition e) i (withAll edition (t .before) 0 Missing)) (sym n) ∙ sym (with-one-more edition (t .before) e 0 Missing);
               rest =
                   turn ∙ sym (go-on e _ (next .1) refl)
                   ∙ ap (entriesAfter (mostEntries - (count + 1)) mapPid (t .before ++ (e ∷ []))) (ap (λ (i : ℕ). drop i (drop at s)) (sym z) ∙ drop-drop (x .size) at s);

@@ -9,7 +9,7 @@ use Rattle.lists.specs.Bytes.{byte}
 use Rattle.refusal.specs.Verdict.{Verdict, passed, refused, _>>=_, _>>_, given}
 use Rattle.refusal.specs.Number.{numberOf}
 use Rattle.descriptor.specs.Descriptor.{wrong}
-use Rattle.descriptor.specs.Edition.{current}
+use Rattle.descriptor.specs.Edition.{Edition}
 use Rattle.psi.specs.Section.{upToCrc}
 use Rattle.pmt.specs.Pmt.{MapEntry, descriptors, entrySize, entry, entries, isVideo, videoDescriptors, videoWrong, isRegistration, registrationFirst, registrationLater, pcrPid, programInfoLength, programInfo, entryBytes}
 use Rattle.pmt.specs.Answer.{listed, slots, videoOf}
@@ -42,28 +42,36 @@ abbrev pub anotherVideo : Video → Bytes → Videos
 anotherVideo Absent d = record { first = Present (byte d 2) (byte d 3) (byte d 4) (byte d 5); wrong = wrong d }
 anotherVideo (Present a b c e) d = record { first = Present a b c e; wrong = true }
 
-unfoldable pub withVideo : Videos → Bytes → Videos
-withVideo v d = pick (isVideo current d) (anotherVideo (v .first) d) v
+unfoldable pub withVideo : Edition → Videos → Bytes → Videos
+withVideo edition v d = pick (isVideo edition d) (anotherVideo (v .first) d) v
 
 -- what 28 asks of the descriptors of a loop
-abbrev pub foundIn : List Bytes → Found
-foundIn ds =
-    record { first = registrationFirst current ds; later = registrationLater current ds; videos = videosOf (videoDescriptors current ds) }
+abbrev pub foundIn : Edition → List Bytes → Found
+foundIn edition ds =
+    record {
+      first = registrationFirst edition ds;
+      later = registrationLater edition ds;
+      videos = videosOf (videoDescriptors edition ds);
+    }
 
 -- with one more, which is the first or is not
-unfoldable pub withDescriptor : Found → Bool → Bytes → Found
-withDescriptor f first d =
+unfoldable pub withDescriptor : Edition → Found → Bool → Bytes → Found
+withDescriptor edition f first d =
     pick first
-    (record { first = isRegistration current d; later = f .later; videos = withVideo (f .videos) d })
-    (record { first = f .first; later = f .later || isRegistration current d; videos = withVideo (f .videos) d })
+    (record { first = isRegistration edition d; later = f .later; videos = withVideo edition (f .videos) d })
+    (record {
+      first = f .first;
+      later = f .later || isRegistration edition d;
+      videos = withVideo edition (f .videos) d;
+    })
 
 abbrev pub loopSays : Loop → Verdict Found
 loopSays (Filled f) = passed f
 loopSays Unfilled = refused 26 0
 
 -- 26, or what is found in the loop
-unfoldable pub loopFound : Bytes → Verdict Found
-loopFound s = descriptors s >>= λ ds. passed (foundIn ds)
+unfoldable pub loopFound : Edition → Bytes → Verdict Found
+loopFound edition s = descriptors s >>= λ ds. passed (foundIn edition ds)
 
 -- ---- one entry
 -- what an entry with this stream_type and such descriptors is to 28: an AV1 entry, against the rule, or another
@@ -74,8 +82,8 @@ kindFrom streamType f =
     (pick (not (eqb streamType 0x06)) Stray
     (pick (f .videos .wrong) Stray (Right (f .videos .first)))))
 
-abbrev pub kindOf : MapEntry → Kind
-kindOf e = kindFrom (e .streamType) (foundIn (e .descriptors))
+abbrev pub kindOf : Edition → MapEntry → Kind
+kindOf edition e = kindFrom (e .streamType) (foundIn edition (e .descriptors))
 
 -- the PIDs in the first slots
 abbrev pub pidsIn : List Entry → ℕ → List ℕ
@@ -86,9 +94,9 @@ triedSays (tried.Passed t) = passed t
 triedSays tried.Wrong = refused 26 0
 
 -- 26, or the entry at the head of s, its size and its kind
-unfoldable pub triedEntry : ℕ → List ℕ → Bytes → Verdict Tried
-triedEntry mapPid earlier s =
-    entry mapPid earlier s >>= λ e. passed (record { entry = listed e; size = entrySize s; kind = kindOf e })
+unfoldable pub triedEntry : Edition → ℕ → List ℕ → Bytes → Verdict Tried
+triedEntry edition mapPid earlier s =
+    entry mapPid earlier s >>= λ e. passed (record { entry = listed e; size = entrySize s; kind = kindOf edition e })
 
 -- ---- the entries
 -- what is known of the AV1 entry, with one more entry of this kind in this slot
@@ -100,12 +108,13 @@ withKind (Right v) slot Wrong = Wrong
 withKind Stray slot a = Wrong
 
 -- with all these, of which the first stands in this slot
-unfoldable pub withAll : List MapEntry → ℕ → Av1 → Av1
-withAll [] slot a = a
-withAll (e ∷ es) slot a = withAll es (suc slot) (withKind (kindOf e) slot a)
+unfoldable pub withAll : Edition → List MapEntry → ℕ → Av1 → Av1
+withAll edition [] slot a = a
+withAll edition (e ∷ es) slot a = withAll edition es (suc slot) (withKind (kindOf edition e) slot a)
 
-abbrev pub listOf : List MapEntry → Listed
-listOf es = record { answer = list.Passed; count = length es; entries = slots es; av1 = withAll es 0 Missing }
+abbrev pub listOf : Edition → List MapEntry → Listed
+listOf edition es =
+    record { answer = list.Passed; count = length es; entries = slots es; av1 = withAll edition es 0 Missing }
 
 abbrev pub listAnswer : ListAnswer → Listed → Verdict Listed
 listAnswer list.Passed l = passed l
@@ -115,8 +124,8 @@ abbrev pub listSays : Listed → Verdict Listed
 listSays l = listAnswer (l .answer) l
 
 -- 26, 27, or the entries
-unfoldable pub listRead : ℕ → Bytes → Verdict Listed
-listRead mapPid s = entries mapPid s >>= λ es. passed (listOf es)
+unfoldable pub listRead : Edition → ℕ → Bytes → Verdict Listed
+listRead edition mapPid s = entries mapPid s >>= λ es. passed (listOf edition es)
 
 -- ---- the map
 -- the map of the listed entries, or 28
@@ -130,9 +139,9 @@ abbrev pub listedMap : ℕ → Listed → Verdict ProgramMap
 listedMap pcrPid l = mapFrom (l .av1) pcrPid l
 
 -- what stands behind a section's fixed fields: 26, 27, 28, or the map
-unfoldable pub bodyMap : ℕ → Bytes → Verdict ProgramMap
-bodyMap mapPid s = do
+unfoldable pub bodyMap : Edition → ℕ → Bytes → Verdict ProgramMap
+bodyMap edition mapPid s = do
   given 26 (ltb (length (upToCrc 12 s)) (programInfoLength s))
   descriptors (programInfo s)
-  l ← listRead mapPid (entryBytes s)
+  l ← listRead edition mapPid (entryBytes s)
   listedMap (pcrPid s) l

@@ -3,12 +3,14 @@ ghost use mathlib.Core.Path.{_≡_};
 ghost use Prim.Native.Nat.{_≤_};
 ghost use lib.Dec.{eqb};
 ghost use Rattle.lists.specs.Lists.{any};
+ghost use Rattle.descriptor.specs.Naming.{editionSays};
 ghost use Rattle.pmt.specs.Pmt.{pidField, lengthField, pidWrong};
 ghost use Rattle.pmt.specs.Parts.{kindFrom, pidsIn, triedSays, triedEntry, withKind, listSays, listRead};
 use crate::loops::Found;
 use crate::loops::Loop;
 use crate::loops::Video;
 use crate::loops::read_loop;
+use descriptor::Edition;
 use packet::NULL_PID;
 use refusal::Refusal;
 
@@ -131,9 +133,16 @@ fn kind_from(stream_type: u8, found: Found) -> Kind
 }
 
 // The entry at the head of s, wholly for 26; the earlier ones stand in the first slots.
-fn try_entry(s: &[u8], map_pid: u16, entries: [Entry; 12], count: usize) -> TriedEntry
+fn try_entry(
+    edition: Edition,
+    s: &[u8],
+    map_pid: u16,
+    entries: [Entry; 12],
+    count: usize,
+) -> TriedEntry
     requires { ⌜ count ≤ 12 ⌝ }
-    ensures { λ r. ⌜ triedSays r ≡ triedEntry «map_pid» (pidsIn entries count) (now (s .entry)) ⌝ }
+    ensures { λ r. ⌜ triedSays r
+        ≡ triedEntry (editionSays edition) «map_pid» (pidsIn entries count) (now (s .entry)) ⌝ }
 {
     if s.len() < 5 {
         return TriedEntry::Wrong;
@@ -142,7 +151,7 @@ fn try_entry(s: &[u8], map_pid: u16, entries: [Entry; 12], count: usize) -> Trie
     if s.len() < size {
         return TriedEntry::Wrong;
     }
-    let read = read_loop(&s[5..size]);
+    let read = read_loop(edition, &s[5..size]);
     let Loop::Filled(found) = read else {
         return TriedEntry::Wrong;
     };
@@ -172,8 +181,8 @@ fn with_kind(kind: Kind, slot: usize, av1: Av1) -> Av1
 }
 
 // The entries that fill s, each wholly for 26; 27 where bytes remain after a twelfth.
-pub(crate) fn list_entries(s: &[u8], map_pid: u16) -> Listed
-    ensures { λ r. ⌜ listSays r ≡ listRead «map_pid» (now (s .entry)) ⌝ }
+pub(crate) fn list_entries(edition: Edition, s: &[u8], map_pid: u16) -> Listed
+    ensures { λ r. ⌜ listSays r ≡ listRead (editionSays edition) «map_pid» (now (s .entry)) ⌝ }
 {
     let none = Entry {
         pid: 0,
@@ -192,7 +201,7 @@ pub(crate) fn list_entries(s: &[u8], map_pid: u16) -> Listed
                 av1,
             };
         }
-        let read = try_entry(&s[at..], map_pid, entries, count);
+        let read = try_entry(edition, &s[at..], map_pid, entries, count);
         match read {
             TriedEntry::Wrong => {
                 return Listed {

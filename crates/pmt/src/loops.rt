@@ -1,6 +1,8 @@
 // The descriptors of one loop.
 ghost use mathlib.Core.Path.{_≡_};
+ghost use Rattle.descriptor.specs.Naming.{editionSays};
 ghost use Rattle.pmt.specs.Parts.{withVideo, withDescriptor, loopFound, loopSays};
+use descriptor::Edition;
 use lists::byte_at;
 
 // The tag of a video descriptor.
@@ -32,9 +34,12 @@ pub(crate) enum Loop {
 }
 
 // The video descriptors, with one more descriptor.
-fn with_video(videos: Videos, d: &[u8]) -> Videos
-    ensures { λ r. ⌜ r ≡ withVideo videos (now (d .entry)) ⌝ }
+fn with_video(edition: Edition, videos: Videos, d: &[u8]) -> Videos
+    ensures { λ r. ⌜ r ≡ withVideo (editionSays edition) videos (now (d .entry)) ⌝ }
 {
+    if !edition.interprets_video() {
+        return videos;
+    }
     if byte_at(d, 0) != VIDEO_TAG {
         return videos;
     }
@@ -52,11 +57,11 @@ fn with_video(videos: Videos, d: &[u8]) -> Videos
 }
 
 // What a loop has, with one more descriptor, which is the first or is not.
-fn with_descriptor(found: Found, first: bool, d: &[u8]) -> Found
-    ensures { λ r. ⌜ r ≡ withDescriptor found first (now (d .entry)) ⌝ }
+fn with_descriptor(edition: Edition, found: Found, first: bool, d: &[u8]) -> Found
+    ensures { λ r. ⌜ r ≡ withDescriptor (editionSays edition) found first (now (d .entry)) ⌝ }
 {
-    let registration = descriptor::is_registration(d);
-    let videos = with_video(found.videos, d);
+    let registration = descriptor::is_registration(edition, d);
+    let videos = with_video(edition, found.videos, d);
     if first {
         return Found {
             first: registration,
@@ -79,8 +84,8 @@ fn with_descriptor(found: Found, first: bool, d: &[u8]) -> Found
 }
 
 // What the descriptors of a loop are, if they fill it exactly.
-pub(crate) fn read_loop(s: &[u8]) -> Loop
-    ensures { λ r. ⌜ loopSays r ≡ loopFound (now (s .entry)) ⌝ }
+pub(crate) fn read_loop(edition: Edition, s: &[u8]) -> Loop
+    ensures { λ r. ⌜ loopSays r ≡ loopFound (editionSays edition) (now (s .entry)) ⌝ }
 {
     let mut found = Found {
         first: false,
@@ -97,7 +102,7 @@ pub(crate) fn read_loop(s: &[u8]) -> Loop
             return Loop::Unfilled;
         }
         let end = at + size;
-        found = with_descriptor(found, at == 0, &s[at..end]);
+        found = with_descriptor(edition, found, at == 0, &s[at..end]);
         at = end;
     }
     Loop::Filled(found)

@@ -5,7 +5,7 @@ ghost use lib.ListN.{length};
 ghost use Rattle.lists.specs.Bytes.{word};
 ghost use Rattle.refusal.specs.Verdict.{refused};
 ghost use Rattle.refusal.specs.Number.{numberOf};
-ghost use Rattle.descriptor.specs.Edition.{current};
+ghost use Rattle.descriptor.specs.Naming.{editionSays};
 ghost use Rattle.pmt.specs.Pmt.{readPmt};
 ghost use Rattle.pmt.specs.Answer.{mapped, pmtSays, noMap, mapBeside};
 ghost use Rattle.pmt.specs.Parts.{listedMap, bodyMap};
@@ -19,6 +19,7 @@ use crate::listing::pid_field;
 use crate::loops::Loop;
 use crate::loops::Video;
 use crate::loops::read_loop;
+use descriptor::Edition;
 use refusal::Refusal;
 use refusal::Refused;
 
@@ -29,6 +30,26 @@ pub struct ProgramMap {
     pub entries: [Entry; 12],
     pub av1: usize,
     pub video: Video,
+}
+
+impl ProgramMap {
+    // No map: zeros, and no video descriptor.
+    pub fn none() -> ProgramMap
+        ensures { λ r. ⌜ r ≡ noMap ⌝ }
+    {
+        let none = Entry {
+            pid: 0,
+            stream_type: 0,
+        };
+        let entries = [none; 12];
+        ProgramMap {
+            pcr_pid: 0,
+            count: 0,
+            entries,
+            av1: 0,
+            video: Video::Absent,
+        }
+    }
 }
 
 pub enum PmtAnswer {
@@ -46,18 +67,7 @@ fn refuse(why: Refusal) -> PmtRead
     ensures { λ r. ⌜ pmtSays r ≡ refused (numberOf why) 0 ⌝ }
     ensures { λ r. ⌜ r .map ≡ noMap ⌝ }
 {
-    let none = Entry {
-        pid: 0,
-        stream_type: 0,
-    };
-    let entries = [none; 12];
-    let map = ProgramMap {
-        pcr_pid: 0,
-        count: 0,
-        entries,
-        av1: 0,
-        video: Video::Absent,
-    };
+    let map = ProgramMap::none();
     let answer = PmtAnswer::Refused(Refused { why, place: 0 });
     PmtRead { map, answer }
 }
@@ -95,9 +105,9 @@ fn map_listed(pcr_pid: u16, listed: Listed) -> PmtRead
 }
 
 // What stands behind the fixed fields of a section: the program's descriptors, then the entries.
-fn read_body(section: &[u8], map_pid: u16) -> PmtRead
+fn read_body(edition: Edition, section: &[u8], map_pid: u16) -> PmtRead
     requires { ⌜ 16 ≤ length (now section) ⌝ }
-    ensures { λ r. ⌜ pmtSays r ≡ bodyMap «map_pid» (now (section .entry)) ⌝ }
+    ensures { λ r. ⌜ pmtSays r ≡ bodyMap (editionSays edition) «map_pid» (now (section .entry)) ⌝ }
     ensures { λ r. ⌜ r .map ≡ mapBeside (pmtSays r) ⌝ }
 {
     let end = section.len() - 4;
@@ -105,11 +115,11 @@ fn read_body(section: &[u8], map_pid: u16) -> PmtRead
     if end < info {
         return refuse(Refusal::PMT);
     }
-    let read = read_loop(&section[12..info]);
+    let read = read_loop(edition, &section[12..info]);
     let Loop::Filled(_) = read else {
         return refuse(Refusal::PMT);
     };
-    let listed = list_entries(&section[info..end], map_pid);
+    let listed = list_entries(edition, &section[info..end], map_pid);
     let answer = listed.answer;
     match answer {
         ListAnswer::Refused(why) => refuse(why),
@@ -117,9 +127,10 @@ fn read_body(section: &[u8], map_pid: u16) -> PmtRead
     }
 }
 
-// What a PMT section of this program on this map PID says; 26, 27, 28.
-pub fn read_pmt(section: &[u8], program: u16, map_pid: u16) -> PmtRead
-    ensures { λ r. ⌜ pmtSays r ≡ mapped current (readPmt current program «map_pid» (now (section .entry))) ⌝ }
+// What a PMT section of this program on this map PID says in this edition; 26, 27, 28.
+pub fn read_pmt(edition: Edition, section: &[u8], program: u16, map_pid: u16) -> PmtRead
+    ensures { λ r. ⌜ pmtSays r
+        ≡ mapped (editionSays edition) (readPmt (editionSays edition) program «map_pid» (now (section .entry))) ⌝ }
     ensures { λ r. ⌜ r .map ≡ mapBeside (pmtSays r) ⌝ }
 {
     if psi::common_wrong(section, 2, 16) {
@@ -128,5 +139,5 @@ pub fn read_pmt(section: &[u8], program: u16, map_pid: u16) -> PmtRead
     if program_number(section[3], section[4]) != program {
         return refuse(Refusal::PMT);
     }
-    read_body(section, map_pid)
+    read_body(edition, section, map_pid)
 }

@@ -75,6 +75,10 @@ impl Refusal {
     // The requests of document 02.
     pub const CUT_SHORT: Refusal = Refusal { number: 43 };
 
+    pub const EDITION: Refusal = Refusal { number: 44 };
+
+    pub const SHEET: Refusal = Refusal { number: 45 };
+
     pub const ARRIVAL_TIME: Refusal = Refusal { number: 46 };
 
     pub const REPLAY_BOUNDS: Refusal = Refusal { number: 47 };

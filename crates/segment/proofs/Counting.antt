@@ -268,12 +268,12 @@ pub counter-turn : (edition : Edition) (segment : Bytes) (i : ℕ) (p : Bytes) (
     → (clock : Clock) → clock ≡ lastPcr (t .pcr) (countingPcr (t .pmt) p) → (o o′ : Outcome) (k : Counters) → o′ ≡ placedAt i o
     → Turns o (checkedIn (t .records) p) (RecordsStand segment (streamsIn (c .pat) (c .pmt) k))
     → Turns o′ (checked i p (clocked i p t)) (TablesStand edition segment
-    (record { pat = c .pat; pmt = c .pmt; map = c .map; counters = k; pcr = clock }))
+    (record { edition = c .edition; pat = c .pat; pmt = c .pmt; map = c .map; counters = k; pcr = clock }))
 unfolding checked
 counter-turn edition segment i p c t s clock e o o′ k f h =
-    let c′ : Tables = record { pat = c .pat; pmt = c .pmt; map = c .map; counters = k; pcr = clock } in
+    let c′ : Tables = record { edition = c .edition; pat = c .pat; pmt = c .pmt; map = c .map; counters = k; pcr = clock } in
     subst (λ (x : Outcome). Turns x (checked i p (clocked i p t)) (TablesStand edition segment c′)) (sym f)
     (turn-then (atPlace i (checkedIn (t .records) p)) (RecordsStand segment (streamsIn (c .pat) (c .pmt) k))
     (TablesStand edition segment c′) _ (placedAt i o)
     (turn-at (checkedIn (t .records) p) (RecordsStand segment (streamsIn (c .pat) (c .pmt) k)) i o h)
-    (λ records _ stands. record { pat = s .pat; pmt = s .pmt; records = stands; pcr = e }))
+    (λ records _ stands. record { follows = s .follows; pat = s .pat; pmt = s .pmt; records = stands; pcr = e }))

@@ -15,7 +15,7 @@ use Rattle.refusal.proofs.Verdicts.{never, passed-same, refuse, pass-on}
 use Rattle.descriptor.specs.Edition.{Edition}
 use Rattle.packet.specs.Header.{packetLength}
 use Rattle.pmt.specs.declared.section.ProgramMap.{ProgramMap}
-use Rattle.pmt.specs.Answer.{noEntry}
+use Rattle.pmt.specs.Answer.{noEntry, noMap}
 use Rattle.segment_rules.specs.declared.Totals.{Totals}
 use Rattle.segment_rules.specs.State as state
 use Rattle.segment_rules.specs.State.{FirstPat, FirstPmt, AccessUnit}
@@ -35,8 +35,9 @@ use Rattle.segment.specs.declared.whole.Summary.{Summary}
 use Rattle.segment.specs.declared.whole.Ran.{Ran}
 use Rattle.segment.specs.declared.whole.SegmentCheck.{SegmentCheck}
 use Rattle.segment.specs.declared.whole.SegmentCheck.the-variants as checked
-use Rattle.segment.specs.Answer.{summaryOf, summarised, checkSays}
-use Rattle.segment.specs.Parts.{Turns, TablesStand, UnitsStand, StateStands, RunTurn, AnswerTurn, WholeTurn}
+use Rattle.segment.specs.declared.whole.Checked.{Checked}
+use Rattle.segment.specs.Answer.{summaryOf, summarised, mapAfter, checkSays}
+use Rattle.segment.specs.Parts.{Turns, TablesStand, UnitsStand, StateStands, RunTurn, AnswerTurn, CheckedTurn, WholeTurn}
 use Rattle.segment.proofs.Turning.{refused-turn, passed-turn}
 use Rattle.segment.proofs.Standing.{no-pat-yet, pat-yet, no-pmt-yet, pmt-yet}
 use Rattle.segment.proofs.Mapping.{av1-slot}
@@ -84,6 +85,29 @@ module _ {edition : Edition} {segment : Bytes} {c : Tables} {t : state.Tables} (
         ap₂ (λ (x y : ℕ). passed (record { program = f .says .number; pid = x; units = y; totals = totals })) there l
         ∙ ap₂ (λ (p : Option FirstPat) (q : Option FirstPmt). summarised (accepted n p q us totals)) (sym (pat-yet s f h)) (sym (m .1))
 
+  -- the map beside it
+  abbrev beside : ProgramMap
+  beside = mapAfter edition (accepted n (t .pat) (t .pmt) us totals)
+
+  pub map-without-pat : c .pat ≡ pat.None → noMap ≡ beside
+  unfolding accepted mapAfter
+  map-without-pat h =
+      ap (λ (p : Option FirstPat). mapAfter edition (accepted n p (t .pmt) us totals)) (sym (no-pat-yet s h))
+
+  module _ (f : PatFound) (h : c .pat ≡ pat.First f) where
+    pub map-without-pmt : c .pmt ≡ pmt.None → noMap ≡ beside
+    unfolding accepted mapAfter
+    map-without-pmt k =
+        ap₂ (λ (p : Option FirstPat) (q : Option FirstPmt). mapAfter edition (accepted n p q us totals)) (sym (pat-yet s f h))
+        (sym (no-pmt-yet s k))
+
+    pub map-with-both : (g : PmtFound) → c .pmt ≡ pmt.First g → c .map ≡ beside
+    unfolding accepted mapAfter
+    map-with-both g k =
+        let m = pmt-yet s g k in
+        m .2 .says
+        ∙ ap₂ (λ (p : Option FirstPat) (q : Option FirstPmt). mapAfter edition (accepted n p q us totals)) (sym (pat-yet s f h)) (sym (m .1))
+
 -- ---- an answer and the outputs
 -- what acceptance gives are these units
 accepted-units : (n : ℕ) (p : Option FirstPat) (q : Option FirstPmt) (us : List AccessUnit) (t : Totals) (a : Accepted) → accepted n p q us
@@ -106,39 +130,52 @@ judges (checked.Refused q) (refused number place) before now e o = same-refusal 
         (refused m i)
     same-refusal {m} {i} {n} {j} h = let a : n ≡ m = cc in let b : j ≡ i = cc in ap₂ refused a b
 
+-- no map beside a refusal
+pub refused-beside : (edition : Edition) (before : Outputs) (v : Verdict Accepted) (q : Refused) (after : Outputs) (a : Checked)
+    → a ≡ record { answer = checked.Refused q; map = noMap } → v ≡ refusedBy q → CheckedTurn edition before v a after
+unfolding mapAfter
+refused-beside edition before v q after a f e =
+    subst (λ (x : Checked). CheckedTurn edition before v x after) (sym f) (e, sym (ap (mapAfter edition) e))
+
 -- ---- the end
-module _ (before after : Outputs) (g : Progress) (r : ExtractionTurn)
+module _ (edition : Edition) (before after : Outputs) (g : Progress) (r : ExtractionTurn)
     (turn : Turns (r .outcome) (closePes (g .state .extraction)) (UnitsStand before after (r .extraction))) where
   -- the open PES was refused
-  pub end-refused : (q : Refused) → r .outcome ≡ outcome.Refused q → AnswerTurn before (ending g) (checked.Refused q) after
+  pub end-refused : (q : Refused) → r .outcome ≡ outcome.Refused q
+      → (a : Checked) → a ≡ record { answer = checked.Refused q; map = noMap } → CheckedTurn edition before (ending g) a after
   unfolding ending _>>=_
-  end-refused q e =
-      ap (λ (v : Verdict state.Extraction). v >>= λ x. accepted (g .index) (g .state .tables .pat) (g .state .tables .pmt) (x .units)
+  end-refused q e a f =
+      refused-beside edition before (ending g) q after a f
+      (ap (λ (v : Verdict state.Extraction). v >>= λ x. accepted (g .index) (g .state .tables .pat) (g .state .tables .pmt) (x .units)
       (g .totals))
-      (refused-turn (closePes (g .state .extraction)) (UnitsStand before after (r .extraction)) (r .outcome) q e turn)
+      (refused-turn (closePes (g .state .extraction)) (UnitsStand before after (r .extraction)) (r .outcome) q e turn))
 
   -- it closed
-  pub end-closed : (a : SegmentCheck) → r .outcome ≡ outcome.Passed → r .extraction .pes ≡ seen.Closed
+  pub end-closed : (a : Checked) → r .outcome ≡ outcome.Passed → r .extraction .pes ≡ seen.Closed
       → ((us : List AccessUnit) → r .extraction .units ≡ length us
-      → checkSays a ≡ summarised (accepted (g .index) (g .state .tables .pat) (g .state .tables .pmt) us (g .totals)))
-      → AnswerTurn before (ending g) a after
+      → (checkSays (a .answer) ≡ summarised (accepted (g .index) (g .state .tables .pat) (g .state .tables .pmt) us (g .totals)))
+      × (a .map ≡ mapAfter edition (accepted (g .index) (g .state .tables .pat) (g .state .tables .pmt) us (g .totals))))
+      → CheckedTurn edition before (ending g) a after
   unfolding ending _>>=_
   end-closed a e closed says =
       let t = passed-turn (closePes (g .state .extraction)) (UnitsStand before after (r .extraction)) (r .outcome) e turn in
       let us = t .0 .units in
-      subst (λ (v : Verdict Accepted). AnswerTurn before v a after)
+      subst (λ (v : Verdict Accepted). CheckedTurn edition before v a after)
       (sym (ap (λ (v : Verdict state.Extraction). v >>= λ x. accepted (g .index) (g .state .tables .pat) (g .state .tables .pmt) (x .units)
-      (g .totals)) (t .1)))
-      (judges a _ before after (says us (t .2 .units))
-      (λ b p. closed-outputs (t .2) closed ∙ ap (λ (l : List AccessUnit). holding l before)
-      (sym (accepted-units _ _ _ us (g .totals) b p))))
+      (g .totals)) (t .1))) (
+        judges (a .answer) _ before after (says us (t .2 .units) .0)
+            (λ b p. closed-outputs (t .2) closed ∙ ap (λ (l : List AccessUnit). holding l before)
+            (sym (accepted-units _ _ _ us (g .totals) b p))),
+        says us (t .2 .units) .1,
+      )
 
 -- ---- the whole
 module _ (edition : Edition) (segment : Bytes) (before now : Outputs) where
   pub length-refused : (q : Refused) → q ≡ record { why = record { number = 20 }; place = 0 } → segmentLengthWrong segment ≡ true
-      → WholeTurn edition segment before (checked.Refused q) now
+      → (a : Checked) → a ≡ record { answer = checked.Refused q; map = noMap } → WholeTurn edition segment before a now
   unfolding checkSegment
-  length-refused q e h = sym (refuse 20 _ h) ∙ ap (λ (x : Refused). refusedBy x) (sym e)
+  length-refused q e h a f =
+      refused-beside edition before _ q now a f (sym (refuse 20 _ h) ∙ ap (λ (x : Refused). refusedBy x) (sym e))
 
   module _ (h : segmentLengthWrong segment ≡ false) (r : Ran) (turn : RunTurn edition segment before r now) where
     whole : (v : Verdict Progress) → run edition (roomsOf before) start (packets segment) ≡ v → checkSegment edition (roomsOf before)
@@ -146,10 +183,12 @@ module _ (edition : Edition) (segment : Bytes) (before now : Outputs) where
     unfolding checkSegment
     whole v e = sym (pass-on 20 h refl) ∙ ap (λ (w : Verdict Progress). w >>= ending) e
 
-    pub run-refused : (q : Refused) (last : Outputs) → r .outcome ≡ outcome.Refused q → WholeTurn edition segment before (checked.Refused q)
-        last
+    pub run-refused : (q : Refused) (last : Outputs) → r .outcome ≡ outcome.Refused q
+        → (a : Checked) → a ≡ record { answer = checked.Refused q; map = noMap } → WholeTurn edition segment before a last
     unfolding _>>=_
-    run-refused q last e = whole (refusedBy q) (refused-turn (run edition (roomsOf before) start (packets segment)) _ (r .outcome) q e turn)
+    run-refused q last e a f =
+        refused-beside edition before _ q last a f
+        (whole (refusedBy q) (refused-turn (run edition (roomsOf before) start (packets segment)) _ (r .outcome) q e turn))
 
     module _ (e : r .outcome ≡ outcome.Passed) where
       pub ran : (g : Progress) × (run edition (roomsOf before) start (packets segment) ≡ passed g)
@@ -161,10 +200,10 @@ module _ (edition : Edition) (segment : Bytes) (before now : Outputs) where
           sym (index-totals edition (roomsOf before) (packets segment) (ran .0) (ran .1) .0 ∙ length-packets (length segment / packetLength)
           segment)
 
-      pub run-ended : (a : SegmentCheck) (last : Outputs) → AnswerTurn before (ending (ran .0)) a last → WholeTurn edition segment before a
-          last
+      pub run-ended : (a : Checked) (last : Outputs) → CheckedTurn edition before (ending (ran .0)) a last
+          → WholeTurn edition segment before a last
       unfolding _>>=_
-      run-ended a last j = subst (λ (v : Verdict Accepted). AnswerTurn before v a last) (sym (whole (passed (ran .0)) (ran .1))) j
+      run-ended a last j = subst (λ (v : Verdict Accepted). CheckedTurn edition before v a last) (sym (whole (passed (ran .0)) (ran .1))) j
 
 -- ---- the answer says the check's verdict, and the outputs are what it leaves
 pub answers : (r : SegmentCheck) (before : Outputs) (v : Verdict Accepted) (now : Outputs) → AnswerTurn before v r now → checkSays r ≡

@@ -13,7 +13,7 @@ use Rattle.lists.proofs.Tests.{case, or-by-true, or-by-false}
 use Rattle.refusal.specs.Verdict.{Verdict, passed, refused, _>>=_, _>>_, given, atPlace}
 use Rattle.refusal.specs.declared.Refused.{Refused}
 use Rattle.refusal.proofs.Verdicts.{pass-on, refuse-at, pass-at, go-on, stop, passed-then, passed-after, given-passed, never}
-use Rattle.descriptor.specs.Edition.{Edition, current}
+use Rattle.descriptor.specs.Edition.{Edition}
 use Rattle.packet.specs.Header.{hasPayload, payload, payloadUnitStartIndicator}
 use Rattle.pes.specs.declared.header.Header.{Header}
 use Rattle.pes.specs.declared.header.Times.the-variants.{Absent, Stamps}
@@ -37,7 +37,7 @@ use Rattle.segment.specs.declared.state.Outcome.the-variants as outcome
 use Rattle.segment.specs.declared.outputs.Rooms as code
 use Rattle.segment.specs.declared.extraction.Extraction.{Extraction}
 use Rattle.segment.specs.declared.extraction.ExtractionTurn.{ExtractionTurn}
-use Rattle.segment.specs.Parts.{Turns, openPes, pesOf, unitsBegun, Fits, RoomsStand, UnitsStand, PayloadOf, PesTurn}
+use Rattle.segment.specs.Parts.{Turns, isAbsent, openPes, pesOf, unitsBegun, Fits, RoomsStand, UnitsStand, PayloadOf, PesTurn}
 use Rattle.segment.proofs.Turning.{turn-refused, refused-turn, passed-turn, turn-as}
 use Rattle.segment.proofs.Holding.{written, same-bytes, same-lens, same-times, unit-bytes, stands-opened, stands-added, stands-closed}
 
@@ -268,35 +268,30 @@ module _ (edition : Edition) (rooms : Rooms) (i : ℕ) (p : Bytes) (st : State) 
       (st1 .extraction)) st1))
       another-open))
 
-absent-by : (t : Bool) (x y : Ticks90) → pick t Absent (Stamps x y) ≡ Absent → t ≡ true
+absent-by : (t : Bool) (x y : Ticks90) → isAbsent (pick t Absent (Stamps x y)) ≡ t
 unfolding pick
-absent-by true x y e = refl
-absent-by false x y e = let z : _≡_ {A = ℕ} 0 1 = cc in absurd (omega arith)
+absent-by true x y = refl
+absent-by false x y = refl
 
-stamps-by : (t : Bool) (x y a b : Ticks90) → pick t Absent (Stamps x y) ≡ Stamps a b → t ≡ false
-unfolding pick
-stamps-by true x y a b e = let z : _≡_ {A = ℕ} 0 1 = cc in absurd (omega arith)
-stamps-by false x y a b e = refl
-
-module _ (i : ℕ) (p w : Bytes) (st : State) (before : Outputs) (is : PayloadOf p true w) where
+module _ (edition : Edition) (i : ℕ) (p w : Bytes) (st : State) (before : Outputs) (is : PayloadOf p true w) where
   abbrev rules : Verdict State
-  rules = inSequence (payloadRules current (roomsOf before) i p state.Av1) st
+  rules = inSequence (payloadRules edition (roomsOf before) i p state.Av1) st
 
   parts : {v : Verdict State}
       → v
       ≡ (atPlace i (given 29 (pes.headerWrong w))
-      >> (atPlace i (given 30 (noTimes w))
+      >> (atPlace i (given 30 (edition .timesNeeded && noTimes w))
       >> (inSequence (rule31 i p state.Av1 ∷ rule34 i p state.Av1 ∷ rule8 i p state.Av1 (roomsOf before) ∷ []) st
       >>= λ st1. passed (withExtraction (withPes (record { first = i; header = headerOf w; bytes = pesData w }) (st1 .extraction)) st1))))
       → v ≡ rules
   parts k =
       k
       ∙ ap (λ (u : Bytes). atPlace i (given 29 (pes.headerWrong u))
-      >> (atPlace i (given 30 (noTimes u))
+      >> (atPlace i (given 30 (edition .timesNeeded && noTimes u))
       >> (inSequence (rule31 i p state.Av1 ∷ rule34 i p state.Av1 ∷ rule8 i p state.Av1 (roomsOf before) ∷ []) st
       >>= λ st1. passed (withExtraction (withPes (record { first = i; header = headerOf u; bytes = pesData u }) (st1 .extraction)) st1))))
       (is .same)
-      ∙ sym (opens-parts current (roomsOf before) i p st (is .carries) (is .starts))
+      ∙ sym (opens-parts edition (roomsOf before) i p st (is .carries) (is .starts))
 
   -- 29
   pub opens-wrong : (number place : ℕ) → reading w ≡ refused number place → rules ≡ refused number i
@@ -311,30 +306,29 @@ module _ (i : ℕ) (p w : Bytes) (st : State) (before : Outputs) (is : PayloadOf
     unfolding reading
     right = given-passed 29 (pes.headerWrong w) (passed-after (given 29 (pes.headerWrong w)) (passed (headerOf w)) header read .0)
 
-    -- 30
-    pub opens-untimed : header .times ≡ Absent → rules ≡ refused 30 i
+    -- 30, by the header's times
+    by-times : (edition .timesNeeded && isAbsent (header .times)) ≡ (edition .timesNeeded && noTimes w)
     unfolding timesOf
-    opens-untimed k =
-        sym (parts (pass-at i 29 right (refuse-at i 30 _ (absent-by (noTimes w) _ _
-        (ap (λ (x : Header). x .times) (sym (read-header w header read)) ∙ k)))))
+    by-times =
+        ap (λ (t : Bool). edition .timesNeeded && t)
+        (ap (λ (x : Header). isAbsent (x .times)) (read-header w header read) ∙ absent-by (noTimes w) _ _)
 
-    module _ (a b : Ticks90) (k : header .times ≡ Stamps a b) where
-      timed : noTimes w ≡ false
-      unfolding timesOf
-      timed = stamps-by (noTimes w) _ _ a b (ap (λ (x : Header). x .times) (sym (read-header w header read)) ∙ k)
+    pub opens-untimed : (edition .timesNeeded && isAbsent (header .times)) ≡ true → rules ≡ refused 30 i
+    opens-untimed k = sym (parts (pass-at i 29 right (refuse-at i 30 _ (sym by-times ∙ k))))
 
+    module _ (k : (edition .timesNeeded && isAbsent (header .times)) ≡ false) where
       then-three : {v : Verdict State}
           → v
           ≡ (inSequence (rule31 i p state.Av1 ∷ rule34 i p state.Av1 ∷ rule8 i p state.Av1 (roomsOf before) ∷ []) st
           >>= λ st1. passed (withExtraction (withPes (record { first = i; header = headerOf w; bytes = pesData w }) (st1 .extraction)) st1))
           → v ≡ rules
-      then-three g = parts (pass-at i 29 right (pass-at i 30 timed g))
+      then-three g = parts (pass-at i 29 right (pass-at i 30 (sym by-times ∙ k) g))
 
       module _ (o : Outcome) (may : Turns o (inSequence (rule31 i p state.Av1 ∷ rule34 i p state.Av1 ∷ rule8 i p state.Av1 (roomsOf before)
           ∷ []) st) (λ st1. st1 ≡ st)) where
         -- 31, 34, 8
         pub opens-refused : (q : Refused) → o ≡ outcome.Refused q → (r : ExtractionTurn) (after : Outputs) → r .outcome ≡ o
-            → PesTurn before (payloadRules current (roomsOf before) i p state.Av1) st r after
+            → PesTurn before (payloadRules edition (roomsOf before) i p state.Av1) st r after
         opens-refused q g r after f = turn-refused rules _ (r .outcome) q (f ∙ g) (then-three (stop _ _ _ (refused-turn _ _ o q g may)))
 
         -- the bytes are in the output

@@ -32,6 +32,8 @@ use Rattle.segment.specs.declared.tables.Tables.{Tables}
 use Rattle.segment.specs.declared.extraction.Extraction.{Extraction}
 use Rattle.segment.specs.declared.packets.Stepped.{Stepped}
 use Rattle.segment.specs.declared.whole.Ran.{Ran}
+use Rattle.descriptor.specs.Naming.{editionSays}
+use Rattle.descriptor.specs.declared.edition.Edition.{Edition as EditionName}
 use Rattle.segment.specs.Parts.{Turns, freshTables, kindSays, freshExtraction, packetAt, StateStands, PacketTurn, RunTurn}
 use Rattle.segment.proofs.Turning.{turn-refused, refused-turn, passed-turn}
 use Rattle.segment.proofs.Standing.{tables-start}
@@ -62,8 +64,8 @@ pub record Running (edition : Edition) (segment : Bytes) (before now : Outputs) 
   pub rest : run edition (roomsOf before) start (packets segment)
       ≡ run edition (roomsOf before) (record { index = k; state = state; totals = totals }) (drop k (packets segment))
 
-running-start : (edition : Edition) (segment : Bytes) (before : Outputs) → Running edition segment before before freshTables freshExtraction
-    noneYet 0
+running-start : (edition : EditionName) (segment : Bytes) (before : Outputs)
+    → Running (editionSays edition) segment before before (freshTables edition) freshExtraction noneYet 0
 unfolding recordOf pick
 running-start edition segment before =
     record {
@@ -74,13 +76,12 @@ running-start edition segment before =
       rest = refl;
     }
 
-pub begins : (edition : Edition) (segment : Bytes) (before : Outputs) (c : Tables) (e : Extraction) (n : Totals) → c ≡ freshTables → e ≡
-    freshExtraction → n ≡ noneYet
-    → Running edition segment before before c e n 0
+pub begins : (edition : EditionName) (segment : Bytes) (before : Outputs) (c : Tables) (e : Extraction) (n : Totals)
+    → c ≡ freshTables edition → e ≡ freshExtraction → n ≡ noneYet → Running (editionSays (c .edition)) segment before before c e n 0
 begins edition segment before c e n f g h =
-    subst (λ (y : Tables). Running edition segment before before y e n 0) (sym f)
-    (subst (λ (y : Extraction). Running edition segment before before freshTables y n 0) (sym g)
-    (subst (λ (y : Totals). Running edition segment before before freshTables freshExtraction y 0) (sym h)
+    subst (λ (y : Tables). Running (editionSays (y .edition)) segment before before y e n 0) (sym f)
+    (subst (λ (y : Extraction). Running (editionSays edition) segment before before (freshTables edition) y n 0) (sym g)
+    (subst (λ (y : Totals). Running (editionSays edition) segment before before (freshTables edition) freshExtraction y 0) (sym h)
     (running-start edition segment before)))
 
 module _ (edition : Edition) (segment : Bytes) (before now : Outputs) (c : Tables) (e : Extraction) (totals : Totals) (k : ℕ)

@@ -13,6 +13,7 @@ use Rattle.refusal.specs.Number.{refusedBy}
 use Rattle.refusal.specs.declared.Refused.{Refused}
 use Rattle.refusal.proofs.Verdicts.{never, go-on, stop}
 use Rattle.descriptor.specs.Edition.{Edition}
+use Rattle.descriptor.specs.Naming.{editionSays}
 use Rattle.packet.specs.declared.counter.Stream.{Stream}
 use Rattle.packet.specs.declared.streams.Streams.{Streams}
 use Rattle.packet.specs.Counter.{named, namedStream}
@@ -83,7 +84,12 @@ not-mapped edition (refused n i) number place e = let h : n ≡ number = cc in l
 module _ {edition : Edition} {segment : Bytes} {c : Tables} {t : state.Tables} (s : TablesStand edition segment c t) (section : Bytes)
     (f : PatFound)
     (e : c .pat ≡ pat.First f) (k : c .pmt ≡ pmt.None) (a : PmtAnswer) (p : ProgramMap)
-    (reads : answerSays a p ≡ mapped edition (readPmt edition (f .says .number) (f .says .«map_pid») section)) where
+    (read : answerSays a p ≡ mapped (editionSays (c .edition)) (readPmt (editionSays (c .edition)) (f .says .number) (f .says .«map_pid»)
+    section)) where
+  reads : answerSays a p ≡ mapped edition (readPmt edition (f .says .number) (f .says .«map_pid») section)
+  reads =
+      subst (λ (x : Edition). answerSays a p ≡ mapped x (readPmt x (f .says .number) (f .says .«map_pid») section)) (s .follows) read
+
   abbrev rule : Verdict state.Tables
   rule = pmtSection edition (t .pat) (t .pmt) section t
 
@@ -101,6 +107,7 @@ module _ {edition : Edition} {segment : Bytes} {c : Tables} {t : state.Tables} (
       → Turns outcome.Passed rule
       (TablesStand edition segment
       (record {
+        edition = c .edition;
         pat = c .pat;
         pmt = pmt.First (record { at = at; size = length section });
         map = p;
@@ -124,6 +131,7 @@ module _ {edition : Edition} {segment : Bytes} {c : Tables} {t : state.Tables} (
         withPmt (record { section = section; says = m }) (map named (pids (m .entries))) t,
         sym (first (go-on m _ (q .1) refl)),
         record {
+          follows = s .follows;
           pat = s .pat;
           pmt = record { section = lies; says = sym (q .2); one = says _ _ _ _ m (q .1) .one };
           records =

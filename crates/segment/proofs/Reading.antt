@@ -89,6 +89,7 @@ module _ {edition : Edition} {segment : Bytes} {c : Tables} {t : state.Tables} (
         → Turns outcome.Passed rule
         (TablesStand edition segment
         (record {
+          edition = c .edition;
           pat = pat.First (record { says = p; at = at; size = length section });
           pmt = c .pmt;
           map = c .map;
@@ -103,6 +104,7 @@ module _ {edition : Edition} {segment : Bytes} {c : Tables} {t : state.Tables} (
           withPat (record { section = section; says = p }) (named (p .«map_pid») ∷ []) t,
           sym (first (go-on p _ (sym g ∙ ap patSays f) refl)),
           record {
+            follows = s .follows;
             pat = ap (λ (x : Bytes). some (record { section = x; says = p })) lies;
             pmt = s .pmt;
             records =

@@ -16,6 +16,8 @@ use Rattle.pmt.specs.declared.section.ProgramMap.{ProgramMap}
 use Rattle.segment_rules.specs.State as state
 use Rattle.segment_rules.specs.State.{FirstPat, FirstPmt, noTables}
 use Rattle.segment_rules.specs.Named.{namedPids, PatFirst, Named}
+use Rattle.descriptor.specs.Naming.{editionSays}
+use Rattle.descriptor.specs.declared.edition.Edition.{Edition as EditionName}
 use Rattle.segment.specs.declared.state.PatFound.{PatFound}
 use Rattle.segment.specs.declared.state.PatSeen.the-variants as pat
 use Rattle.segment.specs.declared.state.PmtFound.{PmtFound}
@@ -25,8 +27,8 @@ use Rattle.segment.specs.declared.tables.Tables.{Tables}
 use Rattle.segment.specs.Parts.{streamsIn, RecordsStand, patOf, PmtStands, PmtSeenStands, TablesStand, freshTables}
 
 -- ---- before the first packet
-pub tables-start : (edition : Edition) (segment : Bytes) → TablesStand edition segment freshTables noTables
-tables-start edition segment = record { pat = refl; pmt = tt; records = ((refl, refl), tt); pcr = refl }
+pub tables-start : (edition : EditionName) (segment : Bytes) → TablesStand (editionSays edition) segment (freshTables edition) noTables
+tables-start edition segment = record { follows = refl; pat = refl; pmt = tt; records = ((refl, refl), tt); pcr = refl }
 
 -- ---- records
 module _ (segment : Bytes) where

@@ -1,11 +1,14 @@
 -- What the check's answer says. Assumes nothing.
+use Prim.Native.Nat.{ℕ}
 use lib.ListN.{length}
 use Rattle.lists.specs.Lists.{Bytes}
-use Rattle.refusal.specs.Verdict.{Verdict, passed, _>>=_}
+use Rattle.refusal.specs.Verdict.{Verdict, passed, refused, _>>=_}
 use Rattle.refusal.specs.Number.{refusedBy}
-use Rattle.descriptor.specs.Edition.{Edition}
+use Rattle.descriptor.specs.Edition.{Edition, editionOf}
+use Rattle.pmt.specs.Answer.{mapOf, noMap}
+use Rattle.pmt.specs.declared.section.ProgramMap.{ProgramMap}
 use Rattle.segment_rules.specs.Rules.{Rooms}
-use Rattle.segment_rules.specs.Check.{Accepted, checkSegment}
+use Rattle.segment_rules.specs.Check.{Accepted, checkSegment, checkIn}
 use Rattle.segment.specs.declared.whole.Summary.{Summary}
 use Rattle.segment.specs.declared.whole.SegmentCheck.{SegmentCheck}
 use Rattle.segment.specs.declared.whole.SegmentCheck.the-variants as checked
@@ -20,8 +23,21 @@ summarised v = do
   a ← v
   passed (summaryOf a)
 
-abbrev pub checking : Edition → Rooms → Bytes → Verdict Summary
-checking edition rooms segment = summarised (checkSegment edition rooms segment)
+-- in the edition of this number
+abbrev pub checking : ℕ → Rooms → Bytes → Verdict Summary
+checking n rooms segment = summarised (checkIn n rooms segment)
+
+-- the map beside the answer: that of the accepted segment, or none
+unfoldable pub mapAfter : Edition → Verdict Accepted → ProgramMap
+mapAfter edition (passed a) = mapOf edition (a .map)
+mapAfter edition (refused number place) = noMap
+
+unfoldable pub mapIn : Verdict Edition → Rooms → Bytes → ProgramMap
+mapIn (passed edition) rooms segment = mapAfter edition (checkSegment edition rooms segment)
+mapIn (refused number place) rooms segment = noMap
+
+abbrev pub mapChecked : ℕ → Rooms → Bytes → ProgramMap
+mapChecked n rooms segment = mapIn (editionOf n) rooms segment
 
 -- ---- what the answer of the code says
 abbrev pub checkSays : SegmentCheck → Verdict Summary

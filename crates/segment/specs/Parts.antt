@@ -11,6 +11,8 @@ use Rattle.refusal.specs.Verdict.{Verdict}
 use Rattle.refusal.specs.Verdict as verdict
 use Rattle.refusal.specs.Number.{refusedBy}
 use Rattle.descriptor.specs.Edition.{Edition}
+use Rattle.descriptor.specs.Naming.{editionSays}
+use Rattle.descriptor.specs.declared.edition.Edition.{Edition as EditionName}
 use Rattle.packet.specs.Header.{fields, headerOf, pid, hasPayload, payload, payloadUnitStartIndicator, packetLength}
 use Rattle.packet.specs.declared.header.Header.{Header}
 use Rattle.packet.specs.declared.header.Clock.{Clock}
@@ -29,6 +31,8 @@ use Rattle.pmt.specs.Pmt.{av1Entry}
 use Rattle.pmt.specs.Answer.{mapOf, noMap}
 use Rattle.pmt.specs.declared.section.ProgramMap.{ProgramMap}
 use Rattle.pes.specs.Pes.{pesData}
+use Rattle.pes.specs.declared.header.Times.{Times}
+use Rattle.pes.specs.declared.header.Times.the-variants.{Absent, Stamps}
 use Rattle.segment_rules.specs.declared.Totals.{Totals}
 use Rattle.segment_rules.specs.State as state
 use Rattle.segment_rules.specs.State.{FirstPat, FirstPmt, OpenPes, State, AccessUnit, withUnit, listedAs, kindOf, packetCount}
@@ -62,7 +66,8 @@ use Rattle.segment.specs.declared.packets.Stepped.{Stepped}
 use Rattle.segment.specs.declared.whole.Ran.{Ran}
 use Rattle.segment.specs.declared.whole.SegmentCheck.{SegmentCheck}
 use Rattle.segment.specs.declared.whole.SegmentCheck.the-variants as checked
-use Rattle.segment.specs.Answer.{summaryOf, summarised, checkSays}
+use Rattle.segment.specs.declared.whole.Checked.{Checked}
+use Rattle.segment.specs.Answer.{summaryOf, summarised, mapAfter, checkSays}
 
 -- ---- the shape of the private promises
 -- a function that may refuse carries out a step of the definitions: its outcome is the step's verdict, and where it
@@ -166,6 +171,7 @@ PmtSeenStands edition segment (pmt.First f) map none = ⊥
 PmtSeenStands edition segment (pmt.First f) map (some m) = PmtStands edition segment f map m
 
 pub record TablesStand (edition : Edition) (segment : Bytes) (c : Tables) (t : state.Tables) : Type 0 where
+  pub follows : editionSays (c .edition) ≡ edition
   pub pat : t .pat ≡ patOf segment (c .pat)
   pub pmt : PmtSeenStands edition segment (c .pmt) (c .map) (t .pmt)
   pub records : RecordsStand segment (streamsIn (c .pat) (c .pmt) (c .counters)) (t .records)
@@ -174,8 +180,16 @@ pub record TablesStand (edition : Edition) (segment : Bytes) (c : Tables) (t : s
 abbrev pub freshCounters : Counters
 freshCounters = record { pat = namedStream 0; map = namedStream 0; listed = noStreams }
 
-abbrev pub freshTables : Tables
-freshTables = record { pat = pat.None; pmt = pmt.None; map = noMap; counters = freshCounters; pcr = clock.None }
+abbrev pub freshTables : EditionName → Tables
+freshTables edition =
+    record {
+      edition = edition;
+      pat = pat.None;
+      pmt = pmt.None;
+      map = noMap;
+      counters = freshCounters;
+      pcr = clock.None;
+    }
 
 -- a turn of the tables carries out a step of the definitions'
 abbrev pub CarriesOut : Edition → Bytes → Tables → TablesTurn → (state.Tables → Verdict state.Tables) → Type 0
@@ -235,6 +249,11 @@ CounterTurn edition segment k c r =
     → CarriesOut edition segment c r (λ t. counterChecked (k .index) p (clocked (k .index) p t))
 
 -- ---- the units
+-- the times of a header are not there
+abbrev pub isAbsent : Times → Bool
+isAbsent Absent = true
+isAbsent (Stamps pts dts) = false
+
 abbrev pub openPes : PesFound → Bytes → OpenPes
 openPes f bytes = record { first = f .first; header = f .header; bytes = bytes }
 
@@ -385,10 +404,11 @@ CountsUpTo t = packetCount t < mostPackets
 
 -- ---- the end
 -- 33, or the summary of these units
-abbrev pub AcceptTurn : Edition → Tables → ℕ → ℕ → Totals → SegmentCheck → Type 0
+abbrev pub AcceptTurn : Edition → Tables → ℕ → ℕ → Totals → Checked → Type 0
 AcceptTurn edition c units count totals r =
     (segment : Bytes) (t : state.Tables) (us : List AccessUnit) → units ≡ length us → TablesStand edition segment c t
-    → checkSays r ≡ summarised (accepted count (t .pat) (t .pmt) us totals)
+    → (checkSays (r .answer) ≡ summarised (accepted count (t .pat) (t .pmt) us totals))
+    × (r .map ≡ mapAfter edition (accepted count (t .pat) (t .pmt) us totals))
 
 -- an answer is the verdict on the whole; where it accepts, the outputs hold the units
 abbrev pub AnswerTurn : Outputs → Verdict Accepted → SegmentCheck → Outputs → Type 0
@@ -396,13 +416,18 @@ AnswerTurn before v (checked.Accepted s) now =
     Turns Passed v (λ a. (s ≡ summaryOf a) × (now ≡ holding (a .units) before))
 AnswerTurn before v (checked.Refused r) now = Turns (Refused r) v (λ a. ⊥)
 
+-- with the map beside it
+abbrev pub CheckedTurn : Edition → Outputs → Verdict Accepted → Checked → Outputs → Type 0
+CheckedTurn edition before v r now = AnswerTurn before v (r .answer) now × (r .map ≡ mapAfter edition v)
+
 -- after so many packets
-abbrev pub EndTurn : Edition → Ran → ℕ → Outputs → SegmentCheck → Outputs → Type 0
+abbrev pub EndTurn : Edition → Ran → ℕ → Outputs → Checked → Outputs → Type 0
 EndTurn edition ran count now r after =
     (segment : Bytes) (before : Outputs) (g : Progress) → count ≡ g .index → ran .totals ≡ g .totals
     → StateStands edition segment before now (ran .tables) (ran .extraction) (g .state)
-    → AnswerTurn before (ending g) r after
+    → CheckedTurn edition before (ending g) r after
 
 -- the whole segment
-abbrev pub WholeTurn : Edition → Bytes → Outputs → SegmentCheck → Outputs → Type 0
-WholeTurn edition segment before r now = AnswerTurn before (checkSegment edition (roomsOf before) segment) r now
+abbrev pub WholeTurn : Edition → Bytes → Outputs → Checked → Outputs → Type 0
+WholeTurn edition segment before r now =
+    CheckedTurn edition before (checkSegment edition (roomsOf before) segment) r now

@@ -1,15 +1,28 @@
 // The access units: a PES opens, takes payload and closes.
 ghost use mathlib.Core.Path.{_≡_};
-ghost use mathlib.Core.Bool.{true, false};
+ghost use mathlib.Core.Bool.{true, false, _&&_};
 ghost use mathlib.Core.List.{List};
 ghost use Prim.Native.Nat.{ℕ, _+_, _≤_, _<_, _^_};
 ghost use lib.ListN.{length};
 ghost use Rattle.refusal.specs.Verdict.{passed};
 ghost use Rattle.pes.specs.Pes.{pesData, reading};
-ghost use Rattle.descriptor.specs.Edition.{current};
+ghost use Rattle.descriptor.specs.Edition.{Edition as Edition·rules};
+ghost use Rattle.descriptor.specs.Naming.{editionSays};
 ghost use Rattle.segment_rules.specs.Rules.{lengthDiffers};
 ghost use Rattle.segment_rules.specs.Check.{outputsOf};
-ghost use Rattle.segment.specs.Parts.{freshExtraction, roomsIn, Fits, openPes, HasRoom, JudgeTurn, ClosingTurn, MayOpenTurn, OpeningTurn, PayloadTurn};
+ghost use Rattle.segment.specs.Parts.{
+  freshExtraction,
+  roomsIn,
+  Fits,
+  openPes,
+  HasRoom,
+  isAbsent,
+  JudgeTurn,
+  ClosingTurn,
+  MayOpenTurn,
+  OpeningTurn,
+  PayloadTurn,
+};
 use crate::outputs::Rooms;
 use crate::outputs::copy;
 use crate::outputs::put_unit;
@@ -18,6 +31,7 @@ use crate::state::Outcome;
 use crate::state::PesFound;
 use crate::state::PesSeen;
 use crate::state::at_place;
+use descriptor::Edition;
 use lists::part;
 use lists::rest;
 use pes::Header;
@@ -37,6 +51,13 @@ pub(crate) struct Extraction {
     pub units: usize,
     pub start: usize,
     pub bytes: usize,
+}
+
+// What is known where a packet carries a payload: its index, whether a PCR has counted, and the edition that is followed.
+pub(crate) struct Arrival {
+    pub index: usize,
+    pub pcr_seen: bool,
+    pub edition: Edition,
 }
 
 // The units after a packet, and the verdict on it.
@@ -173,26 +194,40 @@ fn may_open(
     Outcome::Passed
 }
 
+// The times are absent, and the edition needs them.
+fn untimed(edition: Edition, times: Times) -> bool
+    ensures { λ r. ⌜ r ≡ (editionSays edition .timesNeeded && isAbsent times) ⌝ }
+{
+    if !edition.times_needed() {
+        return false;
+    }
+    match times {
+        Times::Absent => true,
+        Times::Stamps(_, _) => false,
+    }
+}
+
 // A PES opens with this header and these bytes, no other being open; 30, 31, 34, 8.
 fn open_with(
-    found: PesFound,
+    arrival: Arrival,
+    header: Header,
     bytes: &[u8],
-    pcr_seen: bool,
     extraction: Extraction,
     out: &mut [u8],
     rooms: Rooms,
 ) -> ExtractionTurn
     requires { ⌜ (extraction .start + extraction .bytes ≤ length (now out)) × (rooms .bytes ≡ length (now out)) ⌝ }
-    ensures { λ r. ⌜ ((w : List ℕ) → reading w ≡ passed (found .header) → now (bytes .entry) ≡ pesData w →
-        OpeningTurn current (found .first) w «pcr_seen» extraction rooms (now (out .entry)) r (now (out .exit))) ⌝ }
+    ensures { λ r. ⌜ ((w : List ℕ) → reading w ≡ passed header → now (bytes .entry) ≡ pesData w →
+        OpeningTurn (editionSays (arrival .edition)) (arrival .index) w (arrival .«pcr_seen») extraction rooms
+        (now (out .entry)) r (now (out .exit))) ⌝ }
 {
-    let header = found.header;
-    let index = found.first;
+    let edition = arrival.edition;
+    let index = arrival.index;
     let times = header.times;
-    let Times::Stamps(_, _) = times else {
+    if untimed(edition, times) {
         return refuse(Refusal::NO_TIMES, index, extraction);
-    };
-    let outcome = may_open(index, bytes.len(), pcr_seen, extraction, rooms);
+    }
+    let outcome = may_open(index, bytes.len(), arrival.pcr_seen, extraction, rooms);
     let Outcome::Passed = outcome else {
         return ExtractionTurn {
             extraction,
@@ -201,6 +236,10 @@ fn open_with(
     };
     let written = extraction.start + extraction.bytes;
     copy(bytes, &mut out[written..]);
+    let found = PesFound {
+        first: index,
+        header,
+    };
     let opened = Extraction {
         pes: PesSeen::Open(found),
         units: extraction.units,
@@ -215,46 +254,41 @@ fn open_with(
 
 // A PES opens with this payload, no other being open; 29, 30, 31, 34, 8.
 fn open(
-    index: usize,
+    arrival: Arrival,
     payload: &[u8],
-    pcr_seen: bool,
     extraction: Extraction,
     out: &mut [u8],
     rooms: Rooms,
 ) -> ExtractionTurn
     requires { ⌜ (extraction .start + extraction .bytes ≤ length (now out)) × (rooms .bytes ≡ length (now out)) ⌝ }
-    ensures { λ r. ⌜ OpeningTurn current index (now (payload .entry)) «pcr_seen» extraction rooms
-        (now (out .entry)) r (now (out .exit)) ⌝ }
+    ensures { λ r. ⌜ OpeningTurn (editionSays (arrival .edition)) (arrival .index) (now (payload .entry))
+        (arrival .«pcr_seen») extraction rooms (now (out .entry)) r (now (out .exit)) ⌝ }
 {
     let read = pes::read(payload);
     match read {
         PesRead::Refused(refused) => ExtractionTurn {
             extraction,
-            outcome: at_place(index, Outcome::Refused(refused)),
+            outcome: at_place(arrival.index, Outcome::Refused(refused)),
         },
         PesRead::Header(header) => {
             let bytes = rest(payload, header.size as usize);
-            let found = PesFound {
-                first: index,
-                header,
-            };
-            open_with(found, bytes, pcr_seen, extraction, out, rooms)
+            open_with(arrival, header, bytes, extraction, out, rooms)
         }
     }
 }
 
 // The payload of a packet that starts a PES: the open one closes, and another opens.
 pub(crate) fn start(
-    index: usize,
+    arrival: Arrival,
     payload: &[u8],
-    pcr_seen: bool,
     extraction: Extraction,
     out: &mut [u8],
     lens: &mut [usize],
     times: &mut [u64],
 ) -> ExtractionTurn
     requires { ⌜ Fits extraction (roomsIn (now out) (now lens) (now times)) ⌝ }
-    ensures { λ r. ⌜ PayloadTurn current true index (now (payload .entry)) «pcr_seen» extraction
+    ensures { λ r. ⌜ PayloadTurn (editionSays (arrival .edition)) true (arrival .index) (now (payload .entry))
+        (arrival .«pcr_seen») extraction
         (outputsOf (now (out .entry)) (now (lens .entry)) (now (times .entry))) r
         (outputsOf (now (out .exit)) (now (lens .exit)) (now (times .exit))) ⌝ }
 {
@@ -269,32 +303,31 @@ pub(crate) fn start(
         lens: lens.len(),
         times: times.len(),
     };
-    open(index, payload, pcr_seen, next, out, rooms)
+    open(arrival, payload, next, out, rooms)
 }
 
 // The payload of a packet that goes on with the open PES; 29, 31, 8.
 pub(crate) fn add(
-    index: usize,
+    arrival: Arrival,
     payload: &[u8],
-    pcr_seen: bool,
     extraction: Extraction,
     out: &mut [u8],
 ) -> ExtractionTurn
     requires { ⌜ extraction .start + extraction .bytes ≤ length (now out) ⌝ }
-    ensures { λ r. ⌜ ((lens times : List ℕ) →
-        PayloadTurn current false index (now (payload .entry)) «pcr_seen» extraction
+    ensures { λ r. ⌜ ((edition : Edition·rules) (lens times : List ℕ) →
+        PayloadTurn edition false (arrival .index) (now (payload .entry)) (arrival .«pcr_seen») extraction
         (outputsOf (now (out .entry)) lens times) r (outputsOf (now (out .exit)) lens times)) ⌝ }
 {
     let pes = extraction.pes;
     let PesSeen::Open(found) = pes else {
-        return refuse(Refusal::PES_HEADER, index, extraction);
+        return refuse(Refusal::PES_HEADER, arrival.index, extraction);
     };
-    if !pcr_seen {
-        return refuse(Refusal::NO_PCR, index, extraction);
+    if !arrival.pcr_seen {
+        return refuse(Refusal::NO_PCR, arrival.index, extraction);
     }
     let written = extraction.start + extraction.bytes;
     if out.len() - written < payload.len() {
-        return refuse(Refusal::NO_ROOM, index, extraction);
+        return refuse(Refusal::NO_ROOM, arrival.index, extraction);
     }
     copy(payload, &mut out[written..]);
     let longer = Extraction {

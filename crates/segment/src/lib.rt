@@ -8,6 +8,7 @@ mod state;
 mod tables;
 mod whole;
 
+pub use whole::Checked;
 pub use whole::SegmentCheck;
 pub use whole::Summary;
 pub use whole::check;

@@ -2,11 +2,23 @@
 ghost use mathlib.Core.Path.{_≡_};
 ghost use Prim.Native.Nat.{_+_, _*_, _≤_};
 ghost use lib.ListN.{length};
-ghost use Rattle.descriptor.specs.Edition.{current};
+ghost use Rattle.descriptor.specs.Edition.{Edition};
+ghost use Rattle.descriptor.specs.Naming.{editionSays};
 ghost use Rattle.segment_rules.specs.State.{counting};
 ghost use Rattle.segment_rules.specs.Rules.{isAv1};
 ghost use Rattle.segment_rules.specs.Check.{outputsOf};
-ghost use Rattle.segment.specs.Parts.{kindSays, roomsIn, Fits, CountsUpTo, packetAt, PayloadTurn, ContentTurn, ReadTurn, PacketTurn};
+ghost use Rattle.segment.specs.Parts.{
+  kindSays,
+  roomsIn,
+  Fits,
+  CountsUpTo,
+  packetAt,
+  PayloadTurn,
+  ContentTurn,
+  ReadTurn,
+  PacketTurn,
+};
+use crate::extraction::Arrival;
 use crate::extraction::Extraction;
 use crate::extraction::ExtractionTurn;
 use crate::extraction::add;
@@ -76,33 +88,24 @@ fn packet_at(segment: &[u8], index: usize) -> &[u8]
 
 // The AV1 payload of a packet, which starts a PES or goes on with one.
 fn take_payload(
-    packet: Packet,
+    arrival: Arrival,
+    starts: bool,
     payload: &[u8],
-    pcr_seen: bool,
     extraction: Extraction,
     out: &mut [u8],
     lens: &mut [usize],
     times: &mut [u64],
 ) -> ExtractionTurn
     requires { ⌜ Fits extraction (roomsIn (now out) (now lens) (now times)) ⌝ }
-    ensures { λ r. ⌜ PayloadTurn current (packet .header .start) (packet .index) (now (payload .entry)) «pcr_seen»
-        extraction
+    ensures { λ r. ⌜ PayloadTurn (editionSays (arrival .edition)) starts (arrival .index) (now (payload .entry))
+        (arrival .«pcr_seen») extraction
         (outputsOf (now (out .entry)) (now (lens .entry)) (now (times .entry))) r
         (outputsOf (now (out .exit)) (now (lens .exit)) (now (times .exit))) ⌝ }
 {
-    let header = packet.header;
-    if header.start {
-        return start(
-            packet.index,
-            payload,
-            pcr_seen,
-            extraction,
-            out,
-            lens,
-            times,
-        );
+    if starts {
+        return start(arrival, payload, extraction, out, lens, times);
     }
-    add(packet.index, payload, pcr_seen, extraction, out)
+    add(arrival, payload, extraction, out)
 }
 
 // What a packet that passed 24 carries: a section, or the payload of a PES.
@@ -117,9 +120,9 @@ fn take_content(
 ) -> Stepped
     requires { ⌜ (packet .index * 188 + 188 ≤ length (now segment))
         × Fits extraction (roomsIn (now out) (now lens) (now times)) ⌝ }
-    ensures { λ r. ⌜ ContentTurn current (now (segment .entry)) packet tables extraction
+    ensures { λ r. ⌜ ((edition : Edition) → ContentTurn edition (now (segment .entry)) packet tables extraction
         (outputsOf (now (out .entry)) (now (lens .entry)) (now (times .entry))) r
-        (outputsOf (now (out .exit)) (now (lens .exit)) (now (times .exit))) ⌝ }
+        (outputsOf (now (out .exit)) (now (lens .exit)) (now (times .exit)))) ⌝ }
     ensures { λ r. ⌜ r .kind ≡ packet .kind ⌝ }
 {
     let header = packet.header;
@@ -127,8 +130,13 @@ fn take_content(
     let payload = rest(packet_at(segment, packet.index), header.payload);
     if is_av1(kind) {
         let pcr = tables.pcr;
-        let seen = is_pcr(pcr);
-        let taken = take_payload(packet, payload, seen, extraction, out, lens, times);
+        let edition = tables.edition;
+        let arrival = Arrival {
+            index: packet.index,
+            pcr_seen: is_pcr(pcr),
+            edition,
+        };
+        let taken = take_payload(arrival, header.start, payload, extraction, out, lens, times);
         let next = taken.extraction;
         let outcome = taken.outcome;
         return Stepped {
@@ -162,9 +170,9 @@ fn step_read(
 ) -> Stepped
     requires { ⌜ (packet .index * 188 + 188 ≤ length (now segment))
         × Fits extraction (roomsIn (now out) (now lens) (now times)) ⌝ }
-    ensures { λ r. ⌜ ReadTurn current (now (segment .entry)) packet tables extraction
+    ensures { λ r. ⌜ ((edition : Edition) → ReadTurn edition (now (segment .entry)) packet tables extraction
         (outputsOf (now (out .entry)) (now (lens .entry)) (now (times .entry))) r
-        (outputsOf (now (out .exit)) (now (lens .exit)) (now (times .exit))) ⌝ }
+        (outputsOf (now (out .exit)) (now (lens .exit)) (now (times .exit)))) ⌝ }
     ensures { λ r. ⌜ r .kind ≡ packet .kind ⌝ }
 {
     let header = packet.header;
@@ -212,9 +220,9 @@ pub(crate) fn step(
 ) -> Stepped
     requires { ⌜ (index * 188 + 188 ≤ length (now segment))
         × Fits extraction (roomsIn (now out) (now lens) (now times)) ⌝ }
-    ensures { λ r. ⌜ PacketTurn current (now (segment .entry)) index tables extraction
+    ensures { λ r. ⌜ ((edition : Edition) → PacketTurn edition (now (segment .entry)) index tables extraction
         (outputsOf (now (out .entry)) (now (lens .entry)) (now (times .entry))) r
-        (outputsOf (now (out .exit)) (now (lens .exit)) (now (times .exit))) ⌝ }
+        (outputsOf (now (out .exit)) (now (lens .exit)) (now (times .exit)))) ⌝ }
 {
     let read = packet::read(packet_at(segment, index));
     match read {

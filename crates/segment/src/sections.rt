@@ -5,7 +5,7 @@ ghost use Prim.Native.Nat.{_≤_};
 ghost use lib.ListN.{length};
 ghost use Rattle.lists.specs.Lists.{Bytes};
 ghost use Rattle.refusal.specs.Number.{numberOf};
-ghost use Rattle.descriptor.specs.Edition.{current};
+ghost use Rattle.descriptor.specs.Edition.{Edition};
 ghost use Rattle.segment_rules.specs.State as state;
 ghost use Rattle.segment_rules.specs.Rules.{laterSection, patSection, pmtSection, sectionRead};
 ghost use Rattle.segment.specs.Parts.{Turns, LiesAt, CarriesOut, kindSays};
@@ -64,7 +64,8 @@ fn later_section(section: &[u8], first: &[u8], why: Refusal) -> Outcome
 // The first PAT, whose section lies at this place of the segment; 25.
 fn first_pat(section: &[u8], at: usize, tables: Tables) -> TablesTurn
     ensures { λ r. ⌜ ((segment : Bytes) → LiesAt segment at (now (section .entry)) → tables .pat ≡ PatSeen.None →
-        CarriesOut current segment tables r (λ t. patSection (t .pat) (now (section .entry)) t)) ⌝ }
+        (edition : Edition) →
+        CarriesOut edition segment tables r (λ t. patSection (t .pat) (now (section .entry)) t)) ⌝ }
 {
     let read = read_pat(section);
     match read {
@@ -78,11 +79,13 @@ fn first_pat(section: &[u8], at: usize, tables: Tables) -> TablesTurn
             let map = Stream::named(says.map_pid);
             let listed = old.listed;
             let counters = Counters { pat, map, listed };
+            let edition = tables.edition;
             let pmt = tables.pmt;
             let program_map = tables.map;
             let pcr = tables.pcr;
             let size = section.len();
             let named = Tables {
+                edition,
                 pat: PatSeen::First(PatFound { says, at, size }),
                 pmt,
                 map: program_map,
@@ -96,8 +99,8 @@ fn first_pat(section: &[u8], at: usize, tables: Tables) -> TablesTurn
 
 // The PAT section, which lies at this place of the segment; 25.
 fn pat_section(segment: &[u8], at: usize, section: &[u8], tables: Tables) -> TablesTurn
-    ensures { λ r. ⌜ (LiesAt (now (segment .entry)) at (now (section .entry)) →
-        CarriesOut current (now (segment .entry)) tables r (λ t. patSection (t .pat) (now (section .entry)) t)) ⌝ }
+    ensures { λ r. ⌜ (LiesAt (now (segment .entry)) at (now (section .entry)) → (edition : Edition) →
+        CarriesOut edition (now (segment .entry)) tables r (λ t. patSection (t .pat) (now (section .entry)) t)) ⌝ }
 {
     let pat = tables.pat;
     match pat {
@@ -126,11 +129,12 @@ fn pids_of(entries: [Entry; 12]) -> [u16; 12]
 // The first PMT of the PAT's program, whose section lies at this place of the segment; 26, 27, 28.
 fn first_pmt(section: &[u8], at: usize, pat: PatFound, tables: Tables) -> TablesTurn
     ensures { λ r. ⌜ ((segment : Bytes) → LiesAt segment at (now (section .entry)) → tables .pmt ≡ PmtSeen.None →
-        tables .pat ≡ PatSeen.First pat →
-        CarriesOut current segment tables r (λ t. pmtSection current (t .pat) (t .pmt) (now (section .entry)) t)) ⌝ }
+        tables .pat ≡ PatSeen.First pat → (edition : Edition) →
+        CarriesOut edition segment tables r (λ t. pmtSection edition (t .pat) (t .pmt) (now (section .entry)) t)) ⌝ }
 {
+    let edition = tables.edition;
     let program = pat.says;
-    let read = read_pmt(section, program.number, program.map_pid);
+    let read = read_pmt(edition, section, program.number, program.map_pid);
     let map = read.map;
     let answer = read.answer;
     match answer {
@@ -154,6 +158,7 @@ fn first_pmt(section: &[u8], at: usize, pat: PatFound, tables: Tables) -> Tables
             let pat_seen = tables.pat;
             let pcr = tables.pcr;
             let named = Tables {
+                edition,
                 pat: pat_seen,
                 pmt: PmtSeen::First(PmtFound { at, size }),
                 map,
@@ -167,9 +172,9 @@ fn first_pmt(section: &[u8], at: usize, pat: PatFound, tables: Tables) -> Tables
 
 // The PMT section, which lies at this place of the segment; 26, 27, 28. Before the PAT it is passed over.
 fn pmt_section(segment: &[u8], at: usize, section: &[u8], tables: Tables) -> TablesTurn
-    ensures { λ r. ⌜ (LiesAt (now (segment .entry)) at (now (section .entry)) →
-        CarriesOut current (now (segment .entry)) tables r
-        (λ t. pmtSection current (t .pat) (t .pmt) (now (section .entry)) t)) ⌝ }
+    ensures { λ r. ⌜ (LiesAt (now (segment .entry)) at (now (section .entry)) → (edition : Edition) →
+        CarriesOut edition (now (segment .entry)) tables r
+        (λ t. pmtSection edition (t .pat) (t .pmt) (now (section .entry)) t)) ⌝ }
 {
     let pat = tables.pat;
     let PatSeen::First(found) = pat else {
@@ -189,9 +194,9 @@ fn pmt_section(segment: &[u8], at: usize, section: &[u8], tables: Tables) -> Tab
 // The payload on PID 0 that lies at this place of the segment; 25.
 fn pat_payload(segment: &[u8], at: usize, payload: &[u8], start: bool, tables: Tables) -> TablesTurn
     requires { ⌜ at ≤ length (now segment) ⌝ }
-    ensures { λ r. ⌜ (LiesAt (now (segment .entry)) at (now (payload .entry)) →
-        CarriesOut current (now (segment .entry)) tables r
-        (sectionRead current state.Pat start (now (payload .entry)))) ⌝ }
+    ensures { λ r. ⌜ (LiesAt (now (segment .entry)) at (now (payload .entry)) → (edition : Edition) →
+        CarriesOut edition (now (segment .entry)) tables r
+        (sectionRead edition state.Pat start (now (payload .entry)))) ⌝ }
 {
     let found = find_section(payload, start);
     match found {
@@ -203,9 +208,9 @@ fn pat_payload(segment: &[u8], at: usize, payload: &[u8], start: bool, tables: T
 // The payload on the map PID that lies at this place of the segment; 26, 27, 28.
 fn pmt_payload(segment: &[u8], at: usize, payload: &[u8], start: bool, tables: Tables) -> TablesTurn
     requires { ⌜ at ≤ length (now segment) ⌝ }
-    ensures { λ r. ⌜ (LiesAt (now (segment .entry)) at (now (payload .entry)) →
-        CarriesOut current (now (segment .entry)) tables r
-        (sectionRead current state.Map start (now (payload .entry)))) ⌝ }
+    ensures { λ r. ⌜ (LiesAt (now (segment .entry)) at (now (payload .entry)) → (edition : Edition) →
+        CarriesOut edition (now (segment .entry)) tables r
+        (sectionRead edition state.Map start (now (payload .entry)))) ⌝ }
 {
     let found = find_section(payload, start);
     match found {
@@ -224,9 +229,9 @@ pub(crate) fn read_section(
     tables: Tables,
 ) -> TablesTurn
     requires { ⌜ at ≤ length (now segment) ⌝ }
-    ensures { λ r. ⌜ (LiesAt (now (segment .entry)) at (now (payload .entry)) →
-        CarriesOut current (now (segment .entry)) tables r
-        (sectionRead current (kindSays kind) start (now (payload .entry)))) ⌝ }
+    ensures { λ r. ⌜ (LiesAt (now (segment .entry)) at (now (payload .entry)) → (edition : Edition) →
+        CarriesOut edition (now (segment .entry)) tables r
+        (sectionRead edition (kindSays kind) start (now (payload .entry)))) ⌝ }
 {
     match kind {
         Kind::Null => pass(tables),

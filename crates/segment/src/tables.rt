@@ -3,7 +3,7 @@ ghost use mathlib.Core.Path.{_≡_};
 ghost use Rattle.pmt.specs.Answer.{noEntry};
 ghost use Prim.Native.Nat.{_+_, _*_, _≤_};
 ghost use lib.ListN.{getD, length};
-ghost use Rattle.descriptor.specs.Edition.{current};
+ghost use Rattle.descriptor.specs.Edition.{Edition as Edition·rules};
 ghost use Rattle.segment.specs.Parts.{freshTables, KindTurn, ListedTurn, PcrTurn, CounterTurn};
 ghost use Rattle.segment_rules.specs.Rules.{isPcr};
 use crate::counters::Counters;
@@ -14,15 +14,16 @@ use crate::state::Packet;
 use crate::state::PatSeen;
 use crate::state::PmtSeen;
 use crate::state::at_place;
+use descriptor::Edition;
 use packet::Clock;
 use packet::Header;
 use packet::Slot;
 use pmt::Entry;
 use pmt::ProgramMap;
-use pmt::Video;
 
-// The first sections, what the first PMT says, the counters, and the last PCR that counted.
+// The edition that is followed, the first sections, what the first PMT says, the counters, and the last PCR that counted.
 pub(crate) struct Tables {
+    pub edition: Edition,
     pub pat: PatSeen,
     pub pmt: PmtSeen,
     pub map: ProgramMap,
@@ -40,23 +41,13 @@ pub(crate) struct TablesTurn {
 const NULL_PID: u16 = 0x1FFF;
 
 // Before the first packet.
-pub(crate) fn fresh_tables() -> Tables
-    ensures { λ r. ⌜ r ≡ freshTables ⌝ }
+pub(crate) fn fresh_tables(edition: Edition) -> Tables
+    ensures { λ r. ⌜ r ≡ freshTables edition ⌝ }
 {
-    let none = Entry {
-        pid: 0,
-        stream_type: 0,
-    };
-    let entries = [none; 12];
-    let map = ProgramMap {
-        pcr_pid: 0,
-        count: 0,
-        entries,
-        av1: 0,
-        video: Video::Absent,
-    };
+    let map = ProgramMap::none();
     let counters = fresh_counters();
     Tables {
+        edition,
         pat: PatSeen::None,
         pmt: PmtSeen::None,
         map,
@@ -77,7 +68,7 @@ pub(crate) fn pid_in(entries: [Entry; 12], slot: usize) -> u16
 
 // What a listed PID is, or that it is not listed; the PAT was seen.
 fn listed_as(tables: Tables, pid: u16) -> Kind
-    ensures { λ r. ⌜ ListedTurn current tables pid r ⌝ }
+    ensures { λ r. ⌜ ((edition : Edition·rules) → ListedTurn edition tables pid r) ⌝ }
 {
     let pmt = tables.pmt;
     let PmtSeen::First(_) = pmt else {
@@ -101,7 +92,7 @@ fn listed_as(tables: Tables, pid: u16) -> Kind
 
 // What a PID is at that moment.
 pub(crate) fn kind_of(tables: Tables, pid: u16) -> Kind
-    ensures { λ r. ⌜ KindTurn current tables pid r ⌝ }
+    ensures { λ r. ⌜ ((edition : Edition·rules) → KindTurn edition tables pid r) ⌝ }
 {
     if pid == NULL_PID {
         return Kind::Null;
@@ -132,7 +123,7 @@ pub(crate) fn is_pcr(pcr: Clock) -> bool
 
 // The last PCR that counted up to this packet.
 fn last_pcr(tables: Tables, header: Header) -> Clock
-    ensures { λ r. ⌜ PcrTurn current tables header r ⌝ }
+    ensures { λ r. ⌜ ((edition : Edition·rules) → PcrTurn edition tables header r) ⌝ }
 {
     let earlier = tables.pcr;
     let pmt = tables.pmt;
@@ -153,19 +144,21 @@ fn last_pcr(tables: Tables, header: Header) -> Clock
 // The packet's PCR counts, and its counter is checked; 24.
 pub(crate) fn check_counter(segment: &[u8], packet: Packet, tables: Tables) -> TablesTurn
     requires { ⌜ packet .index * 188 + 188 ≤ length (now segment) ⌝ }
-    ensures { λ r. ⌜ CounterTurn current (now (segment .entry)) packet tables r ⌝ }
+    ensures { λ r. ⌜ ((edition : Edition·rules) → CounterTurn edition (now (segment .entry)) packet tables r) ⌝ }
 {
     let header = packet.header;
     let pcr = last_pcr(tables, header);
     let old = tables.counters;
     let kind = packet.kind;
     let checked = old.check(kind, old.counted(segment, packet));
+    let edition = tables.edition;
     let pat = tables.pat;
     let pmt = tables.pmt;
     let map = tables.map;
     let counters = checked.counters;
     let outcome = checked.outcome;
     let counted = Tables {
+        edition,
         pat,
         pmt,
         map,

@@ -1,9 +1,11 @@
 // The check of a whole segment.
 ghost use mathlib.Core.Path.{_≡_};
 ghost use mathlib.Core.Bool.{false};
-ghost use Rattle.descriptor.specs.Edition.{current};
-ghost use Rattle.segment_rules.specs.Check.{outputsOf, segmentLengthWrong, roomsOf, outputsAfter, checkSegment};
-ghost use Rattle.segment.specs.Answer.{checking, checkSays};
+ghost use Rattle.descriptor.specs.Edition.{Edition as Edition·rules};
+ghost use Rattle.descriptor.specs.Naming.{editionSays};
+ghost use Rattle.segment_rules.specs.Check.{outputsOf, segmentLengthWrong, roomsOf, outputsAfter, checkSegment, checkIn};
+ghost use Rattle.pmt.specs.Answer.{noMap};
+ghost use Rattle.segment.specs.Answer.{summarised, mapAfter, checking, mapChecked, checkSays};
 ghost use Rattle.segment.specs.Parts.{roomsIn, Fits, AcceptTurn, EndTurn, RunTurn, WholeTurn};
 use crate::extraction::Extraction;
 use crate::extraction::close;
@@ -18,6 +20,9 @@ use crate::state::none_yet;
 use crate::tables::Tables;
 use crate::tables::fresh_tables;
 use crate::tables::pid_in;
+use descriptor::Edition;
+use descriptor::Named;
+use pmt::ProgramMap;
 use refusal::Refusal;
 use refusal::Refused;
 use segment_rules::Totals;
@@ -38,6 +43,12 @@ pub struct Summary {
 pub enum SegmentCheck {
     Accepted(Summary),
     Refused(Refused),
+}
+
+// The answer, and beside it the map of an accepted segment; of a refused one, no map.
+pub struct Checked {
+    pub answer: SegmentCheck,
+    pub map: ProgramMap,
 }
 
 // What the packets have said, with the verdict on them.
@@ -63,14 +74,20 @@ fn length_wrong(segment: &[u8]) -> bool
 }
 
 // The packets in order.
-fn run(segment: &[u8], out: &mut [u8], lens: &mut [usize], times: &mut [u64]) -> Ran
+fn run(
+    edition: Edition,
+    segment: &[u8],
+    out: &mut [u8],
+    lens: &mut [usize],
+    times: &mut [u64],
+) -> Ran
     requires { ⌜ segmentLengthWrong (now segment) ≡ false ⌝ }
-    ensures { λ r. ⌜ RunTurn current (now (segment .entry))
+    ensures { λ r. ⌜ RunTurn (editionSays edition) (now (segment .entry))
         (outputsOf (now (out .entry)) (now (lens .entry)) (now (times .entry))) r
         (outputsOf (now (out .exit)) (now (lens .exit)) (now (times .exit))) ⌝ }
 {
     let count = segment.len() / PACKET_LENGTH;
-    let mut tables = fresh_tables();
+    let mut tables = fresh_tables(edition);
     let mut extraction = fresh_extraction();
     let mut totals = none_yet();
     let mut index: usize = 0;
@@ -99,48 +116,55 @@ fn run(segment: &[u8], out: &mut [u8], lens: &mut [usize], times: &mut [u64]) ->
     }
 }
 
-// All packets, which have passed: 33.
-fn accept(tables: Tables, units: usize, packets: usize, totals: Totals) -> SegmentCheck
-    ensures { λ r. ⌜ AcceptTurn current tables units packets totals r ⌝ }
+fn refuse(refused: Refused) -> Checked
+    ensures { λ r. ⌜ r ≡ record { answer = SegmentCheck.Refused refused; map = noMap } ⌝ }
 {
-    let none = SegmentCheck::Refused(Refusal::NO_TABLES.at(packets));
+    Checked {
+        answer: SegmentCheck::Refused(refused),
+        map: ProgramMap::none(),
+    }
+}
+
+// All packets, which have passed: 33.
+fn accept(tables: Tables, units: usize, packets: usize, totals: Totals) -> Checked
+    ensures { λ r. ⌜ ((edition : Edition·rules) → AcceptTurn edition tables units packets totals r) ⌝ }
+{
+    let none = Refusal::NO_TABLES.at(packets);
     let pat = tables.pat;
     let PatSeen::First(first) = pat else {
-        return none;
+        return refuse(none);
     };
     let pmt = tables.pmt;
     let PmtSeen::First(_) = pmt else {
-        return none;
+        return refuse(none);
     };
     let program = first.says;
     let map = tables.map;
     let entries = map.entries;
-    SegmentCheck::Accepted(Summary {
+    let summary = Summary {
         program: program.number,
         pid: pid_in(entries, map.av1),
         units,
         totals,
-    })
+    };
+    Checked {
+        answer: SegmentCheck::Accepted(summary),
+        map,
+    }
 }
 
 // After the last packet the open PES closes, then 33.
-fn finish(
-    ran: Ran,
-    packets: usize,
-    out: &[u8],
-    lens: &mut [usize],
-    times: &mut [u64],
-) -> SegmentCheck
+fn finish(ran: Ran, packets: usize, out: &[u8], lens: &mut [usize], times: &mut [u64]) -> Checked
     requires { ⌜ Fits (ran .extraction) (roomsIn (now out) (now lens) (now times)) ⌝ }
-    ensures { λ r. ⌜ EndTurn current ran packets
+    ensures { λ r. ⌜ ((edition : Edition·rules) → EndTurn edition ran packets
         (outputsOf (now (out .entry)) (now (lens .entry)) (now (times .entry))) r
-        (outputsOf (now (out .entry)) (now (lens .exit)) (now (times .exit))) ⌝ }
+        (outputsOf (now (out .entry)) (now (lens .exit)) (now (times .exit)))) ⌝ }
 {
     let last = ran.extraction;
     let closed = close(last, out, lens, times);
     let outcome = closed.outcome;
     match outcome {
-        Outcome::Refused(refused) => SegmentCheck::Refused(refused),
+        Outcome::Refused(refused) => refuse(refused),
         Outcome::Passed => {
             let extraction = closed.extraction;
             let tables = ran.tables;
@@ -151,38 +175,80 @@ fn finish(
 }
 
 // The verdict on a segment, and its units in the outputs.
-fn judge(segment: &[u8], out: &mut [u8], lens: &mut [usize], times: &mut [u64]) -> SegmentCheck
-    ensures { λ r. ⌜ WholeTurn current (now (segment .entry))
+fn judge(
+    edition: Edition,
+    segment: &[u8],
+    out: &mut [u8],
+    lens: &mut [usize],
+    times: &mut [u64],
+) -> Checked
+    ensures { λ r. ⌜ WholeTurn (editionSays edition) (now (segment .entry))
         (outputsOf (now (out .entry)) (now (lens .entry)) (now (times .entry))) r
         (outputsOf (now (out .exit)) (now (lens .exit)) (now (times .exit))) ⌝ }
 {
     if length_wrong(segment) {
-        return SegmentCheck::Refused(Refusal::SEGMENT_LENGTH.at(0));
+        return refuse(Refusal::SEGMENT_LENGTH.at(0));
     }
-    let ran = run(segment, out, lens, times);
+    let ran = run(edition, segment, out, lens, times);
     let outcome = ran.outcome;
     match outcome {
-        Outcome::Refused(refused) => SegmentCheck::Refused(refused),
+        Outcome::Refused(refused) => refuse(refused),
         Outcome::Passed => finish(ran, segment.len() / PACKET_LENGTH, out, lens, times),
     }
 }
 
-// The check of a segment: its units over the front of out, their lengths over the front of lens, their times in turn
-// over the front of times; where the segment is refused, zeros throughout all three.
-pub fn check(segment: &[u8], out: &mut [u8], lens: &mut [usize], times: &mut [u64]) -> SegmentCheck
-    ensures { λ r. ⌜ checkSays r ≡ checking current
-        (roomsOf (outputsOf (now (out .entry)) (now (lens .entry)) (now (times .entry)))) (now (segment .entry)) ⌝ }
+// The check of a segment in this edition.
+fn check_in(
+    edition: Edition,
+    segment: &[u8],
+    out: &mut [u8],
+    lens: &mut [usize],
+    times: &mut [u64],
+) -> Checked
+    ensures { λ r. ⌜ checkSays (r .answer) ≡ summarised (checkSegment (editionSays edition)
+        (roomsOf (outputsOf (now (out .entry)) (now (lens .entry)) (now (times .entry)))) (now (segment .entry))) ⌝ }
+    ensures { λ r. ⌜ r .map ≡ mapAfter (editionSays edition) (checkSegment (editionSays edition)
+        (roomsOf (outputsOf (now (out .entry)) (now (lens .entry)) (now (times .entry)))) (now (segment .entry))) ⌝ }
     ensures { λ _. ⌜ outputsOf (now (out .exit)) (now (lens .exit)) (now (times .exit))
-        ≡ outputsAfter (checkSegment current
+        ≡ outputsAfter (checkSegment (editionSays edition)
         (roomsOf (outputsOf (now (out .entry)) (now (lens .entry)) (now (times .entry)))) (now (segment .entry)))
         (outputsOf (now (out .entry)) (now (lens .entry)) (now (times .entry))) ⌝ }
 {
-    let answer = judge(segment, out, lens, times);
+    let checked = judge(edition, segment, out, lens, times);
+    let answer = checked.answer;
     match answer {
-        SegmentCheck::Accepted(_) => answer,
+        SegmentCheck::Accepted(_) => checked,
         SegmentCheck::Refused(_) => {
             clear(out, lens, times);
-            answer
+            checked
+        }
+    }
+}
+
+// The check of a segment in the edition of this number: its units over the front of out, their lengths over the front
+// of lens, their times in turn over the front of times; where the segment is refused, zeros throughout all three.
+pub fn check(
+    edition: u64,
+    segment: &[u8],
+    out: &mut [u8],
+    lens: &mut [usize],
+    times: &mut [u64],
+) -> Checked
+    ensures { λ r. ⌜ checkSays (r .answer) ≡ checking edition
+        (roomsOf (outputsOf (now (out .entry)) (now (lens .entry)) (now (times .entry)))) (now (segment .entry)) ⌝ }
+    ensures { λ r. ⌜ r .map ≡ mapChecked edition
+        (roomsOf (outputsOf (now (out .entry)) (now (lens .entry)) (now (times .entry)))) (now (segment .entry)) ⌝ }
+    ensures { λ _. ⌜ outputsOf (now (out .exit)) (now (lens .exit)) (now (times .exit))
+        ≡ outputsAfter (checkIn edition
+        (roomsOf (outputsOf (now (out .entry)) (now (lens .entry)) (now (times .entry)))) (now (segment .entry)))
+        (outputsOf (now (out .entry)) (now (lens .entry)) (now (times .entry))) ⌝ }
+{
+    let named = Edition::named(edition);
+    match named {
+        Named::Edition(known) => check_in(known, segment, out, lens, times),
+        Named::Refused(unknown) => {
+            clear(out, lens, times);
+            refuse(unknown)
         }
     }
 }

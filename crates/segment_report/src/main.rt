@@ -86,8 +86,9 @@ fn main() {
     let mut out = unit_buffer();
     let mut lens = [0usize; MOST_UNITS];
     let mut times = [0u64; 2048];
-    let checked = segment::check(&bytes[..n], &mut out, &mut lens, &mut times);
-    match checked {
+    let checked = segment::check(0, &bytes[..n], &mut out, &mut lens, &mut times);
+    let answer = checked.answer;
+    match answer {
         SegmentCheck::Refused(refused) => print_refused(refused),
         SegmentCheck::Accepted(summary) => {
             print_accepted(summary);

@@ -122,6 +122,7 @@ const SEGMENTS: &[&Definition] = &[
     &segment_closing::SUITE,
     &segment_limits::SUITE,
     &segment_damaged::SUITE,
+    &segment::editions::SUITE,
 ];
 
 /// The suites that run: those of functions that the library exports. With the reference in both

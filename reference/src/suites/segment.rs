@@ -1,6 +1,7 @@
 //! The check of a segment, compared with the reference, and what suites of segments share.
 
 pub mod copies;
+pub mod editions;
 
 use super::under_test::{self, segment_answer};
 use crate::kit::{Given, Lent, Suite};
@@ -35,14 +36,41 @@ impl Caller {
         more: &[&str],
         intended: impl FnOnce(&Verdict) -> bool,
     ) {
+        self.compare(suite, None, segment, rooms, more, intended);
+    }
+
+    /// The same by the function that takes an edition.
+    pub fn check_edition(
+        &mut self,
+        suite: &mut Suite,
+        edition: u64,
+        segment: &[u8],
+        rooms: Rooms,
+        more: &[&str],
+        intended: impl FnOnce(&Verdict) -> bool,
+    ) {
+        self.compare(suite, Some(edition), segment, rooms, more, intended);
+    }
+
+    fn compare(
+        &mut self,
+        suite: &mut Suite,
+        edition: Option<u64>,
+        segment: &[u8],
+        rooms: Rooms,
+        more: &[&str],
+        intended: impl FnOnce(&Verdict) -> bool,
+    ) {
         self.given.give(segment);
-        let got = under_test::check_segment(
-            self.given.part(),
-            self.bytes.lend(rooms.bytes),
-            self.lengths.lend(rooms.lengths),
-            self.times.lend(rooms.times),
-        );
-        let verdict = segment::check(segment, rooms);
+        let bytes = self.given.part();
+        let out = self.bytes.lend(rooms.bytes);
+        let lengths = self.lengths.lend(rooms.lengths);
+        let times = self.times.lend(rooms.times);
+        let got = match edition {
+            None => under_test::check_segment(bytes, out, lengths, times),
+            Some(edition) => under_test::check_segment_edition(edition, bytes, out, lengths, times),
+        };
+        let verdict = segment::check_edition(edition.unwrap_or(0), segment, rooms);
         let expected = segment_answer(&verdict);
         let closing;
         let label = match &verdict {
@@ -67,7 +95,7 @@ impl Caller {
         let passed = got == expected && outputs && is_intended && self.given.unchanged(segment);
         suite.case(&[more, &[label]].concat(), passed, || {
             format!(
-                "{rooms:?}: expected {expected:?}, got {got:?}, outputs {}{}; {}",
+                "edition {edition:?}, {rooms:?}: expected {expected:?}, got {got:?}, outputs {}{}; {}",
                 if outputs { "right" } else { "or guards wrong" },
                 if is_intended { "" } else { ", not as intended" },
                 packets_text(segment)

@@ -62,12 +62,25 @@ pub fn check_segment(
     if library() {
         return av1ts::segment::check_segment(bytes, out, lengths, times);
     }
+    check_segment_edition(0, bytes, out, lengths, times)
+}
+
+pub fn check_segment_edition(
+    edition: u64,
+    bytes: &[u8],
+    out: &mut [u8],
+    lengths: &mut [usize],
+    times: &mut [u64],
+) -> Segment {
+    if library() {
+        return av1ts::segment::check_segment_edition(edition, bytes, out, lengths, times);
+    }
     let rooms = Rooms {
         bytes: out.len(),
         lengths: lengths.len(),
         times: times.len(),
     };
-    let verdict = segment::check(bytes, rooms);
+    let verdict = segment::check_edition(edition, bytes, rooms);
     match &verdict {
         Err(_) => {
             out.fill(0);

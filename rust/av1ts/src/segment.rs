@@ -27,6 +27,17 @@ extern "C" {
         times: *mut u64,
         times_len: usize,
     ) -> Segment;
+    fn av1ts_check_segment_edition(
+        edition: u64,
+        segment: *const u8,
+        len: usize,
+        out: *mut u8,
+        out_len: usize,
+        lengths: *mut usize,
+        lengths_len: usize,
+        times: *mut u64,
+        times_len: usize,
+    ) -> Segment;
 }
 
 /// Writes the carried units back to back to the front of `out`, their lengths to the front of
@@ -41,6 +52,32 @@ pub fn check_segment(
     // SAFETY: the slices are valid for their lengths and none overlaps another.
     unsafe {
         av1ts_check_segment(
+            segment.as_ptr(),
+            segment.len(),
+            out.as_mut_ptr(),
+            out.len(),
+            lengths.as_mut_ptr(),
+            lengths.len(),
+            times.as_mut_ptr(),
+            times.len(),
+        )
+    }
+}
+
+/// The same in an edition: 0 current, 1 draft, any other is number 44. Under draft a unit without
+/// times has 8,589,934,592 for both.
+pub fn check_segment_edition(
+    edition: u64,
+    segment: &[u8],
+    out: &mut [u8],
+    lengths: &mut [usize],
+    times: &mut [u64],
+) -> Segment {
+    // SAFETY: the slices are valid for their lengths and none overlaps another; the C side takes any
+    // edition.
+    unsafe {
+        av1ts_check_segment_edition(
+            edition,
             segment.as_ptr(),
             segment.len(),
             out.as_mut_ptr(),

@@ -3,6 +3,18 @@
 use super::{MOST_SEGMENT_BYTES, MOST_UNITS, Refused};
 use crate::segment;
 
+/// The edition that a segment is checked by.
+#[derive(Clone, Copy, Debug, PartialEq, Eq)]
+pub enum Edition {
+    Current,
+    /// For recordings made to the draft of 2018: the registration is 'AV1 ', a descriptor of tag
+    /// 0x80 is not looked at, and a unit may have no times.
+    Draft,
+}
+
+/// Both times of a unit that has none, as the draft allows it.
+pub const NO_TIME: u64 = 8_589_934_592;
+
 /// The packets of a segment in five classes.
 #[derive(Clone, Copy, Debug, PartialEq, Eq)]
 pub struct Packets {
@@ -13,7 +25,8 @@ pub struct Packets {
     pub unlisted: usize,
 }
 
-/// An access unit as carried, and its times in ticks of 90 kHz.
+/// An access unit as carried, and its times in ticks of 90 kHz; both are `NO_TIME` where a draft
+/// recording has none.
 #[derive(Clone, Copy, Debug, PartialEq, Eq)]
 pub struct AccessUnit<'a> {
     pub carried: &'a [u8],
@@ -68,10 +81,29 @@ impl Segment {
 /// # Ok::<(), Box<dyn std::error::Error>>(())
 /// ```
 pub fn check_segment(packets: &[u8]) -> Result<Segment, Refused> {
+    check_segment_edition(Edition::Current, packets)
+}
+
+/// The same in an edition.
+///
+/// ```
+/// use av1ts::Edition;
+/// # let clip = concat!(env!("CARGO_MANIFEST_DIR"), "/../../samples/clip.ts");
+/// let packets = std::fs::read(clip)?;
+/// let current = av1ts::check_segment_edition(Edition::Current, &packets)?;
+/// assert_eq!(current, av1ts::check_segment(&packets)?);
+/// // the sample is no draft recording: its PMT has no AV1 stream of that edition
+/// let refused = av1ts::check_segment_edition(Edition::Draft, &packets).unwrap_err();
+/// assert_eq!(refused.why, av1ts::Refusal::Av1Entry);
+/// # Ok::<(), Box<dyn std::error::Error>>(())
+/// ```
+pub fn check_segment_edition(edition: Edition, packets: &[u8]) -> Result<Segment, Refused> {
     let mut bytes = vec![0; packets.len().min(MOST_SEGMENT_BYTES)];
     let mut lengths = vec![0; MOST_UNITS];
     let mut times = vec![0; 2 * MOST_UNITS];
-    let answer = segment::check_segment(packets, &mut bytes, &mut lengths, &mut times);
+    let edition = edition.number();
+    let answer =
+        segment::check_segment_edition(edition, packets, &mut bytes, &mut lengths, &mut times);
     Refused::check(answer.number, answer.place)?;
     let units = answer.units as usize;
     lengths.truncate(units);
@@ -91,4 +123,14 @@ pub fn check_segment(packets: &[u8]) -> Result<Segment, Refused> {
         lengths,
         times,
     })
+}
+
+impl Edition {
+    /// Its number.
+    pub fn number(self) -> u64 {
+        match self {
+            Edition::Current => 0,
+            Edition::Draft => 1,
+        }
+    }
 }

@@ -5,16 +5,17 @@ use mathlib.Core.Path.{sym, ap, _∙_}
 use native.Mathlib.Omega.{arith}
 use borrow.Author.Needs.{needs}
 use lib.ListN.{length}
+use Rattle.descriptor.specs.Naming.{editionSays}
 use Rattle.pmt.specs.Parts.{triedSays}
 use Rattle.pmt.proofs.Turns.{Turned, turn-start, turn-end, turn-full, turn-refused, turn-within, turn-further, turn-next}
 use Rattle.pmt.proofs.listing.list_entries.Statement.{statement}
 use Rattle.pmt.proofs.listing.list_entries.Tie as tie
 
 abbrev Inv-loop : tie.InvT-loop
-Inv-loop s map-pid entries₀ av1₀ count₀ at₀ entries av1 count at = Turned map-pid s entries av1 count at
+Inv-loop edition s map-pid entries₀ av1₀ count₀ at₀ entries av1 count at = Turned (editionSays edition) map-pid s entries av1 count at
 
 abbrev μ-loop : tie.MeasureT-loop
-μ-loop s map-pid entries₀ av1₀ count₀ at₀ entries av1 count at = length s - at
+μ-loop edition s map-pid entries₀ av1₀ count₀ at₀ entries av1 count at = length s - at
 
 loop-holds : tie.Need-loop-holds Inv-loop μ-loop
 loop-holds c = turn-start _ _

@@ -8,7 +8,7 @@ use Rattle.pmt.proofs.listing.try_entry.Statement.{statement}
 use Rattle.pmt.proofs.listing.try_entry.Tie as tie
 
 returns : tie.Need-returns
-returns c = few-bytes _ _ _ (c .if1 .taken)
+returns c = few-bytes _ _ _ _ (c .if1 .taken)
 
 shared-slice-read-length-field : tie.Need-shared-slice-read-length-field
 shared-slice-read-length-field c = search needs
@@ -23,7 +23,7 @@ add-size : tie.Need-add-size
 add-size c = omega (arith, c .length-field .ensures, c .before .shared-slice-known3 .given 4)
 
 returns-2 : tie.Need-returns-2
-returns-2 c = cut-short _ _ _ (c .before .before .before .before .if1 .left) _ (c .before .length-field .ensures) (c .if2 .taken)
+returns-2 c = cut-short _ _ _ _ (c .before .before .before .before .if1 .left) _ (c .before .length-field .ensures) (c .if2 .taken)
 
 sub-read-loop : tie.Need-sub-read-loop
 sub-read-loop c = search needs
@@ -47,7 +47,7 @@ returns-3 : tie.Need-returns-3
 returns-3 c =
     let r = c .before .before in
     let i = r .before .before in
-    unfilled _ _ _ (i .before .before .before .before .if1 .left) _ (i .before .length-field .ensures) (i .if2 .left)
+    unfilled _ _ _ _ (i .before .before .before .before .if1 .left) _ (i .before .length-field .ensures) (i .if2 .left)
     (sym (r .read-loop .ensures) ∙ ap loopSays (c .enum-told .given .1))
 
 shared-slice-read-pid-field : tie.Need-shared-slice-read-pid-field
@@ -68,7 +68,7 @@ returns-4 c =
     let k = p .before .before .before .before in
     let r = k .before .before in
     let i = r .before .before in
-    pid-refused _ _ _ (i .before .before .before .before .if1 .left) _ (i .before .length-field .ensures) (i .if2 .left) _
+    pid-refused _ _ _ _ (i .before .before .before .before .if1 .left) _ (i .before .length-field .ensures) (i .if2 .left) _
     (sym (r .read-loop .ensures) ∙ ap loopSays (k .read .given .1)) _ (p .pid-field .ensures) (sym (c .before .pid-wrong .ensures) ∙ c .if3 .taken)
 
 shared-slice-read-stream-type : tie.Need-shared-slice-read-stream-type
@@ -84,7 +84,7 @@ returns-5 c =
     let k = p .before .before .before .before in
     let r = k .before .before in
     let i = r .before .before in
-    entry-passed _ _ _ (i .before .before .before .before .if1 .left) _ (i .before .length-field .ensures) (i .if2 .left) _
+    entry-passed _ _ _ _ (i .before .before .before .before .if1 .left) _ (i .before .length-field .ensures) (i .if2 .left) _
     (sym (r .read-loop .ensures) ∙ ap loopSays (k .read .given .1)) _ (p .pid-field .ensures) (sym (w .pid-wrong .ensures) ∙ c .before .before .if3 .left) _
     (c .kind-from .ensures)
 

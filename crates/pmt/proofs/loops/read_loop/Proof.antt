@@ -4,15 +4,16 @@ use Prim.Native.Nat.{ℕ, _+_, _-_}
 use mathlib.Core.Path.{ap}
 use borrow.Author.Needs.{needs}
 use lib.ListN.{length}
+use Rattle.descriptor.specs.Naming.{editionSays}
 use Rattle.pmt.proofs.Descriptors.{Walked, walk-start, walk-end, walk-short, walk-next}
 use Rattle.pmt.proofs.loops.read_loop.Statement.{statement}
 use Rattle.pmt.proofs.loops.read_loop.Tie as tie
 
 abbrev Inv-loop : tie.InvT-loop
-Inv-loop s found₀ at₀ found at = Walked s found at
+Inv-loop edition s found₀ at₀ found at = Walked (editionSays edition) s found at
 
 abbrev μ-loop : tie.MeasureT-loop
-μ-loop s found₀ at₀ found at = length s - at
+μ-loop edition s found₀ at₀ found at = length s - at
 
 loop-holds : tie.Need-loop-holds Inv-loop μ-loop
 loop-holds c = walk-start _

@@ -13,14 +13,14 @@ with-video-requires : tie.Need-with-video-requires
 with-video-requires c κs = search needs
 
 returns : tie.Need-returns
-returns c = as-first _ _ _ _ _ (c .if1 .taken) (c .before .before .is-registration .ensures) (c .before .with-video .ensures)
+returns c = as-first _ _ _ _ _ _ (c .if1 .taken) (c .before .before .is-registration .ensures) (c .before .with-video .ensures)
 
 returns-2 : tie.Need-returns-2
-returns-2 c = as-later _ _ _ _ _ (c .before .if1 .left) (or-by-true _ (c .if2 .taken) refl) (c .before .before .with-video .ensures)
+returns-2 c = as-later _ _ _ _ _ _ (c .before .if1 .left) (or-by-true _ (c .if2 .taken) refl) (c .before .before .with-video .ensures)
 
 returns-3 : tie.Need-returns-3
 returns-3 c =
-    as-later _ _ _ _ _ (c .before .if1 .left) (or-by-false (c .if2 .left) (c .before .before .before .is-registration .ensures))
+    as-later _ _ _ _ _ _ (c .before .if1 .left) (or-by-false (c .if2 .left) (c .before .before .before .is-registration .ensures))
     (c .before .before .with-video .ensures)
 
 pub with-descriptor-spec : {M : Type 1} → statement M

@@ -29,7 +29,7 @@ refuse-requires c κs = search needs
 returns : tie.Need-returns
 returns c =
     let n = c .before .before in (
-      c .refuse .ensures .0 ∙ info-cut _ _ (n .before .before .before .before .pre) _ (n .length-field .ensures) (c .before .if1 .taken),
+      c .refuse .ensures .0 ∙ info-cut _ _ _ (n .before .before .before .before .pre) _ (n .length-field .ensures) (c .before .if1 .taken),
       refused-beside (c .refuse .result) _ (c .refuse .ensures .0) (c .refuse .ensures .1),
     )
 
@@ -60,7 +60,7 @@ returns-2 c =
     let i = r .before .before in
     let n = i .before in (
       c .refuse2 .ensures .0
-          ∙ info-unfilled _ _ (n .before .before .before .before .pre) _ (n .length-field .ensures) (i .if1 .left)
+          ∙ info-unfilled _ _ _ (n .before .before .before .before .pre) _ (n .length-field .ensures) (i .if1 .left)
           (sym (r .read-loop .ensures) ∙ ap loopSays (c .before .enum-told2 .given .1)),
       refused-beside (c .refuse2 .result) _ (c .refuse2 .ensures .0) (c .refuse2 .ensures .1),
     )
@@ -103,7 +103,7 @@ returns-3 c =
     let i = r .before .before in
     let n = i .before in (
       c .refuse3 .ensures .0
-          ∙ entries-refused _ _ (n .before .before .before .before .pre) _ (n .length-field .ensures) (i .if1 .left) _
+          ∙ entries-refused _ _ _ (n .before .before .before .before .pre) _ (n .length-field .ensures) (i .if1 .left) _
           (sym (r .read-loop .ensures) ∙ ap loopSays (f .enum-told .given .1)) _
           (sym (l .list-entries .ensures) ∙ ap (λ (a : ListAnswer). listAnswer a (l .list-entries .result)) (c .before .before .answer .given .1)),
       refused-beside (c .refuse3 .result) _ (c .refuse3 .ensures .0) (c .refuse3 .ensures .1),
@@ -118,7 +118,7 @@ returns-4 c =
     let i = r .before .before in
     let n = i .before in (
       c .map-listed .ensures .0
-          ∙ entries-passed _ _ (n .before .before .before .before .pre) _ (n .length-field .ensures) (i .if1 .left) _
+          ∙ entries-passed _ _ _ (n .before .before .before .before .pre) _ (n .length-field .ensures) (i .if1 .left) _
           (sym (r .read-loop .ensures) ∙ ap loopSays (f .enum-told .given .1)) _
           (sym (l .list-entries .ensures) ∙ ap (λ (a : ListAnswer). listAnswer a (l .list-entries .result)) (k .enum-told3 .given .1)) _ (c .before .pid-field .ensures),
       c .map-listed .ensures .1,

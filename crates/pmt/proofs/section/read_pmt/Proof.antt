@@ -24,7 +24,7 @@ refuse-requires c κs = search needs
 
 returns : tie.Need-returns
 returns c = (
-  c .refuse .ensures .0 ∙ refuse 26 _ (sym (c .before .before .common-wrong .ensures) ∙ c .before .if1 .taken) ∙ sym (section-map _ _ _),
+  c .refuse .ensures .0 ∙ refuse 26 _ (sym (c .before .before .common-wrong .ensures) ∙ c .before .if1 .taken) ∙ sym (section-map _ _ _ _),
   refused-beside (c .refuse .result) _ (c .refuse .ensures .0) (c .refuse .ensures .1),
 )
 
@@ -46,7 +46,7 @@ returns-2 c =
     let n = c .before .before in (
       c .refuse2 .ensures .0
           ∙ pass-on 26 (sym (i .before .common-wrong .ensures) ∙ i .if1 .left)
-          (refuse 26 _ (ap not (ne-eqb _ _ (λ e. c .before .if2 .taken (n .program-number .ensures ∙ e))))) ∙ sym (section-map _ _ _),
+          (refuse 26 _ (ap not (ne-eqb _ _ (λ e. c .before .if2 .taken (n .program-number .ensures ∙ e))))) ∙ sym (section-map _ _ _ _),
       refused-beside (c .refuse2 .result) _ (c .refuse2 .ensures .0) (c .refuse2 .ensures .1),
     )
 
@@ -58,7 +58,7 @@ returns-3 c =
     let i = c .before .before .before .before .before in
     let n = c .before .before in (
       pass-on 26 (sym (i .before .common-wrong .ensures) ∙ i .if1 .left)
-          (pass-on 26 (ap not (eq-eqb _ _ (sym (n .program-number .ensures) ∙ c .before .if2 .left))) (c .read-body .ensures .0)) ∙ sym (section-map _ _ _),
+          (pass-on 26 (ap not (eq-eqb _ _ (sym (n .program-number .ensures) ∙ c .before .if2 .left))) (c .read-body .ensures .0)) ∙ sym (section-map _ _ _ _),
       c .read-body .ensures .1,
     )
 

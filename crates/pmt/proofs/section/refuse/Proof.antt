@@ -1,10 +1,14 @@
 -- The fields, as they are made.
 use mathlib.Core.Path.{refl}
+use borrow.Author.Needs.{needs}
 use Rattle.pmt.proofs.section.refuse.Statement.{statement}
 use Rattle.pmt.proofs.section.refuse.Tie as tie
 
+none-requires : tie.Need-none-requires
+none-requires c κs = search needs
+
 returns : tie.Need-returns
-returns c = (refl, refl)
+returns c = (refl, c .none .ensures)
 
 pub refuse-spec : {M : Type 1} → statement M
-refuse-spec = tie.close (tie.spec returns)
+refuse-spec = tie.close (tie.spec none-requires returns)

@@ -5,7 +5,6 @@ use native.Mathlib.Omega.{arith}
 use Prim.Native.Nat.{_+_}
 use mathlib.Core.Path.{sym, ap, _∙_}
 use Rattle.lists.proofs.Parts.{tail-placed}
-use Rattle.descriptor.specs.Edition.{current}
 use Rattle.segment.specs.declared.extraction.ExtractionTurn.{ExtractionTurn}
 use Rattle.segment.proofs.Turning.{turn-refused}
 use Rattle.segment.proofs.Extracting.{adds-closed, adds-unseen, adds-bytes, adds-right}
@@ -22,19 +21,20 @@ refuse-requires : tie.Need-refuse-requires
 refuse-requires c κs = search needs
 
 returns : tie.Need-returns
-returns c lens times before p st is k s =
+returns c edition lens times before p st is k s =
     turn-refused _ _ (c .refuse .result .outcome) _ (ap (λ (t : ExtractionTurn). t .outcome) (c .refuse .ensures))
-    (sym (adds-closed current (c .before .before .before .before .before .args .index) p
+    (sym (adds-closed edition (c .before .before .before .before .before .args .arrival .index) p
     (c .before .before .before .before .before .args .payload .now) st is s (c .before .enum-told .given .1)))
 
 refuse-requires-2 : tie.Need-refuse-requires-2
 refuse-requires-2 c κs = search needs
 
 returns-2 : tie.Need-returns-2
-returns-2 c lens times before p st is k s =
+returns-2 c edition lens times before p st is k s =
     turn-refused _ _ (c .refuse2 .result .outcome) _ (ap (λ (t : ExtractionTurn). t .outcome) (c .refuse2 .ensures))
-    (sym (adds-unseen current (c .before .before .before .before .before .before .before .args .index) p
-    (c .before .before .before .before .before .before .before .args .payload .now) st is s _ (c .before .before .before .pes .given .1)
+    (sym (adds-unseen edition (c .before .before .before .before .before .before .before .before .args .arrival .index) p
+    (c .before .before .before .before .before .before .before .before .args .payload .now) st is s _
+    (c .before .before .before .before .pes .given .1)
     (k ∙ not-true _ (c .before .if1 .taken))))
 
 add-written : tie.Need-add-written
@@ -47,11 +47,11 @@ refuse-requires-3 : tie.Need-refuse-requires-3
 refuse-requires-3 c κs = search needs
 
 returns-3 : tie.Need-returns-3
-returns-3 c lens times before p st is k s =
+returns-3 c edition lens times before p st is k s =
     turn-refused _ _ (c .refuse3 .result .outcome) _ (ap (λ (t : ExtractionTurn). t .outcome) (c .refuse3 .ensures))
-    (sym (adds-bytes current (c .before .before .before .before .before .before .before .before .before .args .index) p
-    (c .before .before .before .before .before .before .before .before .before .args .payload .now) st is s _
-    (c .before .before .before .before .before .pes .given .1) (k ∙ not-false _ (c .before .before .before .if1 .left)) (omega arith)))
+    (sym (adds-bytes edition (c .before .before .before .before .before .before .before .before .before .before .args .arrival .index) p
+    (c .before .before .before .before .before .before .before .before .before .before .args .payload .now) st is s _
+    (c .before .before .before .before .before .before .pes .given .1) (k ∙ not-false _ (c .before .before .before .if1 .left)) (omega arith)))
 
 sub-copy : tie.Need-sub-copy
 sub-copy c = search needs
@@ -65,19 +65,19 @@ part-copy-end c = search needs
 copy-requires : tie.Need-copy-requires
 copy-requires c κs = search needs
 
-add-t13 : tie.Need-add-t13
-add-t13 c = search needs
+add-t12 : tie.Need-add-t12
+add-t12 c = search needs
 
 same-length : tie.Need-same-length
 same-length c = search needs
 
 returns-4 : tie.Need-returns-4
-returns-4 c lens times before p st is k s =
-    let begin = c .before .before .before .before .before .before .before .before .before .before .before .before .before in
+returns-4 c edition lens times before p st is k s =
+    let begin = c .before .before .before .before .before .before .before .before .before .before .before .before .before .before in
     let a = begin .args in
     let e = a .extraction in
-    adds-right current (a .index) p (a .payload .now) st is s _
-    (c .before .before .before .before .before .before .before .before .before .pes .given .1)
+    adds-right edition (a .arrival .index) p (a .payload .now) st is s _
+    (c .before .before .before .before .before .before .before .before .before .before .pes .given .1)
     (k ∙ not-false _ (c .before .before .before .before .before .before .before .if1 .left)) (omega arith)
     (tail-placed (e .start + e .bytes) (a .out .now) (a .payload .now) _ (begin .pre) (c .before .before .before .copy .ensures))
 
@@ -99,6 +99,6 @@ add-spec =
     part-copy-start
     part-copy-end
     copy-requires
-    add-t13
+    add-t12
     same-length
     returns-4)

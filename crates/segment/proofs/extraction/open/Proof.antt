@@ -33,7 +33,7 @@ returns : tie.Need-returns
 returns c before lens times p st r is k closed s =
     let a = c .before .before .before .before .before .before .before .args in
     turn-refused _ _ (c .at-place .result) _ (c .at-place .ensures)
-    (sym (opens-wrong (a .index) p (a .payload .now) st before is _ _
+    (sym (opens-wrong _ (a .arrival .index) p (a .payload .now) st before is _ _
     (sym (c .before .before .before .before .read .ensures) ∙ ap pesSays (c .before .before .read2 .given .1))))
 
 same-length : tie.Need-same-length

@@ -2,10 +2,10 @@
 use borrow.Author.Needs.{needs}
 use native.Mathlib.Omega.{arith}
 use Prim.Native.Nat.{_+_}
-use mathlib.Core.Path.{refl, sym, ap, subst}
+use mathlib.Core.Path.{refl, sym, ap, subst, _∙_}
 use lib.ListN.{length}
 use Rattle.lists.proofs.Parts.{tail-placed}
-use Rattle.descriptor.specs.Edition.{current}
+use Rattle.descriptor.specs.Naming.{editionSays}
 use Rattle.segment_rules.specs.Rules.{payloadRules}
 use Rattle.segment_rules.specs.Check.{outputsOf, roomsOf}
 use Rattle.segment.specs.declared.extraction.ExtractionTurn.{ExtractionTurn}
@@ -16,43 +16,42 @@ use Rattle.segment_rules.specs.State as state
 use Rattle.segment.proofs.extraction.open_with.Statement.{statement}
 use Rattle.segment.proofs.extraction.open_with.Tie as tie
 
-enum-told : tie.Need-enum-told
-enum-told c = search needs
-
-enum-told-2 : tie.Need-enum-told-2
-enum-told-2 c = search needs
+untimed-requires : tie.Need-untimed-requires
+untimed-requires c κs = search needs
 
 refuse-requires : tie.Need-refuse-requires
 refuse-requires c κs = search needs
 
 returns : tie.Need-returns
 returns c w read lent before lens times p st r is k closed s =
-    subst (λ (x : ExtractionTurn). PesTurn before (payloadRules current (roomsOf before)
-    (c .before .before .before .before .before .before .args .found .first) p state.Av1) st x
-    (outputsOf (c .before .before .before .before .before .before .args .out .now) lens times)) (sym (c .refuse .ensures))
-    (opens-untimed (c .before .before .before .before .before .before .args .found .first) p w st before is
-    (c .before .before .before .before .before .before .args .found .header) read (c .before .enum-told2 .given .1))
+    let a = c .before .before .before .before .before .args in
+    let edition = editionSays (a .arrival .edition) in
+    let i = a .arrival .index in
+    subst (λ (x : ExtractionTurn). PesTurn before (payloadRules edition (roomsOf before) i p state.Av1) st x
+    (outputsOf (a .out .now) lens times)) (sym (c .refuse .ensures))
+    (opens-untimed edition i p w st before is (a .header) read (sym (c .before .before .untimed .ensures) ∙ c .before .if1 .taken))
 
 may-open-requires : tie.Need-may-open-requires
 may-open-requires c κs = search needs
 
-enum-told-3 : tie.Need-enum-told-3
-enum-told-3 c = search needs
+enum-told : tie.Need-enum-told
+enum-told c = search needs
 
-enum-told-4 : tie.Need-enum-told-4
-enum-told-4 c = search needs
+enum-told-2 : tie.Need-enum-told-2
+enum-told-2 c = search needs
 
 returns-2 : tie.Need-returns-2
 returns-2 c w read lent before lens times p st r is k closed s =
-    let a = c .before .before .before .before .before .before .before .before .args in
-    let i = a .found .first in
+    let if = c .before .before .before in
+    let a = if .before .before .before .before .args in
     let may = c .before .before .may-open in
-    opens-refused i p w st before is (a .found .header) read _ _ (c .before .before .before .enum-told .given .1) (may .result)
-    (may .ensures .0 before (outputsOf (a .out .now) lens times) p w st r is (ap length lent) k s) _ (c .enum-told4 .given .1)
+    opens-refused (editionSays (a .arrival .edition)) (a .arrival .index) p w st before is (a .header) read
+    (sym (if .before .untimed .ensures) ∙ if .if1 .left) (may .result)
+    (may .ensures .0 before (outputsOf (a .out .now) lens times) p w st r is (ap length lent) k s) _ (c .enum-told2 .given .1)
     (record { extraction = a .extraction; outcome = may .result }) (outputsOf (a .out .now) lens times) refl
 
 add-written : tie.Need-add-written
-add-written c = omega (arith, c .before .before .before .before .before .before .before .before .before .pre .0)
+add-written c = omega (arith, c .before .before .before .before .before .before .before .before .pre .0)
 
 sub-copy : tie.Need-sub-copy
 sub-copy c = search needs
@@ -65,11 +64,11 @@ part-copy-end c = search needs
 
 copy-requires : tie.Need-copy-requires
 copy-requires c κs =
+    let may = c .before .before .before .before in
     omega (
       arith,
-      c .before .before .before .before .may-open .ensures .1 (c .before .before .enum-told3 .given .1) .inBytes,
-      c .before
-          .before .before .before .before .before .before .before .before .before .pre .1,
+      may .may-open .ensures .1 (c .before .before .enum-told .given .1) .inBytes,
+      may .before .before .before .before .before .pre .1,
     )
 
 same-length : tie.Need-same-length
@@ -77,15 +76,16 @@ same-length c = search needs
 
 returns-3 : tie.Need-returns-3
 returns-3 c w read lent before lens times p st r is k closed s =
-    let begin = c .before .before .before .before .before .before .before .before .before .before .before .before .before in
+    let told = c .before .before .before .before .before in
+    let if = told .before .before .before in
+    let begin = if .before .before .before .before in
     let a = begin .args in
-    let i = a .found .first in
-    let may = c .before .before .before .before .before .before .before .may-open in
-    let went = c .before .before .before .before .before .enum-told3 .given .1 in
+    let may = told .before .before .may-open in
+    let went = told .enum-told .given .1 in
     let room = may .ensures .1 went in
     let e = a .extraction in
-    opens-right i p w st before is (a .found .header) read _ _
-    (c .before .before .before .before .before .before .before .before .enum-told .given .1) (may .result)
+    opens-right (editionSays (a .arrival .edition)) (a .arrival .index) p w st before is (a .header) read
+    (sym (if .before .untimed .ensures) ∙ if .if1 .left) (may .result)
     (may .ensures .0 before (outputsOf (a .out .now) lens times) p w st r is (ap length lent) k s) s went (a .bytes .now) _ lent
     (tail-placed (e .start + e .bytes) (a .out .now) (a .bytes .now) _ (begin .pre .0) (c .before .before .copy .ensures)) closed
     (omega (arith, room .inBytes, r .bytes, same-bytes s)) (omega (arith, room .inLens, r .lens, same-lens s))
@@ -95,13 +95,12 @@ pub open-with-spec : {M : Type 1} → statement M
 open-with-spec =
     tie.close
     (tie.spec
-    enum-told
-    enum-told-2
+    untimed-requires
     refuse-requires
     returns
     may-open-requires
-    enum-told-3
-    enum-told-4
+    enum-told
+    enum-told-2
     returns-2
     add-written
     sub-copy

@@ -2,7 +2,6 @@
 use borrow.Author.Needs.{needs}
 use native.Mathlib.Omega.{arith}
 use mathlib.Core.Path.{refl, ap, _∙_}
-use Rattle.descriptor.specs.Edition.{current}
 use Rattle.segment_rules.specs.Rules.{isPcr}
 use Rattle.segment_rules.specs.Check.{outputsOf}
 use Rattle.segment.proofs.Extracting.{starts-refused, starts-opens}
@@ -31,7 +30,7 @@ returns : tie.Need-returns
 returns c before p st is k s =
     let a = c .before .before .before .before .before .before .before .before .before .before .before .before .before .before .args in
     let closed = c .before .before .before .before .before .before .close in
-    starts-refused current (a .index) p (a .payload .now) st before is (closed .result)
+    starts-refused _ (a .arrival .index) p (a .payload .now) st before is (closed .result)
     (outputsOf (a .out .now) (closed .last .1 .1 .0) (closed .last .1 .1 .1 .0))
     (closed .ensures .0 before (st .extraction) s) _ (c .enum-told2 .given .1) _
 
@@ -64,7 +63,7 @@ returns-2 c before p st is k s =
     let lens = closed .last .1 .1 .0 in
     let times = closed .last .1 .1 .1 .0 in
     let opened = c .before .before .«open» in
-    starts-opens current (a .index) p (a .payload .now) st before is (closed .result) (outputsOf (a .out .now) lens times)
+    starts-opens _ (a .arrival .index) p (a .payload .now) st before is (closed .result) (outputsOf (a .out .now) lens times)
     (closed .ensures .0 before (st .extraction) s) (opened .result) _ went
     (λ st1 same u. opened .ensures before lens times p st1 (record { bytes = refl; lens = refl; times = refl }) is
     (ap (λ t. isPcr (t .pcr)) same ∙ k)

@@ -1,7 +1,6 @@
 -- The header is read; a packet that passed 21, 22 and 23 goes on with its counter and content.
 use borrow.Author.Needs.{needs}
 use mathlib.Core.Path.{refl}
-use Rattle.descriptor.specs.Edition.{current}
 use Rattle.segment_rules.specs.Check.{roomsOf}
 use Rattle.segment.specs.Parts.{packetAt}
 use Rattle.segment.proofs.Stepping.{header-refused, header-right, packet-kind}
@@ -30,9 +29,9 @@ step-read-requires : tie.Need-step-read-requires
 step-read-requires c κs = search needs
 
 returns : tie.Need-returns
-returns c before st n s =
+returns c edition before st n s =
     let a = c .before .before .before .before .before .before .before .before .before .before .args in
-    header-refused current (roomsOf before) (a .segment .now) (a .index) st (c .before .before .before .before .read .result)
+    header-refused edition (roomsOf before) (a .segment .now) (a .index) st (c .before .before .before .before .read .result)
     (c .before .before .before .before .before .packet-at .result .now) (c .before .before .before .before .before .packet-at .ensures)
     (c .before .before .before .before .read .ensures) _ _
     (c .before .before .read2 .given .1) (c .at-place .result) (c .at-place .ensures) _
@@ -47,22 +46,22 @@ same-length-3 : tie.Need-same-length-3
 same-length-3 c = search needs
 
 returns-2 : tie.Need-returns-2
-returns-2 c before st n s =
+returns-2 c edition before st n s =
     let a = c .before .before .before .before .before .before .before .before .before .before .before .before .before .before .before
     .before .before .before .before .before .args in
     let done = c .before .before .before .before .before .before .step-read in
-    let right = header-right current (roomsOf before) (a .segment .now) (a .index) st
+    let right = header-right edition (roomsOf before) (a .segment .now) (a .index) st
     (c .before .before .before .before .before .before .before .before .before .before .before .before .before .before .read .result)
     (c .before .before .before .before .before .before .before .before .before .before .before .before .before .before .before .packet-at
     .result .now) (c .before .before .before .before .before .before .before .before .before .before .before .before .before .before .before
     .packet-at .ensures) (c .before .before .before .before .before .before .before .before .before .before .before .before .before .before
     .read .ensures) _ (c .before .before .before .before .before .before .before .before .before .before .before .before .read3 .given .1)
     in
-    let kind = c .before .before .before .before .before .before .before .before .before .before .kind-of .ensures (a .segment .now)
+    let kind = c .before .before .before .before .before .before .before .before .before .before .kind-of .ensures edition (a .segment .now)
     (st .tables) n (s .tables) in
-    packet-kind current (roomsOf before) (packetAt (a .segment .now) (a .index)) (a .index) st _
+    packet-kind edition (roomsOf before) (packetAt (a .segment .now) (a .index)) (a .index) st _
     (c .before .before .before .before .before .before .before .before .before .before .kind-of .result) (done .result) _ right (kind .0)
-    (done .ensures .1) (done .ensures .0 before (packetAt (a .segment .now) (a .index)) refl right (kind .1) st n s)
+    (done .ensures .1) (done .ensures .0 edition before (packetAt (a .segment .now) (a .index)) refl right (kind .1) st n s)
 
 pub step-spec : {M : Type 1} → statement M
 step-spec =

@@ -19,10 +19,10 @@ enum-told-2 c = search needs
 
 returns : tie.Need-returns
 returns c = (
-  (λ before p same right there st n s.
+  (λ edition before p same right there st n s.
       let a = c .before .before .before .before .before .before .before .before .before .args in
       let one = c .before .before .before .check-counter in
-      let counts = one .ensures p same (passed-fields p _ right) there (st .tables) n (s .tables) in
+      let counts = one .ensures edition p same (passed-fields p _ right) there (st .tables) n (s .tables) in
       counter-wrong s n (a .packet .index) p (a .packet .kind) (a .packet .header) right (one .result) counts _
       (c .enum-told2 .given .1) _),
   refl,
@@ -30,10 +30,10 @@ returns c = (
 
 returns-2 : tie.Need-returns-2
 returns-2 c = (
-  (λ before p same right there st n s.
+  (λ edition before p same right there st n s.
       let a = c .before .before .before .before .before .before .before .before .before .before .before .args in
       let one = c .before .before .before .before .before .check-counter in
-      let counts = one .ensures p same (passed-fields p _ right) there (st .tables) n (s .tables) in
+      let counts = one .ensures edition p same (passed-fields p _ right) there (st .tables) n (s .tables) in
       no-content s n (a .packet .index) p (a .packet .kind) (a .packet .header) right (one .result) counts
       (c .before .before .enum-told .given .1)
       (sym (ap (λ (h : Header). h .«has_payload») (passed-fields p _ right)) ∙ negated _ (c .if1 .taken))),
@@ -45,10 +45,10 @@ repeats-requires c κs = search needs
 
 returns-3 : tie.Need-returns-3
 returns-3 c = (
-  (λ before p same right there st n s.
+  (λ edition before p same right there st n s.
       let a = c .before .before .before .before .before .before .before .before .before .before .before .before .before .before .args in
       let one = c .before .before .before .before .before .before .before .before .check-counter in
-      let counts = one .ensures p same (passed-fields p _ right) there (st .tables) n (s .tables) in
+      let counts = one .ensures edition p same (passed-fields p _ right) there (st .tables) n (s .tables) in
       let went = c .before .before .before .before .before .enum-told .given .1 in
       no-more s n (a .packet .index) p (a .packet .kind) (a .packet .header) right (one .result) counts went
       (sym (next-repeats s n (a .packet .index) p (a .packet .kind) (a .packet .header) right (one .result) counts went there)
@@ -76,14 +76,14 @@ returns-4 c =
     let one = begin .check-counter in
     let done = c .before .before .before .before .before .before .take-content in
     let went = test .before .before .before .before .before .enum-told .given .1 in (
-      (λ before p same right there st n s.
+      (λ edition before p same right there st n s.
           let fits = passed-fields p _ right in
-          let counts = one .ensures p same fits there (st .tables) n (s .tables) in
+          let counts = one .ensures edition p same fits there (st .tables) n (s .tables) in
           with-content s n (a .packet .index) p (a .packet .kind) (a .packet .header) right (one .result) counts went
           (sym (next-repeats s n (a .packet .index) p (a .packet .kind) (a .packet .header) right (one .result) counts went there)
           ∙ sym (test .before .repeats .ensures) ∙ test .if2 .left)
           (done .result .outcome) _
-          (done .ensures .0 before p same fits
+          (done .ensures .0 edition before p same fits
           (sym (ap (λ (h : Header). h .«has_payload») fits) ∙ affirmed _ (test .before .before .before .if1 .left)) _
           (next-named s n (a .packet .index) p (a .packet .kind) (a .packet .header) right (one .result) counts went)
           (next-stands s n (a .packet .index) p (a .packet .kind) (a .packet .header) right (one .result) counts went))),

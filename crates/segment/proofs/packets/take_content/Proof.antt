@@ -1,10 +1,12 @@
 -- An AV1 payload goes to the PES, another to the sections.
 use borrow.Author.Needs.{needs}
 use native.Mathlib.Omega.{arith}
-use mathlib.Core.Path.{refl, sym, ap, _∙_}
+use mathlib.Core.Path.{refl, sym, ap, subst, _∙_}
 use Rattle.packet.specs.declared.header.Header.{Header}
+use Rattle.descriptor.specs.Edition.{Edition}
 use Rattle.segment_rules.specs.Rules.{isPcr}
 use Rattle.segment_rules.specs.Check.{outputsOf}
+use Rattle.segment.specs.Parts.{PayloadTurn}
 use Rattle.segment.proofs.Stepping.{payload-length, payload-lies, payload-same, content-taken, content-read}
 use Rattle.segment.proofs.packets.take_content.Statement.{statement}
 use Rattle.segment.proofs.packets.take_content.Tie as tie
@@ -41,21 +43,22 @@ returns c =
     let taken = c .before .before .before .before .before .before .before .take-payload in
     let lent = c .before .before .before .before .before .before .before .before .before .before .before .before .before .before .before
     .packet-at in
-    let w = c .before .before .before .before .before .before .before .before .before .before .before .before .before .before .rest in (
-      (λ before p same e h st n s.
-          content-taken s (k .index) p h (k .kind) (taken .result)
-          (outputsOf (taken .last .1 .1 .1 .1 .0) (taken .last .1 .1 .1 .1 .1 .0) (taken .last .1 .1 .1 .1 .1 .1 .0))
+    let w = c .before .before .before .before .before .before .before .before .before .before .before .before .before .before .rest in
+    let pcr = c .before .before .before .before .before .before .before .before .before .before .before .is-pcr in
+    let after = outputsOf (taken .last .1 .1 .1 .1 .0) (taken .last .1 .1 .1 .1 .1 .0) (taken .last .1 .1 .1 .1 .1 .1 .0) in (
+      (λ edition before p same e h st n s.
+          content-taken s (k .index) p h (k .kind) (taken .result) after
           (sym (c .before .before .before .before .before .before .before .before .before .before .before .before .before .is-av1 .ensures)
           ∙ c
           .before .before .before .before .before .before .before .before .before .before .before .before .if1 .taken)
-          (taken .ensures before p st
+          (subst (λ (x : Edition). PayloadTurn x (k .header .start) (k .index) (w .result .now) (pcr .result) (a .extraction)
+          (outputsOf (a .out .now) (a .lens .now) (a .times .now)) (taken .result) after) (s .tables .follows) (taken .ensures) before p st
           (record {
             carries = h;
             starts = sym (ap (λ (x : Header). x .start) e);
             same = payload-same p (k .header) (lent .result .now) (w .result .now) e (lent .ensures ∙ sym same) (w .ensures) h;
           })
-          (ap isPcr (sym (s .tables .pcr)) ∙ sym (c .before .before .before .before .before .before .before .before .before .before .before
-          .is-pcr .ensures)) (s .extraction))),
+          (ap isPcr (sym (s .tables .pcr)) ∙ sym (pcr .ensures)) (s .extraction))),
       refl,
     )
 
@@ -102,14 +105,14 @@ returns-2 c =
     let read = c .before .before .read-section in
     let lent = c .before .before .before .before .before .before .before .packet-at in
     let w = c .before .before .before .before .before .before .rest in (
-      (λ before p same e h st n s.
+      (λ edition before p same e h st n s.
           content-read s (k .index) p h (k .kind) n (read .result) (k .header .start) (w .result .now) (c .at-place .result)
           (sym (c .before .before .before .before .before .is-av1 .ensures) ∙ c .before .before .before .before .if1 .left)
           (ap (λ (x : Header). x .start) e) (payload-same p (k .header) (lent .result .now) (w .result .now) e (lent .ensures ∙ sym same)
           (w .ensures) h) (c .at-place .ensures)
           (read .ensures (payload-lies (a .segment .now) (lent .result .now) (w .result .now) (k .index) (k .header .payload)
           (begin .pre .0)
-          (lent .ensures) (w .ensures)))),
+          (lent .ensures) (w .ensures)) edition)),
       refl,
     )
 

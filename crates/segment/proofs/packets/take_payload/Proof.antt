@@ -26,14 +26,14 @@ returns c before p st is k s =
     }) k s
 
 add-requires : tie.Need-add-requires
-add-requires c κs = c .before .before .before .before .before .before .before .pre .inBytes
+add-requires c κs = c .before .before .before .before .before .before .pre .inBytes
 
 same-length-4 : tie.Need-same-length-4
 same-length-4 c = search needs
 
 returns-2 : tie.Need-returns-2
 returns-2 c before p st is k s =
-    c .before .before .add .ensures _ _ before p st (record {
+    c .before .before .add .ensures _ _ _ before p st (record {
       carries =
           is .carries;
       starts = is .starts ∙ c .before .before .before .before .if1 .left;

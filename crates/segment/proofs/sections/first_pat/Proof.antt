@@ -1,7 +1,6 @@
 -- By what the reading of the PAT answers: the first PAT is remembered by its place.
 use borrow.Author.Needs.{needs}
 use mathlib.Core.Path.{sym, subst}
-use Rattle.descriptor.specs.Edition.{current}
 use Rattle.segment_rules.specs.Rules.{patSection}
 use Rattle.segment.specs.declared.tables.TablesTurn.{TablesTurn}
 use Rattle.segment.specs.Parts.{Turns, TablesStand}
@@ -25,12 +24,12 @@ pass-requires : tie.Need-pass-requires
 pass-requires c κs = search needs
 
 returns : tie.Need-returns
-returns c segment lies e t h s = pat-refused h s _ e _ _ (c .before .read .given .1) (c .before .before .before .read-pat .ensures)
+returns c segment lies e edition t h s = pat-refused h s _ e _ _ (c .before .read .given .1) (c .before .before .before .read-pat .ensures)
 
 returns-2 : tie.Need-returns-2
-returns-2 c segment lies e t h s =
+returns-2 c segment lies e edition t h s =
     let a = c .before .before .before .before .before .before .before .before .before .before .before .args in
-    subst (λ (x : TablesTurn). Turns (x .outcome) (patSection (t .pat) (a .section .now) t) (TablesStand current segment (x .tables)))
+    subst (λ (x : TablesTurn). Turns (x .outcome) (patSection (t .pat) (a .section .now) t) (TablesStand edition segment (x .tables)))
     (sym (c .pass .ensures))
     (pat-read h s (a .section .now) e (a .at) _ _ _ lies (c .before .before .before .before .before .before .before .read2 .given .1)
     (c .before .before .before .before .before .before .before .before .before .read-pat .ensures)

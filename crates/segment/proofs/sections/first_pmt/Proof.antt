@@ -1,7 +1,6 @@
 -- By what the reading of the PMT answers: its map is kept, and the place of its section.
 use borrow.Author.Needs.{needs}
 use mathlib.Core.Path.{sym, subst}
-use Rattle.descriptor.specs.Edition.{current}
 use Rattle.segment_rules.specs.Rules.{pmtSection}
 use Rattle.segment.specs.declared.tables.TablesTurn.{TablesTurn}
 use Rattle.segment.specs.Parts.{Turns, TablesStand}
@@ -28,18 +27,18 @@ pass-requires : tie.Need-pass-requires
 pass-requires c κs = search needs
 
 returns : tie.Need-returns
-returns c segment lies k e t h s =
+returns c segment lies k e edition t h s =
     let a = c .before .before .before .before .before .before .before .args in
     let read = c .before .before .before .before .read-pmt in
     sym (pmt-refused s (a .section .now) (a .pat) e k (read .result .answer) (read .result .map) (read .ensures .0) _
     (c .before .answer .given .1))
 
 returns-2 : tie.Need-returns-2
-returns-2 c segment lies k e t h s =
+returns-2 c segment lies k e edition t h s =
     let a = c .before .before .before .before .before .before .before .before .before .before .before .before .before .args in
     let read = c .before .before .before .before .before .before .before .before .before .before .read-pmt in
-    subst (λ (x : TablesTurn). Turns (x .outcome) (pmtSection current (t .pat) (t .pmt) (a .section .now) t)
-    (TablesStand current segment (x .tables))) (sym (c .pass .ensures))
+    subst (λ (x : TablesTurn). Turns (x .outcome) (pmtSection edition (t .pat) (t .pmt) (a .section .now) t)
+    (TablesStand edition segment (x .tables))) (sym (c .pass .ensures))
     (pmt-read s (a .section .now) (a .pat) e k (read .result .answer) (read .result .map) (read .ensures .0) (a .at)
     (c .before .before .pids-of .result) (c .before .of .result) lies
     (c .before .before .before .before .before .before .before .enum-told .given .1) (c .before .before .pids-of .ensures)

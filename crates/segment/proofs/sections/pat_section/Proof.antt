@@ -23,7 +23,7 @@ returns : tie.Need-returns
 returns c lies = c .first-pat .ensures _ lies (c .before .enum-told .given .1)
 
 returns-2 : tie.Need-returns-2
-returns-2 c lies t h s =
+returns-2 c lies edition t h s =
     pat-later h s (c .before .before .before .before .before .before .before .args .section .now) _ _ (c .later-section .result)
     (c .before .before .before .pat .given .1) (c .before .part .ensures) (c .later-section .ensures t)
 

@@ -1,7 +1,6 @@
 -- A section that is found is a part of the payload, and lies in the segment one byte behind the payload's beginning.
 use borrow.Author.Needs.{needs}
 use mathlib.Core.Path.{sym, _∙_}
-use Rattle.descriptor.specs.Edition.{current}
 use Rattle.segment_rules.specs.Rules.{sectionRead, pmtSection}
 use Rattle.segment.proofs.Reading.{section-lies, pmt-misplaced, pmt-placed, refuses, carries-as}
 use Rattle.segment_rules.specs.State as state
@@ -30,22 +29,22 @@ pmt-section-requires : tie.Need-pmt-section-requires
 pmt-section-requires c κs = search needs
 
 returns : tie.Need-returns
-returns c lies =
+returns c lies edition =
     let a = c .before .before .before .before .before .before .args in
-    refuses (sectionRead current state.Map (a .start) (a .payload .now)) (c .refuse .result) _ (c .refuse .ensures)
-    (λ t s. pmt-misplaced current (a .start) (a .payload .now) t
+    refuses (sectionRead edition state.Map (a .start) (a .payload .now)) (c .refuse .result) _ (c .refuse .ensures)
+    (λ t s. pmt-misplaced edition (a .start) (a .payload .now) t
     (sym (c .before .before .before .find-section .ensures) ∙ c .before .enum-told .given .1))
 
 returns-2 : tie.Need-returns-2
-returns-2 c lies =
+returns-2 c lies edition =
     let a = c .before .before .before .before .before .before .before .before .args in
     let section = c .before .part .result .now in
     let found = sym (c .before .before .before .before .before .find-section .ensures) ∙ c .before .before .before .found .given .1 in
-    carries-as (sectionRead current state.Map (a .start) (a .payload .now)) (c .pmt-section .result)
-    (λ t. pmtSection current (t .pat) (t .pmt) section t)
-    (λ t. pmt-placed current (a .start) (a .payload .now) t _ section found (c .before .part .ensures))
+    carries-as (sectionRead edition state.Map (a .start) (a .payload .now)) (c .pmt-section .result)
+    (λ t. pmtSection edition (t .pat) (t .pmt) section t)
+    (λ t. pmt-placed edition (a .start) (a .payload .now) t _ section found (c .before .part .ensures))
     (c .pmt-section .ensures (section-lies (a .segment .now) (a .payload .now) (a .at) _ (a .start) section lies found
-    (c .before .part .ensures)))
+    (c .before .part .ensures)) edition)
 
 pub pmt-payload-spec : {M : Type 1} → statement M
 pmt-payload-spec =

@@ -1,6 +1,5 @@
 -- Before the PAT a PMT is passed over; the first is read; a later one is compared with the bytes at the place of the first.
 use borrow.Author.Needs.{needs}
-use Rattle.descriptor.specs.Edition.{current}
 use Rattle.segment_rules.specs.Rules.{pmtSection}
 use Rattle.segment.proofs.Reading.{pmt-skipped, pmt-later, passes}
 use Rattle.segment.proofs.sections.pmt_section.Statement.{statement}
@@ -16,9 +15,9 @@ pass-requires : tie.Need-pass-requires
 pass-requires c κs = search needs
 
 returns : tie.Need-returns
-returns c lies =
+returns c lies edition =
     let w = c .before .before .before .before .before .args .section .now in
-    passes (λ t. pmtSection current (t .pat) (t .pmt) w t) (c .pass .result) (c .pass .ensures)
+    passes (λ t. pmtSection edition (t .pat) (t .pmt) w t) (c .pass .result) (c .pass .ensures)
     (λ t s. pmt-skipped s w (c .before .enum-told .given .1))
 
 enum-told-2 : tie.Need-enum-told-2
@@ -40,7 +39,7 @@ returns-2 : tie.Need-returns-2
 returns-2 c lies = c .first-pmt .ensures _ lies (c .before .enum-told2 .given .1) (c .before .before .before .before .pat .given .1)
 
 returns-3 : tie.Need-returns-3
-returns-3 c lies t h s =
+returns-3 c lies edition t h s =
     pmt-later s (c .before .before .before .before .before .before .before .before .before .before .args .section .now) _ _ _
     (c .later-section .result) (c .before .before .before .before .before .before .pat .given .1) (c .before .before .before .pmt .given .1)
     (c .before .part .ensures) (c .later-section .ensures t)

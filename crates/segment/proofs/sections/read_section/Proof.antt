@@ -1,7 +1,6 @@
 -- Case by case of the kind: PID 0 and the map PID have sections, the others are passed over.
 use borrow.Author.Needs.{needs}
 use mathlib.Core.Path.{refl}
-use Rattle.descriptor.specs.Edition.{current}
 use Rattle.segment_rules.specs.Rules.{sectionRead}
 use Rattle.segment.proofs.Reading.{passes, by-kind}
 use Rattle.segment_rules.specs.State as state
@@ -46,41 +45,41 @@ pass-requires-4 c κs = search needs
 
 returns : tie.Need-returns
 unfolding sectionRead
-returns c lies =
+returns c lies edition =
     let a = c .before .before .before .before .before .args in
     by-kind _ _ (a .start) (a .payload .now) (c .pass .result) (c .before .enum-told .given .1)
-    (passes (sectionRead current state.Null (a .start) (a .payload .now)) (c .pass .result) (c .pass .ensures) (λ t s. refl))
+    (passes (sectionRead edition state.Null (a .start) (a .payload .now)) (c .pass .result) (c .pass .ensures) (λ t s. refl))
 
 returns-2 : tie.Need-returns-2
-returns-2 c lies =
+returns-2 c lies edition =
     let a = c .before .before .before .before .before .args in
-    by-kind _ _ (a .start) (a .payload .now) (c .pat-payload .result) (c .before .enum-told2 .given .1) (c .pat-payload .ensures lies)
+    by-kind _ _ (a .start) (a .payload .now) (c .pat-payload .result) (c .before .enum-told2 .given .1) (c .pat-payload .ensures lies edition)
 
 returns-3 : tie.Need-returns-3
-returns-3 c lies =
+returns-3 c lies edition =
     let a = c .before .before .before .before .before .args in
-    by-kind _ _ (a .start) (a .payload .now) (c .pmt-payload .result) (c .before .enum-told3 .given .1) (c .pmt-payload .ensures lies)
+    by-kind _ _ (a .start) (a .payload .now) (c .pmt-payload .result) (c .before .enum-told3 .given .1) (c .pmt-payload .ensures lies edition)
 
 returns-4 : tie.Need-returns-4
 unfolding sectionRead
-returns-4 c lies =
+returns-4 c lies edition =
     let a = c .before .before .before .before .before .args in
     by-kind _ _ (a .start) (a .payload .now) (c .pass2 .result) (c .before .enum-told4 .given .1)
-    (passes (sectionRead current state.Av1 (a .start) (a .payload .now)) (c .pass2 .result) (c .pass2 .ensures) (λ t s. refl))
+    (passes (sectionRead edition state.Av1 (a .start) (a .payload .now)) (c .pass2 .result) (c .pass2 .ensures) (λ t s. refl))
 
 returns-5 : tie.Need-returns-5
 unfolding sectionRead
-returns-5 c lies =
+returns-5 c lies edition =
     let a = c .before .before .before .before .before .args in
     by-kind _ _ (a .start) (a .payload .now) (c .pass3 .result) (c .before .enum-told5 .given .1)
-    (passes (sectionRead current state.Listed (a .start) (a .payload .now)) (c .pass3 .result) (c .pass3 .ensures) (λ t s. refl))
+    (passes (sectionRead edition state.Listed (a .start) (a .payload .now)) (c .pass3 .result) (c .pass3 .ensures) (λ t s. refl))
 
 returns-6 : tie.Need-returns-6
 unfolding sectionRead
-returns-6 c lies =
+returns-6 c lies edition =
     let a = c .before .before .before .before .before .args in
     by-kind _ _ (a .start) (a .payload .now) (c .pass4 .result) (c .before .enum-told6 .given .1)
-    (passes (sectionRead current state.Unlisted (a .start) (a .payload .now)) (c .pass4 .result) (c .pass4 .ensures) (λ t s. refl))
+    (passes (sectionRead edition state.Unlisted (a .start) (a .payload .now)) (c .pass4 .result) (c .pass4 .ensures) (λ t s. refl))
 
 pub read-section-spec : {M : Type 1} → statement M
 read-section-spec =

@@ -1,7 +1,6 @@
 -- The PCR and the record of the packet's kind are what their calls say (`counted-turn`, `counter-turn`).
 use borrow.Author.Needs.{needs}
 use mathlib.Core.Path.{sym, ap, _∙_}
-use Rattle.descriptor.specs.Edition.{current}
 use Rattle.packet.specs.Streams.{lookUp, pidsIn}
 use Rattle.packet.specs.declared.header.Header.{Header}
 use Rattle.segment.specs.Parts.{streamsIn}
@@ -22,14 +21,14 @@ at-place-requires : tie.Need-at-place-requires
 at-place-requires c κs = search needs
 
 returns : tie.Need-returns
-returns c p same e l t h s =
+returns c edition p same e l t h s =
     let a = c .before .before .before .before .before .before .before .before .before .args in
     let k = a .tables in
     let last = c .before .before .before .before .before .before .last-pcr in
     let looked = c .before .before .before .before .counted in
     let one = c .before .before .before .check in
     let there = ap (λ (x : Header). lookUp (x .pid) (pidsIn (streamsIn (k .pat) (k .pmt) (k .counters)))) (sym e) ∙ l in
-    counter-turn current (a .segment .now) (a .packet .index) p k t s (last .result) (last .ensures (a .segment .now) p t e s)
+    counter-turn edition (a .segment .now) (a .packet .index) p k t s (last .result) (last .ensures edition (a .segment .now) p t e s)
     (one .result .outcome) (c .at-place .result) (one .result .counters) (c .at-place .ensures)
     (counted-turn (a .segment .now) (a .packet .kind) (k .pat) (k .pmt) (k .counters) (t .records) (s .records) (looked .result) p
     (λ r stands. looked .ensures p r same e stands) (one .result) there (one .ensures))

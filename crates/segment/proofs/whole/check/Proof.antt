@@ -1,22 +1,31 @@
--- The verdict and the units are the judge's; where it refused, the outputs are cleared.
+-- By the edition of the number; 44 before everything else.
 use borrow.Author.Needs.{needs}
-use Rattle.descriptor.specs.Edition.{current}
-use Rattle.segment_rules.specs.Check.{outputsOf, roomsOf, checkSegment}
-use Rattle.segment.proofs.Ending.{answers, accepted-leaves, refused-leaves}
+use mathlib.Core.Path.{sym, ap, _∙_}
+use Rattle.segment_rules.specs.Check.{outputsOf, roomsOf}
+use Rattle.descriptor.specs.Naming.{namedSays}
+use Rattle.segment.specs.Answer.{checkSays}
+use Rattle.segment.specs.declared.whole.Checked.{Checked}
+use Rattle.segment.proofs.Editions.{known-checks, known-map, known-leaves, unknown-checks, unknown-map, unknown-leaves}
 use Rattle.segment.proofs.whole.check.Statement.{statement}
 use Rattle.segment.proofs.whole.check.Tie as tie
 
-judge-requires : tie.Need-judge-requires
-judge-requires c κs = search needs
+named-requires : tie.Need-named-requires
+named-requires c κs = search needs
 
-enum-told : tie.Need-enum-told
-enum-told c = search needs
+enum-known-named : tie.Need-enum-known-named
+enum-known-named c = search needs
 
-enum-told-2 : tie.Need-enum-told-2
-enum-told-2 c = search needs
+check-in-requires : tie.Need-check-in-requires
+check-in-requires c κs = search needs
+
+enum-known-named-2 : tie.Need-enum-known-named-2
+enum-known-named-2 c = search needs
 
 clear-requires : tie.Need-clear-requires
 clear-requires c κs = search needs
+
+refuse-requires : tie.Need-refuse-requires
+refuse-requires c κs = search needs
 
 same-length : tie.Need-same-length
 same-length c = search needs
@@ -29,15 +38,15 @@ same-length-3 c = search needs
 
 returns : tie.Need-returns
 returns c =
-    let a = c .before .before .before .before .before .before .before .before .before .before .before .before .before .before .before
-    .before .args in
-    let before = outputsOf (a .out .now) (a .lens .now) (a .times .now) in
-    let verdict = checkSegment current (roomsOf before) (a .segment .now) in
-    let judged = c .before .before .before .before .before .before .before .before .judge in
-    let now = outputsOf (judged .last .1 .0) (judged .last .1 .1 .0) (judged .last .1 .1 .1 .0) in (
-      answers (judged .result) before verdict now (judged .ensures),
-      accepted-leaves (judged .result) _ (c .enum-told .given .1) before
-          verdict now (judged .ensures),
+    let a = c .before .before .before .before .before .before .before .before .before .before .before .before .before .before .before .before .before .before .args in
+    let rooms = roomsOf (outputsOf (a .out .now) (a .lens .now) (a .times .now)) in
+    let done = c .before .before .before .before .before .before .check-in in
+    let known = sym (ap namedSays (c .before .before .before .before .before .before .before .before .before .before .before .named2 .given .1)) ∙ c .before .before .before .before .before .before .before .before .before .before .before .before .before .named .ensures in (
+      done .ensures .0 ∙ known-checks (a .edition) _ rooms (a .segment .now) known,
+      (
+        done .ensures .1 .0 ∙ known-map (a .edition) _ rooms (a .segment .now) known,
+        done .ensures .1 .1 ∙ known-leaves (a .edition) _ rooms (a .segment .now) known _,
+      ),
     )
 
 same-length-4 : tie.Need-same-length-4
@@ -51,31 +60,29 @@ same-length-6 c = search needs
 
 returns-2 : tie.Need-returns-2
 returns-2 c =
-    let a = c .before .before .before .before .before .before .before .before .before .before .before .before .before .before .before
-    .before .before .before .before .before .before .before .before .before .before .before .args in
+    let a = c .before .before .before .before .before .before .before .before .before .before .before .before .before .before .before .before .before .before .before .args in
     let before = outputsOf (a .out .now) (a .lens .now) (a .times .now) in
-    let verdict = checkSegment current (roomsOf before) (a .segment .now) in
-    let judged = c .before .before .before .before .before .before .before .before .before .before .before .before .before .before .before
-    .before .before .before .judge in
-    let out = judged .last .1 .0 in
-    let lens = judged .last .1 .1 .0 in
-    let times = judged .last .1 .1 .1 .0 in
-    let cleared = c .before .before .before .before .before .before .clear in (
-      answers (judged .result) before verdict (outputsOf out lens times) (judged .ensures),
-      refused-leaves (judged .result) _ (c .before .before .before .before .before .before .before .before .before .before .enum-told2
-          .given .1) before verdict out lens times (cleared .last .0) (cleared .last .1 .0) (cleared .last .1 .1 .0) (judged .ensures)
-          (cleared .ensures .0) (cleared .ensures .1 .0) (cleared .ensures .1 .1) (judged .kept .1 .0) (judged .kept .1 .1 .0)
-          (judged .kept .1 .1 .1 .0),
+    let cleared = c .before .before .before .before .before .before .before .clear in
+    let unknown = sym (ap namedSays (c .before .before .before .before .before .before .before .before .before .before .before .before .named3 .given .1)) ∙ c .before .before .before .before .before .before .before .before .before .before .before .before .before .before .named .ensures in (
+      ap (λ (x : Checked). checkSays (x .answer)) (c .refuse .ensures)
+          ∙ unknown-checks (a .edition) _ _ (roomsOf before) (a .segment .now) unknown,
+      (
+        ap (λ (x : Checked). x .map) (c .refuse .ensures) ∙ unknown-map (a .edition) _ _ (roomsOf before) (a .segment .now) unknown,
+        unknown-leaves (a .edition) _ _ (roomsOf before) (a .segment .now) unknown before (cleared .last .0) (cleared .last .1 .0)
+            (cleared .last .1 .1 .0) (cleared .ensures .0) (cleared .ensures .1 .0) (cleared .ensures .1 .1),
+      ),
     )
 
 pub check-spec : {M : Type 1} → statement M
 check-spec =
     tie.close
     (tie.spec
-    judge-requires
-    enum-told
-    enum-told-2
+    named-requires
+    enum-known-named
+    check-in-requires
+    enum-known-named-2
     clear-requires
+    refuse-requires
     same-length
     same-length-2
     same-length-3

@@ -2,11 +2,10 @@
 use borrow.Author.Needs.{needs}
 use Prim.Native.Nat.{ℕ}
 use mathlib.Core.Path.{ap₂, _∙_}
-use Rattle.segment_rules.specs.Check.{outputsOf}
-use Rattle.segment.proofs.Ending.{end-refused, end-closed}
+use Rattle.segment_rules.specs.Check.{outputsOf, accepted}
 use Rattle.segment_rules.specs.declared.Totals.{Totals}
-use Rattle.segment_rules.specs.Check.{accepted}
-use Rattle.segment.specs.Answer.{summarised}
+use Rattle.segment.specs.Answer.{summarised, mapAfter}
+use Rattle.segment.proofs.Ending.{end-refused, end-closed}
 use Rattle.segment.proofs.whole.finish.Statement.{statement}
 use Rattle.segment.proofs.whole.finish.Tie as tie
 
@@ -15,6 +14,9 @@ close-requires c κs = search needs
 
 enum-known-outcome : tie.Need-enum-known-outcome
 enum-known-outcome c = search needs
+
+refuse-requires : tie.Need-refuse-requires
+refuse-requires c κs = search needs
 
 enum-told : tie.Need-enum-told
 enum-told c = search needs
@@ -29,11 +31,10 @@ same-length-2 : tie.Need-same-length-2
 same-length-2 c = search needs
 
 returns : tie.Need-returns
-returns c segment before g n m s =
-    let closed = c .before .before .before .before .before .before .before .close in
-    end-refused before (outputsOf (c .before .before .before .before .before .before .before .before .before .before .before .before .before
-    .before .args .out .now) (closed .last .1 .1 .0) (closed .last .1 .1 .1 .0)) g (closed .result)
-    (closed .ensures .0 before (g .state .extraction) (s .extraction)) _ (c .before .outcome .given .1)
+returns c edition segment before g n m s =
+    let closed = c .before .before .before .before .before .before .before .before .close in
+    end-refused edition before (outputsOf (c .before .before .before .before .before .before .before .before .before .before .before .before .before .before .before .args .out .now) (closed .last .1 .1 .0) (closed .last .1 .1 .1 .0)) g (closed .result)
+    (closed .ensures .0 before (g .state .extraction) (s .extraction)) _ (c .before .before .outcome .given .1) (c .refuse .result) (c .refuse .ensures)
 
 same-length-3 : tie.Need-same-length-3
 same-length-3 c = search needs
@@ -42,14 +43,16 @@ same-length-4 : tie.Need-same-length-4
 same-length-4 c = search needs
 
 returns-2 : tie.Need-returns-2
-returns-2 c segment before g n m s =
+returns-2 c edition segment before g n m s =
     let closed = c .before .before .before .before .before .before .before .before .before .before .close in
     let told = c .before .before .before .before .enum-told .given .1 in
-    end-closed before (outputsOf (c .before .before .before .before .before .before .before .before .before .before .before .before .before
-    .before .before .before .before .args .out .now) (closed .last .1 .1 .0) (closed .last .1 .1 .1 .0)) g (closed .result)
+    end-closed edition before (outputsOf (c .before .before .before .before .before .before .before .before .before .before .before .before .before .before .before .before .before .args .out .now) (closed .last .1 .1 .0) (closed .last .1 .1 .1 .0)) g (closed .result)
     (closed .ensures .0 before (g .state .extraction) (s .extraction)) (c .accept .result) told (closed .ensures .1 .0 told)
-    (λ us u. c .accept .ensures segment (g .state .tables) us u (s .tables)
-    ∙ ap₂ (λ (x : ℕ) (y : Totals). summarised (accepted x (g .state .tables .pat) (g .state .tables .pmt) us y)) n m)
+    (λ us u.
+    let says = c .accept .ensures edition segment (g .state .tables) us u (s .tables) in (
+      says .0 ∙ ap₂ (λ (x : ℕ) (y : Totals). summarised (accepted x (g .state .tables .pat) (g .state .tables .pmt) us y)) n m,
+      says .1 ∙ ap₂ (λ (x : ℕ) (y : Totals). mapAfter edition (accepted x (g .state .tables .pat) (g .state .tables .pmt) us y)) n m,
+    ))
 
 pub finish-spec : {M : Type 1} → statement M
 finish-spec =
@@ -57,6 +60,7 @@ finish-spec =
     (tie.spec
     close-requires
     enum-known-outcome
+    refuse-requires
     enum-told
     accept-requires
     same-length

@@ -1,7 +1,6 @@
 -- 20, the packets in order, the end.
 use borrow.Author.Needs.{needs}
 use mathlib.Core.Path.{sym, _∙_}
-use Rattle.descriptor.specs.Edition.{current}
 use Rattle.segment_rules.specs.Check.{outputsOf}
 use Rattle.segment.proofs.Holding.{stands-fits}
 use Rattle.segment.proofs.Ending.{length-refused, run-refused, ran, all-packets, run-ended}
@@ -14,12 +13,15 @@ length-wrong-requires c κs = search needs
 at-requires : tie.Need-at-requires
 at-requires c κs = search needs
 
+refuse-requires : tie.Need-refuse-requires
+refuse-requires c κs = search needs
+
 returns : tie.Need-returns
 returns c =
-    let a = c .before .before .before .before .before .before .before .args in
+    let a = c .before .before .before .before .before .before .before .before .args in
     let before = outputsOf (a .out .now) (a .lens .now) (a .times .now) in
-    length-refused current (a .segment .now) before before (c .at .result) (c .at .ensures)
-    (sym (c .before .before .length-wrong .ensures) ∙ c .before .if1 .taken)
+    length-refused _ (a .segment .now) before before (c .before .at .result) (c .before .at .ensures)
+    (sym (c .before .before .before .length-wrong .ensures) ∙ c .before .before .if1 .taken) (c .refuse .result) (c .refuse .ensures)
 
 run-requires : tie.Need-run-requires
 run-requires c κs = sym (c .before .before .before .before .length-wrong .ensures) ∙ c .before .before .before .if1 .left
@@ -27,21 +29,20 @@ run-requires c κs = sym (c .before .before .before .before .length-wrong .ensur
 enum-known-outcome : tie.Need-enum-known-outcome
 enum-known-outcome c = search needs
 
+refuse-requires-2 : tie.Need-refuse-requires-2
+refuse-requires-2 c κs = search needs
+
 enum-told : tie.Need-enum-told
 enum-told c = search needs
 
 finish-requires : tie.Need-finish-requires
 finish-requires c κs =
-    let a = c .before .before .before .before .before .before .before .before .before .before .before .before .before .before .before
-    .before .before .before .before .before .before .args in
+    let a = c .before .before .before .before .before .before .before .before .before .before .before .before .before .before .before .before .before .before .before .before .before .args in
     let before = outputsOf (a .out .now) (a .lens .now) (a .times .now) in
     let done = c .before .before .before .before .before .before .before .before .before .before .before .run in
-    let now = outputsOf (done .last .1 .0) (done .last .1 .1 .0) (done .last .1 .1 .1 .0) in
-    let right = sym (c .before .before .before .before .before .before .before .before .before .before .before .before .before .before
-    .before .before .length-wrong .ensures) ∙ c .before .before .before .before .before .before .before .before .before .before .before
-    .before .before .before .before .if1 .left in
-    stands-fits (ran current (a .segment .now) before now right (done .result) (done .ensures)
-    (c .before .before .before .enum-told .given .1) .2 .0 .extraction)
+    let now = outputsOf (done .last .1 .1 .0) (done .last .1 .1 .1 .0) (done .last .1 .1 .1 .1 .0) in
+    let right = sym (c .before .before .before .before .before .before .before .before .before .before .before .before .before .before .before .before .length-wrong .ensures) ∙ c .before .before .before .before .before .before .before .before .before .before .before .before .before .before .before .if1 .left in
+    stands-fits (ran _ (a .segment .now) before now right (done .result) (done .ensures) (c .before .before .before .enum-told .given .1) .2 .0 .extraction)
 
 same-length : tie.Need-same-length
 same-length c = search needs
@@ -54,14 +55,12 @@ same-length-3 c = search needs
 
 returns-2 : tie.Need-returns-2
 returns-2 c =
-    let a = c .before .before .before .before .before .before .before .before .before .before .before .before .before .before .before
-    .before .before .before .before .args in
+    let a = c .before .before .before .before .before .before .before .before .before .before .before .before .before .before .before .before .before .before .before .before .args in
     let before = outputsOf (a .out .now) (a .lens .now) (a .times .now) in
-    let done = c .before .before .before .before .before .before .before .before .before .run in
-    let now = outputsOf (done .last .1 .0) (done .last .1 .1 .0) (done .last .1 .1 .1 .0) in
-    run-refused current (a .segment .now) before now (sym (c .before .before .before .before .before .before .before .before .before .before
-    .before .before .before .before .length-wrong .ensures) ∙ c .before .before .before .before .before .before .before .before .before
-    .before .before .before .before .if1 .left) (done .result) (done .ensures) _ now (c .before .outcome .given .1)
+    let done = c .before .before .before .before .before .before .before .before .before .before .run in
+    let now = outputsOf (done .last .1 .1 .0) (done .last .1 .1 .1 .0) (done .last .1 .1 .1 .1 .0) in
+    run-refused _ (a .segment .now) before now (sym (c .before .before .before .before .before .before .before .before .before .before .before .before .before .before .before .length-wrong .ensures) ∙ c .before .before .before .before .before .before .before .before .before .before .before .before .before .before .if1 .left) (done .result) (done .ensures) _ now
+    (c .before .before .outcome .given .1) (c .refuse2 .result) (c .refuse2 .ensures)
 
 same-length-4 : tie.Need-same-length-4
 same-length-4 c = search needs
@@ -74,21 +73,17 @@ same-length-6 c = search needs
 
 returns-3 : tie.Need-returns-3
 returns-3 c =
-    let a = c .before .before .before .before .before .before .before .before .before .before .before .before .before .before .before
-    .before .before .before .before .before .before .before .before .before .before .before .args in
+    let a = c .before .before .before .before .before .before .before .before .before .before .before .before .before .before .before .before .before .before .before .before .before .before .before .before .before .before .args in
     let before = outputsOf (a .out .now) (a .lens .now) (a .times .now) in
-    let done = c .before .before .before .before .before .before .before .before .before .before .before .before .before .before .before
-    .before .run in
-    let now = outputsOf (done .last .1 .0) (done .last .1 .1 .0) (done .last .1 .1 .1 .0) in
-    let right = sym (c .before .before .before .before .before .before .before .before .before .before .before .before .before .before
-    .before .before .before .before .before .before .before .length-wrong .ensures) ∙ c .before .before .before .before .before .before
-    .before .before .before .before .before .before .before .before .before .before .before .before .before .before .if1 .left in
+    let done = c .before .before .before .before .before .before .before .before .before .before .before .before .before .before .before .before .run in
+    let now = outputsOf (done .last .1 .1 .0) (done .last .1 .1 .1 .0) (done .last .1 .1 .1 .1 .0) in
+    let right = sym (c .before .before .before .before .before .before .before .before .before .before .before .before .before .before .before .before .before .before .before .before .before .length-wrong .ensures) ∙ c .before .before .before .before .before .before .before .before .before .before .before .before .before .before .before .before .before .before .before .before .if1 .left in
     let told = c .before .before .before .before .before .before .before .before .enum-told .given .1 in
     let ended = c .before .before .before .before .finish in
-    let all = ran current (a .segment .now) before now right (done .result) (done .ensures) told in
-    run-ended current (a .segment .now) before now right (done .result) (done .ensures) told (ended .result)
-    (outputsOf (done .last .1 .0) (ended .last .1 .1 .1 .0) (ended .last .1 .1 .1 .1 .0))
-    (ended .ensures (a .segment .now) before (all .0) (all-packets current (a .segment .now) before now right (done .result) (done .ensures)
+    let all = ran _ (a .segment .now) before now right (done .result) (done .ensures) told in
+    run-ended _ (a .segment .now) before now right (done .result) (done .ensures) told (ended .result)
+    (outputsOf (done .last .1 .1 .0) (ended .last .1 .1 .1 .0) (ended .last .1 .1 .1 .1 .0))
+    (ended .ensures _ (a .segment .now) before (all .0) (all-packets _ (a .segment .now) before now right (done .result) (done .ensures)
     told) (all .2 .1) (all .2 .0))
 
 pub judge-spec : {M : Type 1} → statement M
@@ -97,9 +92,11 @@ judge-spec =
     (tie.spec
     length-wrong-requires
     at-requires
+    refuse-requires
     returns
     run-requires
     enum-known-outcome
+    refuse-requires-2
     enum-told
     finish-requires
     same-length

@@ -2,9 +2,13 @@
 use borrow.Author.Needs.{needs}
 use native.Mathlib.Omega.{arith}
 use Prim.Native.Nat.{_-_}
-use mathlib.Core.Path.{refl, _∙_}
-use Rattle.descriptor.specs.Edition.{current}
+use mathlib.Core.Path.{refl, subst, _∙_}
+use Rattle.descriptor.specs.Naming.{editionSays}
 use Rattle.segment_rules.specs.Check.{outputsOf}
+use Rattle.segment.specs.declared.state.Outcome.the-variants.{Passed}
+use Rattle.segment.specs.declared.tables.Tables.{Tables}
+use Rattle.segment.specs.declared.whole.Ran.{Ran}
+use Rattle.segment.specs.Parts.{RunTurn}
 use Rattle.segment.proofs.Holding.{same-bytes, same-lens, same-times, stands-fits}
 use Rattle.segment.proofs.Looping.{count-within, Running, begins, goes-on, stops-there, comes-to-end}
 use Rattle.segment.proofs.whole.run.Statement.{statement}
@@ -12,7 +16,7 @@ use Rattle.segment.proofs.whole.run.Tie as tie
 
 abbrev Inv-loop : tie.InvT-loop
 Inv-loop segment out₀ lens₀ times₀ count tables₀ extraction₀ totals₀ index₀ out lens times tables extraction totals index =
-    Running current segment (outputsOf out₀ lens₀ times₀) (outputsOf out lens times) tables extraction totals index
+    Running (editionSays (tables₀ .edition)) segment (outputsOf out₀ lens₀ times₀) (outputsOf out lens times) tables extraction totals index
 
 abbrev μ-loop : tie.MeasureT-loop
 μ-loop segment out₀ lens₀ times₀ count tables₀ extraction₀ totals₀ index₀ out lens times tables extraction totals index = count - index
@@ -29,7 +33,7 @@ none-yet-requires c κs = search needs
 loop-holds : tie.Need-loop-holds Inv-loop μ-loop
 loop-holds c =
     let a = c .before .before .before .before .before .before .before .args in
-    begins current (a .segment .now) (outputsOf (a .out .now) (a .lens .now) (a .times .now)) _ _ _
+    begins _ (a .segment .now) (outputsOf (a .out .now) (a .lens .now) (a .times .now)) _ _ _
     (c .before .before .fresh-tables .ensures) (c .before .fresh-extraction .ensures) (c .none-yet .ensures)
 
 step-requires : tie.Need-step-requires Inv-loop μ-loop
@@ -63,18 +67,15 @@ same-length-3 c =
 
 returns : tie.Need-returns Inv-loop μ-loop
 returns c =
-    let a = c .before .before .before .before .before .before .before .before .before .before .before .before .before .before .before
-    .before .before .before .before .before .before .args in
+    let a = c .before .before .before .before .before .before .before .before .before .before .before .before .before .before .before .before .before .before .before .before .before .args in
     let l = c .before .before .before .before .before .before .before .before .before .before .before .before .before .loop in
     let done = c .before .before .before .before .before .before .before .before .step in
     let before = outputsOf (a .out .now) (a .lens .now) (a .times .now) in
-    stops-there current (a .segment .now) before (outputsOf (l .out) (l .lens) (l .times)) (l .tables) (l .extraction) (l .totals)
-    (l .index) (l .inv) (c .before .before .before .before .before .before .before .before .before .before .before .before .loop-test
-    .taken) (done .result)
-    (outputsOf (done .last .1 .1 .1 .1 .0) (done .last .1 .1 .1 .1 .1 .0) (done .last .1 .1 .1 .1 .1 .1 .0)) (done .ensures) _
-    (c .enum-told2 .given .1)
-    (record { tables = l .tables; extraction = l .extraction; totals = l .totals; outcome = done .result .outcome })
-    (outputsOf (done .last .1 .1 .1 .1 .0) (done .last .1 .1 .1 .1 .1 .0) (done .last .1 .1 .1 .1 .1 .1 .0)) refl
+    let last = outputsOf (done .last .1 .1 .1 .1 .0) (done .last .1 .1 .1 .1 .1 .0) (done .last .1 .1 .1 .1 .1 .1 .0) in
+    let ran : Ran = record { tables = l .tables; extraction = l .extraction; totals = l .totals; outcome = done .result .outcome } in
+    subst (λ (x : Tables). RunTurn (editionSays (x .edition)) (a .segment .now) before ran last) (c .before .before .before .before .before .before .before .before .before .before .before .before .before .before .before .before .fresh-tables .ensures)
+    (stops-there _ (a .segment .now) before (outputsOf (l .out) (l .lens) (l .times)) (l .tables) (l .extraction) (l .totals)
+    (l .index) (l .inv) (c .before .before .before .before .before .before .before .before .before .before .before .before .loop-test .taken) (done .result) last (done .ensures _) _ (c .enum-told2 .given .1) ran last refl)
 
 count-packet-requires : tie.Need-count-packet-requires Inv-loop μ-loop
 count-packet-requires c κs =
@@ -111,10 +112,10 @@ loop-again c =
     .before .loop in
     let done = c .before .before .before .before .before .before .before .before .before .before .before .step in
     let before = outputsOf (a .out .now) (a .lens .now) (a .times .now) in
-    goes-on current (a .segment .now) before (outputsOf (l .out) (l .lens) (l .times)) (l .tables) (l .extraction) (l .totals) (l .index)
+    goes-on _ (a .segment .now) before (outputsOf (l .out) (l .lens) (l .times)) (l .tables) (l .extraction) (l .totals) (l .index)
     (l .inv) (c .before .before .before .before .before .before .before .before .before .before .before .before .before .before .before
     .loop-test .taken) (done .result)
-    (outputsOf (done .last .1 .1 .1 .1 .0) (done .last .1 .1 .1 .1 .1 .0) (done .last .1 .1 .1 .1 .1 .1 .0)) (done .ensures)
+    (outputsOf (done .last .1 .1 .1 .1 .0) (done .last .1 .1 .1 .1 .1 .0) (done .last .1 .1 .1 .1 .1 .1 .0)) (done .ensures _)
     (c .before .before .before .enum-told .given .1) _ (c .count-packet .ensures)
 
 same-length-4 : tie.Need-same-length-4 Inv-loop μ-loop
@@ -130,9 +131,11 @@ returns-2 : tie.Need-returns-2 Inv-loop μ-loop
 returns-2 c =
     let a = c .before .before .before .before .before .before .before .before .before .args in
     let l = c .before .loop in
-    comes-to-end current (a .segment .now) (outputsOf (a .out .now) (a .lens .now) (a .times .now))
-    (outputsOf (l .out) (l .lens) (l .times)) (l .tables) (l .extraction) (l .totals) (l .index) (l .inv)
-    (c .loop-test .left)
+    let before = outputsOf (a .out .now) (a .lens .now) (a .times .now) in
+    let last = outputsOf (l .out) (l .lens) (l .times) in
+    let ran : Ran = record { tables = l .tables; extraction = l .extraction; totals = l .totals; outcome = Passed } in
+    subst (λ (x : Tables). RunTurn (editionSays (x .edition)) (a .segment .now) before ran last) (c .before .before .before .before .fresh-tables .ensures)
+    (comes-to-end _ (a .segment .now) before last (l .tables) (l .extraction) (l .totals) (l .index) (l .inv) (c .loop-test .left))
 
 pub run-spec : {M : Type 1} → statement M
 run-spec =
