@@ -1,6 +1,6 @@
 -- The claim of request 2026-01 about a queue with its store (`claim`): send's bytes are accepted by the check, whose outputs then hold the
--- queued
--- units and their times. Two sends one after the other are accepted as one segment (`two-sends`). Assumes nothing.
+-- queued units and their times, and 2026-04's comparison is that of the queued units with the caller's descriptor. Two sends one after the
+-- other are accepted as one segment (`two-sends`). Assumes nothing.
 use Prim.Native.Nat.{ℕ, _+_, _≤_}
 use mathlib.Core.Bool.{false}
 use mathlib.Core.Path.{_≡_, refl, sym, ap, ap₂, subst, _∙_}
@@ -9,17 +9,21 @@ use native.Mathlib.Omega.{arith}
 use borrow.Author.Tests.{ltb-false}
 use lib.Dec.{ltb}
 use lib.ListN.{length, length-append}
-use Rattle.lists.specs.Lists.{Bytes, over, any}
+use Rattle.lists.specs.Lists.{Bytes, over, any, those}
 use Rattle.refusal.specs.Verdict.{Verdict, passed, refused, _>>=_, given}
 use Rattle.refusal.proofs.Verdicts.{passed-after, given-passed, passed-same, follows}
-use Rattle.descriptor.specs.Edition.{current}
+use Rattle.descriptor.specs.Descriptor.{registration, av01, fieldsOf, wrong}
+use Rattle.descriptor.specs.Edition.{current, editionOf}
 use Rattle.packet.specs.Writing.{counterAfter, counterBefore}
+use Rattle.pmt.specs.Pmt.{MapContent, videoDescriptors}
 use Rattle.pmt.specs.Writing.{mapFor}
+use Rattle.pmt.proofs.Writing.{six}
 use Rattle.queue.specs.declared.records.Queue.{Queue}
 use Rattle.queue.specs.Queue.{TimedUnit, queuedBytes, unitWrong, queueOf, QueueIs}
 use Rattle.queue.proofs.Keeping.{empty-is, as-units}
 use Rattle.segment_rules.specs.Check.{Accepted, Outputs, Progress, roomsOf, lengths, ptsAndDts, timesInTurn, holding, outputsAfter}
 use Rattle.segment_rules.specs.Check.{checkSegment, start, run, ending}
+use Rattle.segment_rules.specs.Comparison.{firstFrom, comparedWith, compared, checkCompared}
 use Rattle.segment_rules.specs.Rules.{Rooms, carriedUnits}
 use Rattle.segment_rules.proofs.Running.{run-append}
 use Rattle.mux.specs.declared.channel.Channel.{Channel}
@@ -27,7 +31,8 @@ use Rattle.mux.specs.declared.sending.Written.{Written}
 use Rattle.mux.specs.Packets.{packetsFor, segmentPackets, segment, packetsForUnits}
 use Rattle.mux.specs.Sending.{channelWrong, sending, unitsLeft, Sends}
 use Rattle.mux.specs.declared.sending.Sent.{Sent}
-use Rattle.mux.specs.Claim.{accessUnits, acceptedAs, LongEnough, unitLengths, unitTimes, handedBack, Claim, channelThen, TwoSends}
+use Rattle.mux.specs.Claim.{accessUnits, acceptedAs, LongEnough, unitLengths, unitTimes, handedBack, Claim}
+use Rattle.mux.specs.Claim.{channelThen, acceptedTwice, TwoSends}
 use Rattle.mux.proofs.Counts.{all-append, Whole, packets-back, whole-segment, length-segment}
 use Rattle.mux.proofs.Sent.{Allowed, allowed, each-whole, reached, renamed, send-first, send-again, ends}
 
@@ -104,13 +109,30 @@ send-accepted c d us rooms ok w few most long =
     (packets-back (segmentPackets c d us) (each-whole c d (ok .fine) us))
     ∙ ends c d ok rooms r)))
 
+-- ---- the comparison: the caller's descriptor is the one video descriptor of the map, so what is accepted is compared with it
+one-video : (d : Bytes) → wrong d ≡ false → videoDescriptors current (registration av01 ∷ d ∷ []) ≡ d ∷ []
+unfolding those
+one-video d fine = subst (λ (x : Bytes). videoDescriptors current (registration av01 ∷ x ∷ []) ≡ x ∷ []) (sym (six d fine)) refl
+
+compared-as : (rooms : Rooms) (s d : Bytes) (a : Accepted) (pid : ℕ) → wrong d ≡ false → a .map ≡ mapFor pid d
+    → checkSegment current rooms s ≡ passed a
+    → checkCompared 0 rooms s ≡ passed (record { accepted = a; disagreement = firstFrom 0 (fieldsOf d) (a .units) })
+unfolding checkCompared editionOf comparedWith _>>=_
+compared-as rooms s d a pid fine m v =
+    ap (λ (x : Verdict Accepted). x >>= λ y. passed (record { accepted = y; disagreement = compared current (y .map) (y .units) })) v
+    ∙ ap (λ (x : MapContent). passed (record { accepted = a; disagreement = compared current x (a .units) })) m
+    ∙ ap (λ (l : List Bytes). passed (record { accepted = a; disagreement = comparedWith l (a .units) })) (one-video d fine)
+
 pub claim : Claim
 unfolding outputsAfter
 claim c d room queue store us w o q e long =
     let p = passes c d room us w e in
     let few = q .few in
-    let v = send-accepted c d us (roomsOf o) (p .ok) (q .right) (omega arith) (p .few) long in
-    (v, ap (λ x. outputsAfter x o) v ∙ outputs-same 3 us o)
+    let v = send-accepted c d us (roomsOf o) (p .ok) (q .right) (omega arith) (p .few) long in (
+      v,
+      ap (λ x. outputsAfter x o) v ∙ outputs-same 3 us o,
+      compared-as (roomsOf o) (segment c d us) d (acceptedAs c d us) (c .«av1_pid») (p .ok .fine) refl v,
+    )
 
 -- ---- two sends
 flat-append : (ps qs : List Bytes) → flatten (ps ++ qs) ≡ flatten ps ++ flatten qs
@@ -169,13 +191,15 @@ two-sends c d pcr room room′ queue queue′ store store′ us more w w′ room
     let n = length-append ps qs in
     let first : 2 + 2 + (1 + k + 1) ≡ 6 + k = omega arith in
     let count : 1 + k + 1 + j ≡ 2 + k + j = omega arith in
+    let v : checkSegment current rooms (segment c d us ++ segment c2 d more) ≡ passed (acceptedTwice c d us more) =
     ap (checkSegment current rooms) (sym (flat-append ps qs))
     ∙ sym (follows (whole-segment (ps ++ qs) whole (omega (arith, length-segment c d us)) (omega (arith, p .packets, p2 .packets)))
     (sym (ap (λ (l : List Bytes). run current rooms start l >>= ending) (packets-back (ps ++ qs) whole)
     ∙ ap (λ (v : Verdict Progress). v >>= ending)
     (run-append current rooms start ps qs ∙ ap (λ (v : Verdict Progress). v >>= λ x. run current rooms x qs) (r .is))
     ∙ ends c d ok rooms r2
-    ∙ ap₂ (λ (x y : ℕ). passed (acceptedBoth c d us more x y)) first count)))
+    ∙ ap₂ (λ (x y : ℕ). passed (acceptedBoth c d us more x y)) first count))) in
+    (v, compared-as rooms (segment c d us ++ segment c2 d more) d (acceptedTwice c d us more) (c .«av1_pid») (ok .fine) refl v)
 
 -- ---- send keeps validity, refused or not: the queue that it hands back is valid with the store
 pub send-keeps : {queue : Queue} {store : Bytes} {units : List TimedUnit} (q : QueueIs queue store units) (c : Channel) (d out : Bytes)

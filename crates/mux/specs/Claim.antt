@@ -1,6 +1,5 @@
 -- "Where the queued bytes of the store stand as the operations left them, 01's check accepts what send writes and,
--- given
--- long enough buffers, returns the same units and times.": the statements, which are proved in proofs/. Assumes
+-- given long enough buffers, returns the same units and times.": the statements, which are proved in proofs/. Assumes
 -- nothing.
 use Prim.Native.Nat.{ℕ, suc, _+_, _*_, _≤_}
 use mathlib.Core.Bool.{true}
@@ -10,6 +9,7 @@ use lib.Dec.{leb}
 use lib.ListN.{length}
 use Rattle.lists.specs.Lists.{Bytes, over, all}
 use Rattle.refusal.specs.Verdict.{passed}
+use Rattle.descriptor.specs.Descriptor.{fieldsOf}
 use Rattle.descriptor.specs.Edition.{current}
 use Rattle.ticks.specs.declared.Ticks27.{Ticks27}
 use Rattle.packet.specs.Writing.{most}
@@ -20,6 +20,7 @@ use Rattle.queue.specs.Queue.{TimedUnit, queuedBytes, QueueIs}
 use Rattle.segment_rules.specs.State.{AccessUnit}
 use Rattle.segment_rules.specs.Rules.{Rooms}
 use Rattle.segment_rules.specs.Check.{Accepted, Outputs, roomsOf, outputsAfter, checkSegment}
+use Rattle.segment_rules.specs.Comparison.{Answered, firstFrom, checkCompared}
 use Rattle.mux.specs.declared.channel.Channel.{Channel}
 use Rattle.mux.specs.declared.sending.Written.{Written}
 use Rattle.mux.specs.Packets.{pes, firstMost, packetsFor, packetsForUnits, segment, nextChannel}
@@ -65,6 +66,16 @@ handedBack units o =
       times = over (unitTimes units) (o .times);
     }
 
+-- 2026-04: "In an accepted segment with a descriptor, each sequence header is compared": those of the queued units with
+-- the caller's descriptor. It answers "the unit of the first header .. that disagrees or is cut short", with the first
+-- unit of these as 0, "with its first differing field .., or none"
+abbrev pub answeredAs : Channel → Bytes → List TimedUnit → Answered
+answeredAs c descriptor units =
+    record {
+      accepted = acceptedAs c descriptor units;
+      disagreement = firstFrom 0 (fieldsOf descriptor) (accessUnits 3 units);
+    }
+
 abbrev pub Claim : Type 0
 Claim =
     (c : Channel) (descriptor : Bytes) (room : ℕ) (queue : Queue) (store : Bytes) (units : List TimedUnit)
@@ -73,6 +84,7 @@ Claim =
     → LongEnough units (roomsOf o)
     → (checkSegment current (roomsOf o) (segment c descriptor units) ≡ passed (acceptedAs c descriptor units))
     × (outputsAfter (checkSegment current (roomsOf o) (segment c descriptor units)) o ≡ handedBack units o)
+    × (checkCompared 0 (roomsOf o) (segment c descriptor units) ≡ passed (answeredAs c descriptor units))
 
 -- ---- two sends one after the other
 -- the channel of the second: the one that the first hands back, with a PCR
@@ -104,6 +116,15 @@ acceptedTwice c descriptor units more =
           };
     }
 
+-- and the comparison of the units of both with the caller's descriptor
+abbrev pub answeredTwice : Channel → Bytes → List TimedUnit → List TimedUnit → Answered
+answeredTwice c descriptor units more =
+    record {
+      accepted = acceptedTwice c descriptor units more;
+      disagreement =
+          firstFrom 0 (fieldsOf descriptor) (accessUnits 3 units ++ accessUnits (6 + packetsForUnits units) more);
+    }
+
 -- they are accepted as one segment, where both together have no more packets than a segment may have
 abbrev pub TwoSends : Type 0
 TwoSends =
@@ -113,12 +134,13 @@ TwoSends =
     → sending c descriptor room units ≡ passed written
     → sending (channelThen c units pcr) descriptor room′ more ≡ passed written′
     → written .packets + written′ .packets ≤ 65535 → LongEnough (units ++ more) rooms
-    → checkSegment current rooms (segment c descriptor units ++ segment (channelThen c units pcr) descriptor more)
-    ≡ passed (acceptedTwice c descriptor units more)
+    → (checkSegment current rooms (segment c descriptor units ++ segment (channelThen c units pcr) descriptor more)
+    ≡ passed (acceptedTwice c descriptor units more))
+    × (checkCompared 0 rooms (segment c descriptor units ++ segment (channelThen c units pcr) descriptor more)
+    ≡ passed (answeredTwice c descriptor units more))
 
 -- ---- "in as few packets as possible": a unit's PES in other parts, of which the first has at most as many bytes as
--- the
--- mark leaves, and each other at most 184, takes no fewer packets
+-- the mark leaves, and each other at most 184, takes no fewer packets
 abbrev pub Fewest : Type 0
 Fewest =
     (u : TimedUnit) (first : Bytes) (more : List Bytes) → length first ≤ firstMost (u .marked)
