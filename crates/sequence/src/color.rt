@@ -45,17 +45,17 @@ pub(crate) struct SequenceAt {
     pub next: Cursor,
 }
 
-fn color_description(content: &[u8], at: Cursor) -> DescriptionRead
-    ensures { λ r. ⌜ Reads (now (content .entry)) at colorDescription (r .description) (r .next) ⌝ }
+fn color_description(payload: &[u8], at: Cursor) -> DescriptionRead
+    ensures { λ r. ⌜ Reads (now (payload .entry)) at colorDescription (r .description) (r .next) ⌝ }
 {
-    let present = flag(content, at);
+    let present = flag(payload, at);
     let next = present.next;
     if present.set {
-        let primaries = number(content, next, 8);
+        let primaries = number(payload, next, 8);
         let behind_primaries = primaries.next;
-        let transfer = number(content, behind_primaries, 8);
+        let transfer = number(payload, behind_primaries, 8);
         let behind_transfer = transfer.next;
-        let matrix = number(content, behind_transfer, 8);
+        let matrix = number(payload, behind_transfer, 8);
         let behind_matrix = matrix.next;
         return DescriptionRead {
             description: Description {
@@ -88,12 +88,12 @@ fn is_srgb(d: Description) -> bool
     d.matrix == 0
 }
 
-fn coded_subsampling(content: &[u8], at: Cursor) -> ColorRead
-    ensures { λ r. ⌜ Reads (now (content .entry)) at codedSubsampling (r .color) (r .next) ⌝ }
+fn coded_subsampling(payload: &[u8], at: Cursor) -> ColorRead
+    ensures { λ r. ⌜ Reads (now (payload .entry)) at codedSubsampling (r .color) (r .next) ⌝ }
 {
-    let x = number(content, at, 1);
+    let x = number(payload, at, 1);
     let behind_x = x.next;
-    let y = number_if(x.value == 1, content, behind_x, 1);
+    let y = number_if(x.value == 1, payload, behind_x, 1);
     let next = y.next;
     ColorRead {
         color: Color {
@@ -105,8 +105,8 @@ fn coded_subsampling(content: &[u8], at: Cursor) -> ColorRead
     }
 }
 
-fn subsampling(profile: u8, twelve: u8, content: &[u8], at: Cursor) -> ColorRead
-    ensures { λ r. ⌜ Reads (now (content .entry)) at (Header·subsampling profile twelve) (r .color) (r .next) ⌝ }
+fn subsampling(profile: u8, twelve: u8, payload: &[u8], at: Cursor) -> ColorRead
+    ensures { λ r. ⌜ Reads (now (payload .entry)) at (Header·subsampling profile twelve) (r .color) (r .next) ⌝ }
 {
     if profile == 0 {
         return ColorRead {
@@ -129,7 +129,7 @@ fn subsampling(profile: u8, twelve: u8, content: &[u8], at: Cursor) -> ColorRead
         };
     }
     if twelve == 1 {
-        return coded_subsampling(content, at);
+        return coded_subsampling(payload, at);
     }
     ColorRead {
         color: Color {
@@ -151,10 +151,10 @@ fn both(x: u8, y: u8) -> bool
     y == 1
 }
 
-fn positioned(c: Color, content: &[u8], at: Cursor) -> ColorRead
-    ensures { λ r. ⌜ Reads (now (content .entry)) at (Header·positioned c) (r .color) (r .next) ⌝ }
+fn positioned(c: Color, payload: &[u8], at: Cursor) -> ColorRead
+    ensures { λ r. ⌜ Reads (now (payload .entry)) at (Header·positioned c) (r .color) (r .next) ⌝ }
 {
-    let position = number_if(both(c.x, c.y), content, at, 2);
+    let position = number_if(both(c.x, c.y), payload, at, 2);
     let next = position.next;
     ColorRead {
         color: Color {
@@ -166,10 +166,10 @@ fn positioned(c: Color, content: &[u8], at: Cursor) -> ColorRead
     }
 }
 
-fn grey(content: &[u8], at: Cursor) -> ColorRead
-    ensures { λ r. ⌜ Reads (now (content .entry)) at Header·grey (r .color) (r .next) ⌝ }
+fn grey(payload: &[u8], at: Cursor) -> ColorRead
+    ensures { λ r. ⌜ Reads (now (payload .entry)) at Header·grey (r .color) (r .next) ⌝ }
 {
-    let next = skip(content, at, 1);
+    let next = skip(payload, at, 1);
     ColorRead {
         color: Color {
             x: 1,
@@ -180,14 +180,14 @@ fn grey(content: &[u8], at: Cursor) -> ColorRead
     }
 }
 
-fn other_color(profile: u8, twelve: u8, content: &[u8], at: Cursor) -> ColorRead
-    ensures { λ r. ⌜ Reads (now (content .entry)) at (otherColor profile twelve) (r .color) (r .next) ⌝ }
+fn other_color(profile: u8, twelve: u8, payload: &[u8], at: Cursor) -> ColorRead
+    ensures { λ r. ⌜ Reads (now (payload .entry)) at (otherColor profile twelve) (r .color) (r .next) ⌝ }
 {
-    let ranged = skip(content, at, 1);
-    let sampled = subsampling(profile, twelve, content, ranged);
+    let ranged = skip(payload, at, 1);
+    let sampled = subsampling(profile, twelve, payload, ranged);
     let color = sampled.color;
     let next = sampled.next;
-    positioned(color, content, next)
+    positioned(color, payload, next)
 }
 
 fn chroma_format(
@@ -195,13 +195,13 @@ fn chroma_format(
     twelve: u8,
     monochrome: u8,
     d: Description,
-    content: &[u8],
+    payload: &[u8],
     at: Cursor,
 ) -> ColorRead
-    ensures { λ r. ⌜ Reads (now (content .entry)) at (chromaFormat profile twelve monochrome d) (r .color) (r .next) ⌝ }
+    ensures { λ r. ⌜ Reads (now (payload .entry)) at (chromaFormat profile twelve monochrome d) (r .color) (r .next) ⌝ }
 {
     if monochrome == 1 {
-        return grey(content, at);
+        return grey(payload, at);
     }
     if is_srgb(d) {
         return ColorRead {
@@ -213,7 +213,7 @@ fn chroma_format(
             next: at,
         };
     }
-    other_color(profile, twelve, content, at)
+    other_color(profile, twelve, payload, at)
 }
 
 // Whether twelve_bit is coded.
@@ -226,17 +226,17 @@ fn twelve_coded(profile: u8, high: u8) -> bool
     high == 1
 }
 
-pub(crate) fn color_config(profile: u8, point: Point, content: &[u8], at: Cursor) -> SequenceAt
-    ensures { λ r. ⌜ Reads (now (content .entry)) at (colorConfig profile point) (r .sequence) (r .next) ⌝ }
+pub(crate) fn color_config(profile: u8, point: Point, payload: &[u8], at: Cursor) -> SequenceAt
+    ensures { λ r. ⌜ Reads (now (payload .entry)) at (colorConfig profile point) (r .sequence) (r .next) ⌝ }
 {
-    let high = number(content, at, 1);
+    let high = number(payload, at, 1);
     let behind_high = high.next;
     let coded = twelve_coded(profile, high.value);
-    let twelve = number_if(coded, content, behind_high, 1);
+    let twelve = number_if(coded, payload, behind_high, 1);
     let behind_twelve = twelve.next;
-    let monochrome = number_if(profile != 1, content, behind_twelve, 1);
+    let monochrome = number_if(profile != 1, payload, behind_twelve, 1);
     let behind_monochrome = monochrome.next;
-    let described = color_description(content, behind_monochrome);
+    let described = color_description(payload, behind_monochrome);
     let description = described.description;
     let behind_description = described.next;
     let format = chroma_format(
@@ -244,7 +244,7 @@ pub(crate) fn color_config(profile: u8, point: Point, content: &[u8], at: Cursor
         twelve.value,
         monochrome.value,
         description,
-        content,
+        payload,
         behind_description,
     );
     let color = format.color;

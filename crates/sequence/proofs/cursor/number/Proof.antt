@@ -7,10 +7,10 @@ use Rattle.sequence.proofs.cursor.number.Statement.{statement}
 use Rattle.sequence.proofs.cursor.number.Tie as tie
 
 abbrev Inv-loop : tie.InvT-loop
-Inv-loop content n value₀ next₀ left₀ value next left = Counting content next₀ n value next left
+Inv-loop payload n value₀ next₀ left₀ value next left = Counting payload next₀ n value next left
 
 abbrev μ-loop : tie.MeasureT-loop
-μ-loop content n value₀ next₀ left₀ value next left = left
+μ-loop payload n value₀ next₀ left₀ value next left = left
 
 loop-holds : tie.Need-loop-holds Inv-loop μ-loop
 loop-holds c = counting-start _ _ _

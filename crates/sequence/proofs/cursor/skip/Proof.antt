@@ -7,10 +7,10 @@ use Rattle.sequence.proofs.cursor.skip.Statement.{statement}
 use Rattle.sequence.proofs.cursor.skip.Tie as tie
 
 abbrev Inv-loop : tie.InvT-loop
-Inv-loop content n next₀ left₀ next left = Skipping content next₀ n next left
+Inv-loop payload n next₀ left₀ next left = Skipping payload next₀ n next left
 
 abbrev μ-loop : tie.MeasureT-loop
-μ-loop content n next₀ left₀ next left = left
+μ-loop payload n next₀ left₀ next left = left
 
 loop-holds : tie.Need-loop-holds Inv-loop μ-loop
 loop-holds c = skipping-start _ _ _

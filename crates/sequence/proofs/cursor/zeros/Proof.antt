@@ -7,10 +7,10 @@ use Rattle.sequence.proofs.cursor.zeros.Statement.{statement}
 use Rattle.sequence.proofs.cursor.zeros.Tie as tie
 
 abbrev Inv-loop : tie.InvT-loop
-Inv-loop content count₀ next₀ count next = Zeroing content next₀ count next
+Inv-loop payload count₀ next₀ count next = Zeroing payload next₀ count next
 
 abbrev μ-loop : tie.MeasureT-loop
-μ-loop content count₀ next₀ count next = size content next
+μ-loop payload count₀ next₀ count next = size payload next
 
 loop-holds : tie.Need-loop-holds Inv-loop μ-loop
 loop-holds c = zeroing-start _ _

@@ -9,11 +9,11 @@ use Rattle.sequence.proofs.points.more_points.Statement.{statement}
 use Rattle.sequence.proofs.points.more_points.Tie as tie
 
 abbrev Inv-loop : tie.InvT-loop
-Inv-loop content count length delay-present next₀ left₀ next left =
-    Repeating content next₀ count (operatingPoint length delay-present) next left
+Inv-loop payload count length delay-present next₀ left₀ next left =
+    Repeating payload next₀ count (operatingPoint length delay-present) next left
 
 abbrev μ-loop : tie.MeasureT-loop
-μ-loop content count length delay-present next₀ left₀ next left = left
+μ-loop payload count length delay-present next₀ left₀ next left = left
 
 loop-holds : tie.Need-loop-holds Inv-loop μ-loop
 loop-holds c = repeating-start _ _ _ _
