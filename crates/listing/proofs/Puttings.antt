@@ -1,12 +1,9 @@
 -- What was put into a text, piece by piece. Assumes nothing.
-use Prim.Native.Nat.{ℕ, _+_, _≤_, _<_}
-use mathlib.Core.Path.{_≡_, refl, sym, ap, _∙_}
+use Prim.Native.Nat.{ℕ, _+_, _≤_}
+use mathlib.Core.Path.{_≡_, sym, ap, _∙_}
 use mathlib.Core.List.{[], _++_, append-assoc}
 use native.Mathlib.Omega.{arith}
-use native.Mathlib.Nat.{add-zero}
-use native.Mathlib.Numerals.{add-one}
-use lib.ListN.{length, take, set, getD, length-append, length-set, take-append-drop}
-use lib.Seq.{take-suc, take-all}
+use lib.ListN.{length, length-append, take-append-drop}
 use Rattle.lists.specs.Lists.{Bytes, placed}
 use Rattle.refusal.specs.Verdict.{passed, refused}
 use Rattle.emulation.specs.Payload.{unescape}
@@ -16,7 +13,7 @@ use Rattle.tsobu.specs.declared.judging.Figures.{Figures}
 use Rattle.listing.specs.Text.{ascii, decimal}
 use Rattle.listing.specs.Listing.{obuLine, lineSaid, payloadLine}
 use Rattle.listing.specs.Parts.{Puts}
-use Rattle.listing.proofs.Shared.{placed-byte, placed-twice}
+use Rattle.listing.proofs.Shared.{placed-twice}
 
 -- nothing yet
 pub puts-nothing : (text : Bytes) (at : ℕ) → Puts text at [] text at
@@ -36,30 +33,6 @@ puts-then {text} {w} {later} {v} {last} {at} {end} {stop} h p q =
 -- the same text by another name
 pub puts-as : {text w v later : Bytes} {at end : ℕ} → w ≡ v → Puts text at w later end → Puts text at v later end
 puts-as {text} {w} {v} {later} {at} {end} e p = rw e at p
-
--- a word byte by byte: of `word` the first i bytes are put
-pub record Putting (text : Bytes) (at : ℕ) (word later : Bytes) (i : ℕ) : Type 0 where
-  pub within : i ≤ length word
-  pub long : length later ≡ length text
-  pub so-far : Puts text at (take i word) later (at + i)
-
-pub putting-start : (text : Bytes) (at : ℕ) (word : Bytes) → Putting text at word text 0
-putting-start text at word = record { within = omega arith; long = refl; so-far = rw (add-zero at) (puts-nothing text at) }
-
-pub putting-next : {text word later : Bytes} {at i : ℕ} → at + length word ≤ length text → i < length word → Putting text at word later i
-    → Putting text at word (set later (at + i) (getD word i 0)) (i + 1)
-putting-next {text} {word} {later} {at} {i} h k p =
-    record {
-      within = omega arith;
-      long = length-set later (at + i) (getD word i 0) ∙ p .long;
-      so-far =
-          puts-as (sym (take-suc word i 0 k) ∙ ap (λ (n : ℕ). take n word) (sym (add-one i)))
-          (puts-then (omega arith) (p .so-far)
-          (record { stands = placed-byte later (at + i) (getD word i 0) (omega (arith, p .long)); ends = omega arith }));
-    }
-
-pub putting-end : {text word later : Bytes} {at i : ℕ} → length word ≤ i → Putting text at word later i → Puts text at word later (at + i)
-putting-end {text} {word} {later} {at} {i} k p = puts-as (take-all i word k) (p .so-far)
 
 -- the line of an OBU, piece by piece: a number, then a word and a number four times, then the end of the line
 pieces : (a t b u c v d w e z : Bytes)

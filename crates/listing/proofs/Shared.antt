@@ -1,10 +1,9 @@
--- Laws of `placed` (crate lists): what stands before and behind a string that was placed, one more byte, and two strings in a row. Assumes nothing.
-use Prim.Native.Nat.{ℕ, _+_, _≤_, _<_}
+-- Laws of `placed` (crate lists): what stands before and behind a string that was placed, and two strings in a row. Assumes nothing.
+use Prim.Native.Nat.{ℕ, _+_, _≤_}
 use mathlib.Core.Path.{_≡_, sym, ap, _∙_}
-use mathlib.Core.List.{List, [], _∷_, _++_, append-assoc}
-use native.Mathlib.Numerals.{add-one}
-use lib.ListN.{length, take, drop, set, length-append}
-use lib.Seq.{length-take-le, set-split, drop-drop, take-append-add, drop-append-add, take-append-seam, drop-append-seam}
+use mathlib.Core.List.{List, _++_, append-assoc}
+use lib.ListN.{length, take, drop, length-append}
+use lib.Seq.{length-take-le, drop-drop, take-append-add, drop-append-add, take-append-seam, drop-append-seam}
 use Rattle.lists.specs.Lists.{over, placed}
 
 module _ (out : List ℕ) (at : ℕ) (h : at ≤ length out) (w : List ℕ) where
@@ -29,7 +28,3 @@ module _ (out : List ℕ) (at : ℕ) (h : at ≤ length out) (w : List ℕ) wher
       ∙ append-assoc (take at out) w (v ++ drop (length v) (drop (length w) (drop at out)))
       ∙ ap (λ (l : List ℕ). take at out ++ l)
       (sym (append-assoc w v (drop (length v) (drop (length w) (drop at out)))) ∙ ap (λ (l : List ℕ). (w ++ v) ++ l) back)
-
-pub placed-byte : (out : List ℕ) (at b : ℕ) → at < length out → set out at b ≡ placed out at (b ∷ [])
-placed-byte out at b h =
-    set-split out at b h ∙ ap (λ (l : List ℕ). take at out ++ (b ∷ l)) (ap (λ (k : ℕ). drop k out) (sym (add-one at)) ∙ sym (drop-drop 1 at out))

@@ -4,17 +4,14 @@ ghost use mathlib.Core.List.{_++_};
 ghost use lib.ListN.{length};
 ghost use Rattle.listing.specs.Text.{decimal};
 ghost use Rattle.listing.specs.Parts.{Puts, numberRoom};
+use lists::copy;
 
 pub(crate) fn put_word(text: &mut [u8], at: usize, word: &[u8]) -> usize
     requires { ⌜ at + length (now word) ≤ length (now text) ⌝ }
     ensures { λ r. ⌜ Puts (now (text .entry)) at (now (word .entry)) (now (text .exit)) r ⌝ }
 {
-    let mut i: usize = 0;
-    while i < word.len() {
-        text[at + i] = word[i];
-        i += 1;
-    }
-    at + i
+    copy(word, &mut text[at..]);
+    at + word.len()
 }
 
 // A number's decimal digits.

@@ -8,7 +8,7 @@ use lib.ListN.{length, take, drop, getD, set, length-append, length-drop, getD-r
 use lib.Seq.{drop-drop, take-append-seam, drop-append-seam, set-append-seam}
 use Rattle.lists.specs.Lists.{Bytes, over, placed, pick}
 use borrow.Rule.Slice.PartMut.{midOf, putMid}
-use Rattle.lists.proofs.Parts.{next, next3, tail-placed}
+use Rattle.lists.proofs.Parts.{next, next3, tail-placed, tail-prefix}
 use Rattle.crc.specs.Crc.{crc}
 use Rattle.ticks.specs.declared.Ticks27.{Ticks27}
 use Rattle.ticks.specs.declared.Ticks90.{Ticks90}
@@ -125,6 +125,14 @@ pub put-next : (w v out s after : Bytes) (n : ℕ) → n ≡ length w → s ≡ 
 put-next w v out s after n e o h a =
     let l : length s ≡ length out = ap length o ∙ length-over w out (omega arith) in
     tail-placed n s v after (omega arith) a ∙ behind-put w v out s n e o
+
+-- the same by a total copy
+pub copy-next : (w v out s after : Bytes) (n : ℕ) → n ≡ length w → s ≡ over w out → length w + length v ≤ length out
+    → after ≡ over (take (length (midOf n (length s - n) s)) v) (midOf n (length s - n) s)
+    → putMid n (length s - n) s after ≡ over (w ++ v) out
+copy-next w v out s after n e o h a =
+    let l : length s ≡ length out = ap length o ∙ length-over w out (omega arith) in
+    tail-prefix n s v after (omega arith) a ∙ behind-put w v out s n e o
 
 pub control-lt : (n : ℕ) → control n < 4
 unfolding control

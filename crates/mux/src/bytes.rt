@@ -5,18 +5,6 @@ ghost use lib.ListN.{length};
 ghost use Rattle.lists.specs.Lists.{over};
 ghost use Rattle.packet.specs.Writing.{stuffing};
 
-// The bytes over the front of what is left of the output.
-pub(crate) fn copy(bytes: &[u8], out: &mut [u8])
-    requires { ⌜ length (now bytes) ≤ length (now out) ⌝ }
-    ensures { λ _. ⌜ now (out .exit) ≡ over (now (bytes .entry)) (now (out .entry)) ⌝ }
-{
-    let mut i: usize = 0;
-    while i < bytes.len() {
-        out[i] = bytes[i];
-        i += 1;
-    }
-}
-
 // So many bytes 0xFF over the front of what is left of the output.
 pub(crate) fn fill(n: usize, out: &mut [u8])
     requires { ⌜ n ≤ length (now out) ⌝ }

@@ -7,10 +7,10 @@ ghost use Rattle.packet.specs.Writing.{flag, header, control, adaptationField, 
 ghost use Rattle.ticks.specs.Writing.{pcrBytes};
 ghost use Rattle.mux.specs.Parts.{baseBytes};
 ghost use Rattle.mux.specs.Packets.{sectionPacket};
-use crate::bytes::copy;
 use crate::bytes::fill;
 use crate::bytes::high;
 use crate::bytes::low;
+use lists::copy;
 use ticks::Ticks27;
 
 // The header's second byte: payload_unit_start_indicator and the upper bits of the PID.

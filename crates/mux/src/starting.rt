@@ -8,11 +8,11 @@ ghost use Rattle.lists.specs.Lists.{over};
 ghost use Rattle.packet.specs.Writing.{carrying};
 ghost use Rattle.mux.specs.Packets.{firstMost, framePlace, within};
 ghost use Rattle.mux.specs.Parts.{firstSize, flagsOf};
-use crate::bytes::copy;
 use crate::frames::frame_begins;
 use crate::packets::control;
 use crate::packets::put_field;
 use crate::packets::put_header;
+use lists::copy;
 
 // How many bytes of a PES it has at most.
 pub(crate) fn first_most(marked: bool) -> usize

@@ -6,11 +6,11 @@ use mathlib.Core.List.{List, [], _∷_, _++_, map, flatten}
 use native.Mathlib.Omega.{arith}
 use borrow.Author.Tests.{lt-ltb, le-ltb, ltb-false}
 use borrow.Rule.Slice.PartMut.{midOf, putMid}
-use lib.ListN.{length, take, set, length-set, length-drop}
+use lib.ListN.{length, take, set, length-set}
 use lib.Seq.{length-take-le, take-all}
 use Rattle.lists.specs.Lists.{Bytes, pick, those, over}
 use Rattle.lists.proofs.Elements.{those-first, those-others}
-use Rattle.lists.proofs.Parts.{tail-lent, tail-placed}
+use Rattle.lists.proofs.Parts.{tail-prefix}
 use Rattle.lists.proofs.Tests.{case, clash}
 use Rattle.refusal.specs.Verdict.{Verdict, passed, refused, NoValue, given}
 use Rattle.refusal.proofs.Verdicts.{follows, stops, not-given, passed-after, given-passed, All}
@@ -281,20 +281,15 @@ pub room : (p out : Bytes) (one : One) → OneOf p one → (one .bytes ≡ 0 →
     → (3 ≤ one .bytes) × (3 ≤ length out) × (one .bytes - 3 ≤ length p) × (one .bytes ≤ length out)
 room p out one o n h = (o .front n .0, omega (arith, o .front n .0, o .bytes), omega (arith, o .short), omega (arith, o .bytes))
 
-pub copy-room : (p out : Bytes) (one : One) → OneOf p one → (one .bytes ≡ 0 → ⊥) → length (form p) ≤ length out
-    → length (take (one .bytes - 3) p) ≤ length (midOf 3 (length (set (set (set out 0 0) 1 0) 2 1) - 3) (set (set (set out 0 0) 1 0) 2 1))
-copy-room p out one o n h =
-    let coded : Bytes = set (set (set out 0 0) 1 0) 2 1 in
-    let long : length coded ≡ length out = length-set (set (set out 0 0) 1 0) 2 1 ∙ length-set (set out 0 0) 1 0 ∙ length-set out 0 0 in
-    let r = room p out one o n h in
-    omega (arith, r .3, length-take-le (one .bytes - 3) p (r .2), ap length (tail-lent 3 coded (omega (arith, r .1))), length-drop 3 coded)
-
 pub code-written : (p out after : Bytes) (one : One) → OneOf p one → (one .bytes ≡ 0 → ⊥) → length (form p) ≤ length out
-    → after ≡ over (take (one .bytes - 3) p) (midOf 3 (length (set (set (set out 0 0) 1 0) 2 1) - 3) (set (set (set out 0 0) 1 0) 2 1))
+    → after ≡ over (take (length (midOf 3 (length (set (set (set out 0 0) 1 0) 2 1) - 3) (set (set (set out 0 0) 1 0) 2 1)))
+    (take (one .bytes - 3) p)) (midOf 3 (length (set (set (set out 0 0) 1 0) 2 1) - 3) (set (set (set out 0 0) 1 0) 2 1))
     → putMid 3 (length (set (set (set out 0 0) 1 0) 2 1) - 3) (set (set (set out 0 0) 1 0) 2 1) after ≡ over (form p) out
 code-written p out after one o n h e =
     let coded : Bytes = set (set (set out 0 0) 1 0) 2 1 in
     let w : Bytes = take (one .bytes - 3) p in
     let long : length coded ≡ length out = length-set (set (set out 0 0) 1 0) 2 1 ∙ length-set (set out 0 0) 1 0 ∙ length-set out 0 0 in
-    let three : 3 ≤ length out = omega (arith, o .front n .0, o .bytes) in
-    tail-placed 3 coded w after (omega arith) e ∙ code-over out w three ∙ ap (λ (v : Bytes). over v out) (sym (o .front n .1))
+    let r = room p out one o n h in
+    let three : 3 ≤ length out = r .1 in
+    tail-prefix 3 coded w after (omega (arith, r .0, r .3, length-take-le (one .bytes - 3) p (r .2))) e ∙ code-over out w three
+    ∙ ap (λ (v : Bytes). over v out) (sym (o .front n .1))

@@ -12,6 +12,7 @@ ghost use Rattle.tsobu.specs.StartCodes.{payloads};
 ghost use Rattle.salvage.specs.Salvage.{closes as Salvage·closes, mark as Salvage·mark};
 ghost use Rattle.salvage.specs.Salvage.{marks as Salvage·marks, salvaged, salvaging, salvageSays};
 ghost use Rattle.salvage.specs.Parts.{Begins, form, forms, OneOf, MeasuredOf, acceptable};
+use lists::copy;
 use obu::Ordered;
 use refusal::Refusal;
 use refusal::Refused;
@@ -124,18 +125,6 @@ fn judge_one(payload: &[u8]) -> One
                 size,
             }
         }
-    }
-}
-
-// Bytes over the front of an output.
-fn copy(bytes: &[u8], out: &mut [u8])
-    requires { ⌜ length (now bytes) ≤ length (now out) ⌝ }
-    ensures { λ _. ⌜ now (out .exit) ≡ over (now (bytes .entry)) (now (out .entry)) ⌝ }
-{
-    let mut i: usize = 0;
-    while i < bytes.len() {
-        out[i] = bytes[i];
-        i += 1;
     }
 }
 

@@ -6,6 +6,7 @@ use mathlib.Core.Path.{sym, ap, _∙_}
 use lib.ListN.{length}
 use lib.Seq.{length-take-le}
 use Rattle.lists.specs.Lists.{Bytes, over}
+use Rattle.lists.proofs.Writing.{fits}
 use Rattle.salvage.proofs.Tries.{few-payloads, forms-fit}
 use Rattle.salvage.proofs.put.Statement.{statement}
 use Rattle.salvage.proofs.put.Tie as tie
@@ -28,9 +29,7 @@ slice-aggregate-copy : tie.Need-slice-aggregate-copy
 slice-aggregate-copy c = sym (length-take-le _ _ (room (c .before .before .before .before .before .before .before .before .before)))
 
 copy-requires : tie.Need-copy-requires
-copy-requires c κs =
-    let start = c .before .before .before .before .before .before .before .before .before .before in
-    omega (arith, length-take-le (start .args .measured .count) (start .args .measured .marks) (room start), start .pre .1 .1)
+copy-requires c κs = search needs
 
 same-length : tie.Need-same-length
 same-length c = search needs
@@ -42,9 +41,11 @@ returns : tie.Need-returns
 returns c =
     let at = c .before .before .before .before .before .before .before .before in
     let start = at .before .before .before .before .before in
-    let o = start .pre .0 .1 in (
+    let o = start .pre .0 .1 in
+    let n = length-take-le (start .args .measured .count) (start .args .measured .marks) (room start) in (
       at .write-kept .ensures,
-      c .before .before .copy .ensures ∙ ap (λ (w : Bytes). over w (start .args .marks .now)) (o .marks (start .pre .0 .2)),
+      c .before .before .copy .ensures ∙ fits (start .args .marks .now) _ (omega (arith, n, start .pre .1 .1))
+          ∙ ap (λ (w : Bytes). over w (start .args .marks .now)) (o .marks (start .pre .0 .2)),
     )
 
 pub put-spec : {M : Type 1} → statement M

@@ -5,7 +5,7 @@ use mathlib.Core.Path.{sym, _∙_}
 use Prim.Native.Nat.{_-_, _≤_}
 use lib.ListN.{length, length-set}
 use lib.Seq.{length-take-le}
-use Rattle.salvage.proofs.Forms.{none-written, room, copy-room, code-written}
+use Rattle.salvage.proofs.Forms.{none-written, room, code-written}
 use Rattle.salvage.proofs.write_one.Statement.{statement}
 use Rattle.salvage.proofs.write_one.Tie as tie
 
@@ -50,10 +50,7 @@ part-copy-end : tie.Need-part-copy-end
 part-copy-end c = search needs
 
 copy-requires : tie.Need-copy-requires
-copy-requires c κs =
-    let judged = c .before .before .before in
-    let start = judged .before .before .before in
-    copy-room (start .args .payload .now) (start .args .out .now) _ (judged .judge-one .ensures) (c .before .before .if1 .left) (start .pre)
+copy-requires c κs = search needs
 
 same-length : tie.Need-same-length
 same-length c = c .before .out .given .1 ∙ simp length-set

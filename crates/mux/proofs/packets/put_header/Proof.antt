@@ -1,9 +1,11 @@
 -- The four bytes are those of the definition.
 use borrow.Author.Needs.{needs}
+use native.Mathlib.Omega.{arith}
 use Prim.Native.Nat.{ℕ, _+_, _*_, _/_, _%_}
 use mathlib.Core.Path.{ap, ap₂, _∙_}
 use mathlib.Core.List.{[], _∷_}
 use Rattle.lists.specs.Lists.{over}
+use Rattle.lists.proofs.Writing.{fits}
 use Rattle.packet.specs.Writing.{flag}
 use Rattle.mux.proofs.packets.put_header.Statement.{statement}
 use Rattle.mux.proofs.packets.put_header.Tie as tie
@@ -30,7 +32,7 @@ returns : tie.Need-returns
 returns c =
     let a = c .before .before .before .before .before .before .before .before .before .args in
     let fourth = c .before .before .before .before .before .fourth in
-    c .before .before .copy .ensures
+    c .before .before .copy .ensures ∙ fits (a .out .now) _ (omega arith)
     ∙ ap₂ (λ (x y : ℕ). over (71 ∷ x ∷ y ∷ fourth .result ∷ []) (a .out .now))
     (c .before .before .before .before .before .before .before .second .ensures)
     (c .before .before .before .before .before .before .low .ensures)

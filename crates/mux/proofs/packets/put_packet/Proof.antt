@@ -9,7 +9,7 @@ use Rattle.lists.specs.Lists.{Bytes, over}
 use Rattle.packet.specs.Writing.{header, control, adaptationField}
 use Rattle.packet.proofs.Writing.{length-field}
 use Rattle.packet.specs.Writing.{carrying}
-use Rattle.mux.proofs.Puts.{put-next, control-lt}
+use Rattle.mux.proofs.Puts.{put-next, copy-next, control-lt}
 use Rattle.mux.proofs.packets.put_packet.Statement.{statement}
 use Rattle.mux.proofs.packets.put_packet.Tie as tie
 
@@ -70,7 +70,7 @@ returns c =
     (c .before .before .before .before .before .before .before .before .before .before .before .before .control .ensures) in
     let o2 = put-next h f (a .out .now) _ _ 4 refl o1 (omega arith)
     (c .before .before .before .before .before .before .put-field .ensures) in
-    put-next (h ++ f) (a .part .now) (a .out .now) _ _ (4 + n) (omega arith) o2 (omega arith) (c .before .before .copy .ensures)
+    copy-next (h ++ f) (a .part .now) (a .out .now) _ _ (4 + n) (omega arith) o2 (omega arith) (c .before .before .copy .ensures)
     ∙ ap (λ (w : Bytes). over w (a .out .now)) (append-assoc h f (a .part .now))
 
 pub put-packet-spec : {M : Type 1} → statement M

@@ -9,7 +9,7 @@ use Rattle.lists.specs.Lists.{Bytes, over}
 use Rattle.packet.specs.Writing.{stuffing, header}
 use Rattle.packet.proofs.Writing.{length-stuffing}
 use Rattle.packet.specs.Writing.{pcrPacket}
-use Rattle.mux.proofs.Puts.{put-next}
+use Rattle.mux.proofs.Puts.{put-next, copy-next}
 use Rattle.mux.proofs.packets.put_pcr.Statement.{statement}
 use Rattle.mux.proofs.packets.put_pcr.Tie as tie
 
@@ -79,7 +79,7 @@ returns c =
     let clock = c .before .before .before .before .before .before .before .before .before .pcr-bytes in
     let w = field (clock .result) in
     let l = length-stuffing 176 in
-    let o2 = put-next h w (a .out .now) _ _ 4 refl
+    let o2 = copy-next h w (a .out .now) _ _ 4 refl
     (c .before .before .before .before .before .before .before .before .before .before .before .before .put-header .ensures) (omega arith)
     (c .before .before .before .before .before .before .copy .ensures) in
     put-next (h ++ w) (stuffing 176) (a .out .now) _ _ 12 refl o2 (omega arith) (c .before .before .fill .ensures)

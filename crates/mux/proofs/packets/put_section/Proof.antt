@@ -9,7 +9,7 @@ use lib.ListN.{length, length-append}
 use Rattle.lists.specs.Lists.{Bytes, over}
 use Rattle.packet.specs.Writing.{stuffing, header}
 use Rattle.packet.proofs.Writing.{length-stuffing}
-use Rattle.mux.proofs.Puts.{put-next, section-as}
+use Rattle.mux.proofs.Puts.{put-next, copy-next, section-as}
 use Rattle.mux.proofs.packets.put_section.Statement.{statement}
 use Rattle.mux.proofs.packets.put_section.Tie as tie
 
@@ -76,10 +76,10 @@ returns c =
     let l = length-stuffing k in
     let m : k ≡ 183 - length s = omega arith in
     let ls = length-append (h ++ zero) s in
-    let o2 = put-next h zero out _ _ 4 refl
+    let o2 = copy-next h zero out _ _ 4 refl
     (c .before .before .before .before .before .before .before .before .before .before .before .before .before .before .before .put-header
     .ensures) (omega arith) (c .before .before .before .before .before .before .before .before .before .before .copy .ensures) in
-    let o3 = put-next (h ++ zero) s out _ _ 5 refl o2 (omega arith) (c .before .before .before .before .before .before .copy2 .ensures) in
+    let o3 = copy-next (h ++ zero) s out _ _ 5 refl o2 (omega arith) (c .before .before .before .before .before .before .copy2 .ensures) in
     put-next ((h ++ zero) ++ s) (stuffing k) out _ _ (5 + length s) (omega arith) o3 (omega arith) (c .before .before .fill .ensures)
     ∙ ap (λ (j : ℕ). over (h ++ (0 ∷ s ++ stuffing j)) out) m
     ∙ ap (λ (w : Bytes). over w out) (section-as (a .pid) (a .counter) s (omega arith))

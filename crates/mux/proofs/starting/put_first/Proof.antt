@@ -9,7 +9,7 @@ use lib.ListN.{length, length-append}
 use Rattle.lists.specs.Lists.{Bytes, over}
 use Rattle.packet.specs.Writing.{most, header, control, adaptationField, carrying}
 use Rattle.packet.proofs.Writing.{length-field}
-use Rattle.mux.proofs.Puts.{put-next, control-lt}
+use Rattle.mux.proofs.Puts.{put-next, copy-next, control-lt}
 use Rattle.mux.proofs.starting.put_first.Statement.{statement}
 use Rattle.mux.proofs.starting.put_first.Tie as tie
 
@@ -96,9 +96,9 @@ returns c =
     .control .ensures) in
     let o2 = put-next h f out _ _ 4 refl o1 (omega arith)
     (c .before .before .before .before .before .before .before .before .before .before .put-field .ensures) in
-    let o3 = put-next (h ++ f) w out _ _ (4 + n) (omega arith) o2 (omega arith)
+    let o3 = copy-next (h ++ f) w out _ _ (4 + n) (omega arith) o2 (omega arith)
     (c .before .before .before .before .before .before .copy .ensures) in
-    put-next ((h ++ f) ++ w) v out _ _ (4 + n + length w) (omega arith) o3 (omega arith) (c .before .before .copy2 .ensures)
+    copy-next ((h ++ f) ++ w) v out _ _ (4 + n + length w) (omega arith) o3 (omega arith) (c .before .before .copy2 .ensures)
     ∙ ap (λ (x : Bytes). over x out) (append-assoc (h ++ f) w v ∙ append-assoc h f (w ++ v))
     ∙ ap (λ (k : ℕ). over (header (a .pid) true (control k) (a .counter) ++ (adaptationField k (a .flags) ++ (w ++ v))) out) m
 

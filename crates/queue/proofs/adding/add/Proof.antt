@@ -3,7 +3,7 @@ use borrow.Author.Needs.{needs}
 use native.Mathlib.Omega.{arith}
 use mathlib.Core.Path.{refl, sym, _∙_}
 use Rattle.queue.specs.Queue.{timed}
-use Rattle.lists.proofs.Parts.{tail-placed}
+use Rattle.lists.proofs.Parts.{tail-prefix}
 use Rattle.queue.proofs.Operations.{total-within, adds-full, adds-unacceptable, adds-no-room, adds-added}
 use Rattle.queue.proofs.adding.add.Statement.{statement}
 use Rattle.queue.proofs.adding.add.Tie as tie
@@ -74,7 +74,7 @@ returns-5 c = λ units q.
     adds-added q (timed (a .unit .now) (a .pts) (a .dts) (a .marked)) (omega arith)
     (sym (c .before .before .before .before .before .before .before .before .not-acceptable .ensures)
     ∙ c .before .before .before .before .before .before .before .if2 .left) (a .queue .total) refl (omega arith) _ _
-    (tail-placed (a .queue .total) (a .store .now) (a .unit .now) _ (omega arith) (c .before .before .before .copy .ensures))
+    (tail-prefix (a .queue .total) (a .store .now) (a .unit .now) _ (omega arith) (c .before .before .before .copy .ensures))
     (c .with .ensures)
 
 pub add-spec : {M : Type 1} → statement M
