@@ -12,10 +12,10 @@ use Rattle.queue.specs.declared.records.Queue.{Queue}
 use Rattle.queue.specs.Queue.{TimedUnit, recordOf, noRecord, slots, queueOf, mostUnits, QueueIs}
 use Rattle.av1ts.specs.declared.queueing.QueueState.{QueueState}
 use Rattle.refusal.specs.Verdict.{Verdict}
-use Rattle.mux.specs.declared.channel.Channel.{Channel}
-use Rattle.mux.specs.declared.sending.Sent.{Sent}
-use Rattle.mux.specs.declared.sending.Written.{Written}
-use Rattle.mux.specs.Sending.{Sends}
+use Rattle.mux_rules.specs.declared.Channel.{Channel}
+use Rattle.mux_rules.specs.declared.Sent.{Sent}
+use Rattle.mux_rules.specs.declared.Written.{Written}
+use Rattle.mux_rules.specs.Sending.{Sends}
 use Rattle.av1ts.specs.declared.queueing.ChannelState.{ChannelState}
 use Rattle.av1ts.specs.Queueing.{slotFrom, queueFrom, mark, stateOf, channelState, sentWith, sentAnswer, Holds}
 

@@ -14,10 +14,10 @@ use Rattle.queue.specs.declared.records.Queued.{Queued}
 use Rattle.queue.specs.declared.records.Queue.{Queue}
 use Rattle.queue.specs.Queue.{TimedUnit, noRecord, queueOf, QueueIs, adding, dropping, isEmpty, unitsAfter, storeAfter}
 use Rattle.queue.specs.Queue.{storeWith}
-use Rattle.mux.specs.declared.channel.Channel.{Channel}
-use Rattle.mux.specs.declared.sending.Written.{Written}
-use Rattle.mux.specs.Packets.{segment}
-use Rattle.mux.specs.Sending.{sending, unitsLeft, channelLeft}
+use Rattle.mux_rules.specs.declared.Channel.{Channel}
+use Rattle.mux_rules.specs.declared.Written.{Written}
+use Rattle.mux_rules.specs.Packets.{segment}
+use Rattle.mux_rules.specs.Sending.{sending, unitsLeft, channelLeft}
 use Rattle.av1ts.specs.declared.queueing.QueueState.{QueueState}
 use Rattle.av1ts.specs.declared.queueing.QueuedAnswer.{QueuedAnswer}
 use Rattle.av1ts.specs.declared.queueing.ChannelState.{ChannelState}

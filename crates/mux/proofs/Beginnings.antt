@@ -24,7 +24,7 @@ use Rattle.obu.specs.Header.{typeBits}
 use Rattle.tsobu.specs.StartCodes.{startCode3, atStartCode, startCodesFrom, Split, split, payloads}
 use Rattle.unit.specs.Unit.{obusIn}
 use Rattle.tsobu.proofs.Splits.{split-code, split-byte, codes-yes, codes-no}
-use Rattle.mux.specs.Packets.{isFrame, firstFrame, within}
+use Rattle.mux_rules.specs.Packets.{isFrame, firstFrame, within}
 use Rattle.mux.specs.Parts.{frameAt}
 
 -- the first one of a string, whose first byte has this place

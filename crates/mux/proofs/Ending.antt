@@ -28,17 +28,17 @@ use Rattle.queue.specs.declared.records.Queued.{Queued}
 use Rattle.queue.specs.declared.records.Queue.{Queue}
 use Rattle.queue.specs.Queue.{TimedUnit, timed, queuedBytes, recordOf, noRecord, slots, queueOf, unitWrong, mostUnits, QueueIs}
 use Rattle.queue.proofs.Keeping.{bytes-within}
-use Rattle.mux.specs.declared.channel.Channel.{Channel}
-use Rattle.mux.specs.declared.sending.Written.{Written}
-use Rattle.mux.specs.declared.sending.SendAnswer.the-variants as answer
-use Rattle.mux.specs.declared.sending.Sent.{Sent}
-use Rattle.mux.specs.Packets.{sectionPacket, segmentPackets, segment, unitsPackets, packetsForUnits, nextChannel}
-use Rattle.mux.specs.Sending.{channelWrong, sending, unitsLeft, channelLeft, Sends}
+use Rattle.mux_rules.specs.declared.Channel.{Channel}
+use Rattle.mux_rules.specs.declared.Written.{Written}
+use Rattle.mux_rules.specs.declared.SendAnswer.the-variants as answer
+use Rattle.mux_rules.specs.declared.Sent.{Sent}
+use Rattle.mux_rules.specs.Packets.{sectionPacket, segmentPackets, segment, unitsPackets, packetsForUnits, nextChannel}
+use Rattle.mux_rules.specs.Sending.{channelWrong, sending, unitsLeft, channelLeft, Sends}
 use Rattle.mux.specs.Parts.{filled, slotUnits, slotWrong, formed, wellFormed, slotsPackets, tablePackets}
-use Rattle.mux.proofs.Counts.{section-whole, flat-length, length-segment}
+use Rattle.mux_rules.proofs.Counts.{section-whole, flat-length, length-segment}
 use Rattle.mux.proofs.Puts.{put-next, length-over}
 use Rattle.mux.proofs.Placing.{units-long, mid-long}
-use Rattle.mux.proofs.Sent.{right, allowed, each-whole}
+use Rattle.mux_rules.proofs.Reaching.{right, allowed, each-whole}
 use Rattle.mux.proofs.Slotting.{formed-on, formed-none, units-packets, well}
 
 -- ---- the descriptor, from what its reading says

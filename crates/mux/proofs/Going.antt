@@ -16,11 +16,11 @@ use Rattle.lists.proofs.Tests.{case}
 use Rattle.lists.proofs.Picks.{by-lt, by-ge}
 use Rattle.mux.specs.Parts.{partSize}
 use Rattle.packet.specs.Writing.{most, carrying, counterAfter}
-use Rattle.mux.specs.Packets.{othersFor, others}
+use Rattle.mux_rules.specs.Packets.{othersFor, others}
 use Rattle.packet.proofs.Writing.{length-carrying}
-use Rattle.mux.proofs.Cuts.{others-next}
-use Rattle.mux.proofs.Counts.{others-whole, length-others}
-use Rattle.mux.proofs.Counts.{flat-length}
+use Rattle.mux_rules.proofs.Cuts.{others-next}
+use Rattle.mux_rules.proofs.Counts.{others-whole, length-others}
+use Rattle.mux_rules.proofs.Counts.{flat-length}
 use Rattle.mux.proofs.Puts.{put-next, length-over}
 
 -- the packets of the bytes from a place on

@@ -1,11 +1,3 @@
-pub mod Cuts
-pub mod Counts
-pub mod States
-pub mod Tabling
-pub mod Fewest
-pub mod Units
-pub mod Sent
-pub mod Claims
 pub mod Puts
 pub mod Going
 pub mod Beginnings

@@ -1,6 +1,5 @@
 -- A unit's packets, in the two parts in which they are written, and the loop over all units: what is written, then the packets of the
--- units to come, are
--- the packets of all. Assumes nothing.
+-- units to come, are the packets of all. Assumes nothing.
 use Prim.Native.Nat.{ℕ, suc, _+_, _-_, _*_, _≤_, _<_}
 use mathlib.Core.Bool.{true}
 use mathlib.Core.Path.{_≡_, refl, sym, ap, ap₂, _∙_}
@@ -18,11 +17,11 @@ use Rattle.packet.specs.Writing.{flag, carrying, counterAfter}
 use Rattle.packet.proofs.Writing.{length-carrying}
 use Rattle.queue.specs.declared.records.Queued.{Queued}
 use Rattle.queue.specs.Queue.{TimedUnit, timed}
-use Rattle.mux.specs.Packets.{header, firstMost, firstPart, otherParts, othersFor, packetsFor, framePlace, within, unitBytes}
-use Rattle.mux.specs.Packets.{firstFlags, others, unitPackets, unitsPackets, packetsForUnits}
+use Rattle.mux_rules.specs.Packets.{header, firstMost, firstPart, otherParts, othersFor, packetsFor, framePlace, within, unitBytes}
+use Rattle.mux_rules.specs.Packets.{firstFlags, others, unitPackets, unitsPackets, packetsForUnits}
 use Rattle.mux.specs.Parts.{headSize, firstSize, flagsOf, slotUnits, formed, slotPackets, slotsPackets}
-use Rattle.mux.proofs.Cuts.{firstBytes, first-part, other-parts, first-short}
-use Rattle.mux.proofs.Counts.{others-whole, length-others, unit-whole, units-whole, length-unit, length-units, flat-length}
+use Rattle.mux_rules.proofs.Cuts.{firstBytes, first-part, other-parts, first-short}
+use Rattle.mux_rules.proofs.Counts.{others-whole, length-others, unit-whole, units-whole, length-unit, length-units, flat-length}
 use Rattle.mux.proofs.Puts.{put-next, length-over}
 use Rattle.mux.proofs.Slotting.{header-size, unit-packets, Sound, sound, units-packets}
 
@@ -191,16 +190,16 @@ module _ (pid counter : ℕ) (rs : List Queued) (store out₀ : Bytes) where
         good-slot : formed (r ∷ drop (i + 1) rs) (length store - at) ≡ true
         good-slot = ap (λ (l : List Queued). formed l (length store - at)) (sym more) ∙ g .good
 
-        pub slot-sound : Sound r (drop (i + 1) rs) (length store - at)
+        slot-sound : Sound r (drop (i + 1) rs) (length store - at)
         slot-sound = sound r (drop (i + 1) rs) (length store - at) good-slot
 
-        pub slot-ends : at + r .length ≤ length store
+        slot-ends : at + r .length ≤ length store
         slot-ends = let w = g .within in omega (arith, slot-sound .within)
 
         carried-long : length (take (r .length) s) ≡ r .length
         carried-long = length-take-le (r .length) s (omega (arith, length-drop at store, slot-ends))
 
-        pub slot-count : packetsFor u ≡ slotPackets r
+        slot-count : packetsFor u ≡ slotPackets r
         slot-count = unit-packets u ∙ ap (λ (n : ℕ). suc (othersFor (headSize (r .pts) (r .dts) + n - firstMost (r .marked)))) carried-long
 
         two-parts : packetsFrom pid next (drop i rs) s
@@ -225,13 +224,13 @@ module _ (pid counter : ℕ) (rs : List Queued) (store out₀ : Bytes) where
               unit-long pid next u,
             )
 
-        pub slot-room : 188 * packetsFor u ≤ length (midOf to (length out - to) out)
+        slot-room : 188 * packetsFor u ≤ length (midOf to (length out - to) out)
         slot-room = omega (arith, total, filling-long, mid-long out to (omega (arith, total, filling-long)))
 
-        pub slot-to : to + 188 * slotPackets r ≤ length out₀
+        slot-to : to + 188 * slotPackets r ≤ length out₀
         slot-to = omega (arith, total, slot-count)
 
-        pub filling-next : (n next′ : ℕ) (after : Bytes) → n ≡ slotPackets r → next′ ≡ counterAfter next n
+        filling-next : (n next′ : ℕ) (after : Bytes) → n ≡ slotPackets r → next′ ≡ counterAfter next n
             → after ≡ over (flatten (unitPackets pid next u)) (midOf to (length out - to) out)
             → Filling pid counter rs store out₀ (i + 1) (at + r .length) (to + 188 * n) next′ (putMid to (length out - to) out after)
         filling-next n next′ after en ek ea =
@@ -253,6 +252,32 @@ module _ (pid counter : ℕ) (rs : List Queued) (store out₀ : Bytes) where
               within = slot-ends;
               good = ap (formed (drop (i + 1) rs)) (sym left) ∙ slot-sound .rest;
             }
+
+-- a turn of the loop, with the slot r: what its bytes need and where they go
+pub record Turn (pid counter : ℕ) (rs : List Queued) (store out₀ : Bytes) (i at to next : ℕ) (out : Bytes) (r : Queued) : Type 0 where
+  pub sound : Sound r (drop (i + 1) rs) (length store - at)
+  pub ends : at + r .length ≤ length store
+  pub long : length out ≡ length out₀
+  pub reaches : to + 188 * slotPackets r ≤ length out₀
+  pub room : 188 * packetsFor (unitIn r (drop at store)) ≤ length (midOf to (length out - to) out)
+  pub low : next < 16
+  pub filling : (n next′ : ℕ) (after : Bytes) → n ≡ slotPackets r → next′ ≡ counterAfter next n
+      → after ≡ over (flatten (unitPackets pid next (unitIn r (drop at store)))) (midOf to (length out - to) out)
+      → Filling pid counter rs store out₀ (i + 1) (at + r .length) (to + 188 * n) next′ (putMid to (length out - to) out after)
+
+pub turn : (pid counter : ℕ) (rs : List Queued) (store out₀ : Bytes) → 188 * slotsPackets rs ≤ length out₀ → formed rs (length store) ≡ true
+    → {i at to next : ℕ} {out : Bytes} → Filling pid counter rs store out₀ i at to next out
+    → (r : Queued) → drop i rs ≡ r ∷ drop (i + 1) rs → Turn pid counter rs store out₀ i at to next out r
+turn pid counter rs store out₀ fits all g r more =
+    record {
+      sound = slot-sound pid counter rs store out₀ fits all g r more;
+      ends = slot-ends pid counter rs store out₀ fits all g r more;
+      long = filling-long pid counter rs store out₀ fits all g;
+      reaches = slot-to pid counter rs store out₀ fits all g r more;
+      room = slot-room pid counter rs store out₀ fits all g r more;
+      low = g .low;
+      filling = filling-next pid counter rs store out₀ fits all g r more;
+    }
 
 -- a part of the store, as a call is lent it
 pub part-is : (s : Bytes) (at n : ℕ) → take (at + n - at) (drop at s) ≡ take n (drop at s)

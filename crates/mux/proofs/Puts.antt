@@ -16,7 +16,7 @@ use Rattle.ticks.specs.Writing.{timeBytes}
 use Rattle.packet.specs.Writing.{flag, stuffing, header, most, control, adaptationField, carrying}
 use Rattle.psi.specs.Writing.{sectionPayload}
 use Rattle.psi.proofs.Writing.{length-payload}
-use Rattle.mux.specs.Packets.{sectionPacket}
+use Rattle.mux_rules.specs.Packets.{sectionPacket}
 use Rattle.ticks.specs.Writing.{pcrBytes}
 use Rattle.mux.specs.Parts.{baseBytes}
 use Rattle.psi.specs.Writing.{pat}

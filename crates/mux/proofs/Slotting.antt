@@ -20,7 +20,7 @@ use Rattle.unit.specs.Unit.{mostCarried}
 use Rattle.queue.specs.declared.records.Queued.{Queued}
 use Rattle.queue.specs.declared.records.Queue.{Queue}
 use Rattle.queue.specs.Queue.{TimedUnit, timed, timePast, mostUnits}
-use Rattle.mux.specs.Packets.{header, pes, firstMost, othersFor, packetsFor, packetsForUnits}
+use Rattle.mux_rules.specs.Packets.{header, pes, firstMost, othersFor, packetsFor, packetsForUnits}
 use Rattle.mux.specs.Parts.{fieldOf, headSize, filled, slotUnits, slotWrong, formed, wellFormed, slotPackets, slotsPackets}
 
 -- ---- the header

@@ -16,8 +16,8 @@ use Rattle.unit.specs.Unit.{mostCarried}
 use Rattle.queue.specs.declared.records.Queued.{Queued}
 use Rattle.queue.specs.declared.records.Queue.{Queue}
 use Rattle.queue.specs.Queue.{TimedUnit, timed, timePast, mostUnits}
-use Rattle.mux.specs.declared.channel.Channel.{Channel}
-use Rattle.mux.specs.Packets.{firstMost, othersFor, sectionPacket}
+use Rattle.mux_rules.specs.declared.Channel.{Channel}
+use Rattle.mux_rules.specs.Packets.{firstMost, othersFor, sectionPacket}
 
 -- the first four bytes of a PCR, of its base
 abbrev pub baseBytes : ℕ → Bytes

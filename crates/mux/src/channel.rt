@@ -1,20 +1,9 @@
-// What the caller says of a segment that is to be written, beside the units and the video descriptor.
+// 52: what the caller says of a segment that is to be written.
 ghost use mathlib.Core.Path.{_≡_};
 ghost use Rattle.descriptor.specs.Descriptor.{wrong};
-ghost use Rattle.mux.specs.Sending.{mapPidWrong, av1PidWrong, programWrong, countersWrong, channelWrong};
+ghost use Rattle.mux_rules.specs.Sending.{mapPidWrong, av1PidWrong, programWrong, countersWrong, channelWrong};
 use descriptor::VideoRead;
-use ticks::Ticks27;
-
-// The counters are those of each PID's next payload.
-pub struct Channel {
-    pub program: u64,
-    pub map_pid: u64,
-    pub av1_pid: u64,
-    pub pcr: Ticks27,
-    pub pat_counter: u64,
-    pub map_counter: u64,
-    pub av1_counter: u64,
-}
+use mux_rules::Channel;
 
 fn video_wrong(video: &[u8]) -> bool
     ensures { λ r. ⌜ r ≡ wrong (now (video .entry)) ⌝ }

@@ -5,7 +5,7 @@ ghost use Prim.Native.Nat.{_*_, _≤_, _<_};
 ghost use lib.ListN.{length};
 ghost use Rattle.lists.specs.Lists.{over};
 ghost use Rattle.packet.specs.Writing.{counterAfter};
-ghost use Rattle.mux.specs.Packets.{othersFor, others};
+ghost use Rattle.mux_rules.specs.Packets.{othersFor, others};
 ghost use Rattle.mux.specs.Parts.{partSize};
 use crate::packets::put_packet;
 

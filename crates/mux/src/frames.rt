@@ -6,7 +6,7 @@ ghost use lib.Dec.{eqb};
 ghost use lib.ListN.{length, drop};
 ghost use Rattle.tsobu.specs.StartCodes.{atStartCode};
 ghost use Rattle.obu.specs.Header.{typeBits};
-ghost use Rattle.mux.specs.Packets.{framePlace, within};
+ghost use Rattle.mux_rules.specs.Packets.{framePlace, within};
 ghost use Rattle.mux.specs.Parts.{frameAt};
 use lists::byte_at;
 

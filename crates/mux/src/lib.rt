@@ -11,8 +11,4 @@ mod sending;
 mod starting;
 mod writing;
 
-pub use channel::Channel;
-pub use sending::SendAnswer;
-pub use sending::Sent;
-pub use sending::Written;
 pub use sending::send;

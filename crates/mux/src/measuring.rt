@@ -2,7 +2,7 @@
 ghost use mathlib.Core.Path.{_≡_};
 ghost use mathlib.Core.Bool.{true};
 ghost use Prim.Native.Nat.{_≤_};
-ghost use Rattle.mux.specs.Packets.{othersFor};
+ghost use Rattle.mux_rules.specs.Packets.{othersFor};
 ghost use Rattle.mux.specs.Parts.{filled, slotWrong, wellFormed, slotPackets, slotsPackets};
 use crate::headers::head_size;
 use crate::starting::first_most;

@@ -6,7 +6,7 @@ ghost use Rattle.lists.specs.Lists.{over};
 ghost use Rattle.packet.specs.Writing.{flag, header, control, adaptationField, carrying, pcrPacket};
 ghost use Rattle.ticks.specs.Writing.{pcrBytes};
 ghost use Rattle.mux.specs.Parts.{baseBytes};
-ghost use Rattle.mux.specs.Packets.{sectionPacket};
+ghost use Rattle.mux_rules.specs.Packets.{sectionPacket};
 use crate::bytes::fill;
 use crate::bytes::high;
 use crate::bytes::low;

@@ -7,9 +7,8 @@ ghost use lib.ListN.{length};
 ghost use Rattle.lists.specs.Lists.{over};
 ghost use Rattle.packet.specs.Writing.{counterBefore};
 ghost use Rattle.queue.specs.Queue.{TimedUnit, QueueIs};
-ghost use Rattle.mux.specs.Sending.{channelWrong, Sends};
+ghost use Rattle.mux_rules.specs.Sending.{channelWrong, Sends};
 ghost use Rattle.mux.specs.Parts.{tablePackets, channelAfter};
-use crate::channel::Channel;
 use crate::channel::channel_wrong;
 use crate::measuring::queue_packets;
 use crate::measuring::well_formed;
@@ -19,28 +18,13 @@ use crate::sections::pat_section;
 use crate::sections::pmt_section;
 use crate::writing::counter_after;
 use crate::writing::put_units;
+use mux_rules::Channel;
+use mux_rules::SendAnswer;
+use mux_rules::Sent;
+use mux_rules::Written;
 use queue::Queue;
 use refusal::Refusal;
 use refusal::Refused;
-
-// How many bytes and packets were written.
-pub struct Written {
-    pub bytes: usize,
-    pub packets: usize,
-}
-
-// The segment was written; or 52, 53, 8.
-pub enum SendAnswer {
-    Sent(Written),
-    Refused(Refused),
-}
-
-// The answer, the channel with the counters that follow, and the queue then.
-pub struct Sent {
-    pub answer: SendAnswer,
-    pub next: Channel,
-    pub queue: Queue,
-}
 
 // One less modulo 16.
 fn counter_before(counter: u64) -> u64

@@ -6,7 +6,7 @@ ghost use Prim.Native.Nat.{_+_, _≤_, _<_};
 ghost use lib.ListN.{length};
 ghost use Rattle.lists.specs.Lists.{over};
 ghost use Rattle.packet.specs.Writing.{carrying};
-ghost use Rattle.mux.specs.Packets.{firstMost, framePlace, within};
+ghost use Rattle.mux_rules.specs.Packets.{firstMost, framePlace, within};
 ghost use Rattle.mux.specs.Parts.{firstSize, flagsOf};
 use crate::frames::frame_begins;
 use crate::packets::control;

@@ -7,7 +7,7 @@ ghost use lib.ListN.{length};
 ghost use Rattle.lists.specs.Lists.{over};
 ghost use Rattle.queue.specs.Queue.{timed};
 ghost use Rattle.packet.specs.Writing.{counterAfter};
-ghost use Rattle.mux.specs.Packets.{packetsFor, unitPackets, unitsPackets};
+ghost use Rattle.mux_rules.specs.Packets.{packetsFor, unitPackets, unitsPackets};
 ghost use Rattle.mux.specs.Parts.{filled, slotUnits, wellFormed, slotsPackets};
 use crate::cutting::next_counter;
 use crate::cutting::put_others;

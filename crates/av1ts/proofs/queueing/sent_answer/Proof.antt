@@ -5,7 +5,7 @@ use mathlib.Core.Path.{sym, ap, _∙_}
 use Rattle.lists.proofs.Parts.{next}
 use Rattle.av1ts.proofs.Queues.{sent-by}
 use Rattle.av1ts.specs.Queueing.{sentWith}
-use Rattle.mux.specs.Sending.{sendSays}
+use Rattle.mux_rules.specs.Sending.{sendSays}
 use Rattle.refusal.specs.Verdict.{refused}
 use Rattle.av1ts.proofs.queueing.sent_answer.Statement.{statement}
 use Rattle.av1ts.proofs.queueing.sent_answer.Tie as tie

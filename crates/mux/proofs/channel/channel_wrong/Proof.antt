@@ -4,7 +4,7 @@ use mathlib.Core.Path.{refl, sym, _∙_}
 use Rattle.lists.proofs.Tests.{or-by-true, or-by-false}
 use mathlib.Core.Bool.{or-false}
 use Rattle.lists.specs.Lists.{any}
-use Rattle.mux.specs.Sending.{channelWrong}
+use Rattle.mux_rules.specs.Sending.{channelWrong}
 use Rattle.mux.proofs.channel.channel_wrong.Statement.{statement}
 use Rattle.mux.proofs.channel.channel_wrong.Tie as tie
 

@@ -1,7 +1,7 @@
 -- What is written, and the packets of the bytes to come, are the packets of the whole.
 use borrow.Author.Needs.{needs}
 use native.Mathlib.Omega.{arith}
-use Prim.Native.Nat.{ℕ, _+_, _-_, _≤_}
+use Prim.Native.Nat.{ℕ, _+_, _-_, _≤_, _<_}
 use mathlib.Core.Path.{_≡_, ap}
 use lib.ListN.{length, take, drop}
 use Rattle.mux.proofs.Going.{Going, going-start, going-long, going-room, going-on, going-done, size-by, size-within, mid-room}
@@ -24,17 +24,25 @@ sub-part-size c = omega arith
 part-size-requires : tie.Need-part-size-requires Inv-loop μ-loop
 part-size-requires c κs = search needs
 
+-- the output has room for one more packet
+room : (c : tie.In-loop Inv-loop μ-loop)
+    → let to = c .before .loop .to in
+    (to + 188 ≤ length (c .before .loop .out)) × (to + 188 ≤ length (c .before .before .before .before .args .out .now))
+room c =
+    let g = c .before .loop .inv in
+    let fits = c .before .before .before .before .pre .2 in
+    let r = going-room g (c .loop-test .taken) fits in
+    (omega (arith, going-long g fits), r)
+
+-- the packet takes some of the bytes that are left
+size : (c : tie.After-part-size Inv-loop μ-loop)
+    → let n = c .part-size .result in
+    let left = length (c .before .before .before .before .before .args .bytes .now) - c .before .before .loop .at in
+    (0 < n) × (n ≤ left) × (n ≤ 184)
+size c = size-within (c .part-size .result) _ (c .part-size .ensures) (omega (arith, c .before .loop-test .taken))
+
 add-end : tie.Need-add-end Inv-loop μ-loop
-add-end c =
-    let at = c .before .before .loop in
-    let a = c .before .before .before .before .before .args in
-    let g = at .inv in
-    let w = g .within in
-    let low = g .low in
-    let fits = c .before .before .before .before .before .pre .2 in
-    let long = going-long g fits in
-    let size = size-within (c .part-size .result) (length (a .bytes .now) - at .at) (c .part-size .ensures) (omega arith) in
-    omega arith
+add-end c = omega (arith, size c .1, c .before .before .loop .inv .within)
 
 sub-put-packet : tie.Need-sub-put-packet Inv-loop μ-loop
 sub-put-packet c = omega arith
@@ -43,119 +51,43 @@ part-put-packet-start : tie.Need-part-put-packet-start Inv-loop μ-loop
 part-put-packet-start c = omega arith
 
 part-put-packet-end : tie.Need-part-put-packet-end Inv-loop μ-loop
-part-put-packet-end c =
-    let at = c .before .before .loop in
-    let a = c .before .before .before .before .before .args in
-    let g = at .inv in
-    let w = g .within in
-    let low = g .low in
-    let fits = c .before .before .before .before .before .pre .2 in
-    let long = going-long g fits in
-    let size = size-within (c .part-size .result) (length (a .bytes .now) - at .at) (c .part-size .ensures) (omega arith) in
-    omega arith
+part-put-packet-end c = omega (arith, size c .1, c .before .before .loop .inv .within)
 
 sub-put-packet-2 : tie.Need-sub-put-packet-2 Inv-loop μ-loop
-sub-put-packet-2 c =
-    let at = c .before .before .before .loop in
-    let a = c .before .before .before .before .before .before .args in
-    let g = at .inv in
-    let w = g .within in
-    let low = g .low in
-    let fits = c .before .before .before .before .before .before .pre .2 in
-    let long = going-long g fits in
-    let room = going-room g (omega arith) fits in
-    omega arith
+sub-put-packet-2 c = omega (arith, room (c .before .before) .0)
 
 part-put-packet-start-2 : tie.Need-part-put-packet-start-2 Inv-loop μ-loop
-part-put-packet-start-2 c =
-    let at = c .before .before .before .loop in
-    let a = c .before .before .before .before .before .before .args in
-    let g = at .inv in
-    let w = g .within in
-    let low = g .low in
-    let fits = c .before .before .before .before .before .before .pre .2 in
-    let long = going-long g fits in
-    let room = going-room g (omega arith) fits in
-    omega arith
+part-put-packet-start-2 c = omega (arith, room (c .before .before) .0)
 
 part-put-packet-end-2 : tie.Need-part-put-packet-end-2 Inv-loop μ-loop
-part-put-packet-end-2 c =
-    let at = c .before .before .before .loop in
-    let a = c .before .before .before .before .before .before .args in
-    let g = at .inv in
-    let w = g .within in
-    let low = g .low in
-    let fits = c .before .before .before .before .before .before .pre .2 in
-    let long = going-long g fits in
-    let room = going-room g (omega arith) fits in
-    omega arith
+part-put-packet-end-2 c = omega (arith, room (c .before .before) .0)
 
 put-packet-requires : tie.Need-put-packet-requires Inv-loop μ-loop
 put-packet-requires c κs =
+    let start = c .before .before .before .before .before .before .before in
     let at = c .before .before .before .before .loop in
-    let a = c .before .before .before .before .before .before .before .args in
-    let g = at .inv in
-    let w = g .within in
-    let low = g .low in
-    let fits = c .before .before .before .before .before .before .before .pre .2 in
-    let long = going-long g fits in
-    let room = going-room g (omega arith) fits in
-    let size =
-    size-within (c .before .before .part-size .result) (length (a .bytes .now) - at .at) (c .before .before .part-size .ensures)
-    (omega arith) in
-    let small : at .at + c .before .before .part-size .result - at .at ≤ 184 = omega arith in
-    (omega arith, omega arith, part-short (a .bytes .now) _ (at .at) small, mid-room (at .out) (at .to) (omega arith))
+    let small : at .at + c .before .before .part-size .result - at .at ≤ 184 = omega (arith, size (c .before .before) .2) in
+    (start .pre .0, at .inv .low, part-short (start .args .bytes .now) _ (at .at) small, mid-room (at .out) (at .to) (room (c .before .before .before) .0))
 
 add-to : tie.Need-add-to Inv-loop μ-loop
-add-to c =
-    let at = c .before .before .before .before .before .before .before .loop in
-    let a = c .before .before .before .before .before .before .before .before .before .before .args in
-    let g = at .inv in
-    let w = g .within in
-    let low = g .low in
-    let fits = c .before .before .before .before .before .before .before .before .before .before .pre .2 in
-    let long = going-long g fits in
-    let room = going-room g (omega arith) fits in
-    omega arith
+add-to c = omega (arith, room (c .before .before .before .before .before .before) .1)
 
 next-counter-requires : tie.Need-next-counter-requires Inv-loop μ-loop
-next-counter-requires c κs =
-    let at = c .before .before .before .before .before .before .before .loop in
-    let a = c .before .before .before .before .before .before .before .before .before .before .args in
-    let g = at .inv in
-    let w = g .within in
-    let low = g .low in
-    let fits = c .before .before .before .before .before .before .before .before .before .before .pre .2 in
-    let long = going-long g fits in
-    omega arith
+next-counter-requires c κs = c .before .before .before .before .before .before .before .loop .inv .low
 
 loop-less : tie.Need-loop-less Inv-loop μ-loop
-loop-less c =
-    let at = c .before .before .before .before .before .before .before .before .loop in
-    let a = c .before .before .before .before .before .before .before .before .before .before .before .args in
-    let g = at .inv in
-    let w = g .within in
-    let low = g .low in
-    let fits = c .before .before .before .before .before .before .before .before .before .before .before .pre .2 in
-    let long = going-long g fits in
-    let size =
-    size-within (c .before .before .before .before .before .before .part-size .result) (length (a .bytes .now) - at .at)
-    (c .before .before .before .before .before .before .part-size .ensures) (omega arith) in
-    omega arith
+loop-less c = omega (arith, size (c .before .before .before .before .before .before) .0, size (c .before .before .before .before .before .before) .1)
 
 loop-again : tie.Need-loop-again Inv-loop μ-loop
 loop-again c =
+    let start = c .before .before .before .before .before .before .before .before .before .before .before in
+    let bytes = start .args .bytes .now in
     let at = c .before .before .before .before .before .before .before .before .loop in
-    let a = c .before .before .before .before .before .before .before .before .before .before .before .args in
-    let g = at .inv in
-    let w = g .within in
-    let low = g .low in
-    let fits = c .before .before .before .before .before .before .before .before .before .before .before .pre .2 in
-    let long = going-long g fits in
     let part = c .before .before .before .before .before .before .part-size in
     let n : at .at + part .result - at .at ≡ part .result = omega arith in
-    going-on g (part .result) _ _ _ (omega arith) fits (size-by (part .result) (length (a .bytes .now) - at .at) (part .ensures))
-    (ap (λ (k : ℕ). take k (drop (at .at) (a .bytes .now))) n) (c .before .before .before .put-packet .ensures) (c .next-counter .ensures)
+    going-on (at .inv) (part .result) _ _ _ (c .before .before .before .before .before .before .before .loop-test .taken) (start .pre .2)
+    (size-by (part .result) (length bytes - at .at) (part .ensures))
+    (ap (λ (k : ℕ). take k (drop (at .at) bytes)) n) (c .before .before .before .put-packet .ensures) (c .next-counter .ensures)
 
 same-length : tie.Need-same-length Inv-loop μ-loop
 same-length c = going-long (c .before .loop .inv) (c .before .before .before .before .pre .2)

@@ -5,7 +5,7 @@ use Prim.Native.Nat.{_-_, _≤_}
 use mathlib.Core.Path.{_≡_, refl, sym, ap, _∙_}
 use lib.ListN.{drop}
 use borrow.Author.Tests.{lt-ltb}
-use Rattle.mux.specs.Packets.{within}
+use Rattle.mux_rules.specs.Packets.{within}
 use Rattle.mux.proofs.Beginnings.{firstFrom, found, goes-on, none-before}
 use Rattle.mux.proofs.frames.frame_begins.Statement.{statement}
 use Rattle.mux.proofs.frames.frame_begins.Tie as tie

@@ -3,7 +3,7 @@ use borrow.Author.Needs.{needs}
 use Prim.Native.Nat.{ℕ}
 use mathlib.Core.Path.{ap, ap₂, _∙_}
 use Rattle.packet.specs.Writing.{counterAfter}
-use Rattle.mux.specs.declared.channel.Channel.{Channel}
+use Rattle.mux_rules.specs.declared.Channel.{Channel}
 use Rattle.mux.proofs.sending.channel_after.Statement.{statement}
 use Rattle.mux.proofs.sending.channel_after.Tie as tie
 

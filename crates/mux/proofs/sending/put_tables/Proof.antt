@@ -3,7 +3,7 @@ use borrow.Author.Needs.{needs}
 use native.Mathlib.Omega.{arith}
 use mathlib.Core.Path.{ap}
 use lib.ListN.{length}
-use Rattle.mux.proofs.Sent.{allowed}
+use Rattle.mux_rules.proofs.Reaching.{allowed}
 use Rattle.pmt.proofs.Writing.{video-length}
 use Rattle.mux.proofs.Ending.{second-room, third-room, tables-written}
 use Rattle.mux.proofs.sending.put_tables.Statement.{statement}

@@ -2,7 +2,7 @@
 use borrow.Author.Needs.{needs}
 use native.Mathlib.Omega.{arith}
 use mathlib.Core.Path.{sym, ap, _∙_}
-use Rattle.mux.proofs.Sent.{allowed}
+use Rattle.mux_rules.proofs.Reaching.{allowed}
 use Rattle.mux.specs.Parts.{channelAfter}
 use Rattle.mux.proofs.Ending.{units-room, all-written, valid-formed, valid-units, valid-packets, sends-wrong, sends-many}
 use Rattle.mux.proofs.Ending.{sends-short, sends-sent}

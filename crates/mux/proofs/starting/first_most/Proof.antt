@@ -2,7 +2,7 @@
 use native.Mathlib.Omega.{arith}
 use mathlib.Core.Path.{refl}
 use Rattle.lists.proofs.Picks.{by-true, by-false}
-use Rattle.mux.specs.Packets.{firstMost}
+use Rattle.mux_rules.specs.Packets.{firstMost}
 use Rattle.mux.proofs.starting.first_most.Statement.{statement}
 use Rattle.mux.proofs.starting.first_most.Tie as tie
 

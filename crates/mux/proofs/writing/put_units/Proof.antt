@@ -7,10 +7,9 @@ use mathlib.Core.List.{flatten}
 use lib.ListN.{length, drop, getD, length-take}
 use Rattle.lists.specs.Lists.{Bytes, over}
 use Rattle.lists.proofs.Parts.{next, unmapped}
-use Rattle.mux.proofs.Placing.{Filling, filling-start, filling-long, filling-done, filling-next, slot-sound, slot-ends, slot-room}
-use Rattle.mux.proofs.Placing.{slot-to, part-is}
+use Rattle.mux.proofs.Placing.{Filling, filling-start, filling-long, filling-done, Turn, turn, part-is}
 use Rattle.mux.specs.Parts.{filled}
-use Rattle.mux.specs.Packets.{packetsFor, unitPackets}
+use Rattle.mux_rules.specs.Packets.{packetsFor, unitPackets}
 use Rattle.queue.specs.Queue.{timed, noRecord}
 use borrow.Rule.Slice.PartMut.{midOf}
 use Rattle.mux.proofs.Slotting.{well, slot-next, slot-last}
@@ -36,20 +35,24 @@ mul-slot c = search needs
 element-copy-out-slot : tie.Need-element-copy-out-slot Inv-loop μ-loop
 element-copy-out-slot c = search needs
 
-add-end : tie.Need-add-end Inv-loop μ-loop
-add-end c = let a = c .before .before .before .before .before .before .args in
+-- the slot of this turn
+slot : (c : tie.In-loop Inv-loop μ-loop)
+    → let a = c .before .before .before .before .args in
+    let at = c .before .loop in
+    Turn (a .pid) (a .counter) (filled (a .t3)) (a .store .now) (a .out .now) (at .i) (at .at) (at .to) (at .next) (at .out)
+    (getD (a .t3 .units) (at .i) noRecord)
+slot c =
+    let start = c .before .before .before .before in
+    let a = start .args in
     let q = a .t3 in
-    let at = c .before .before .before .loop in
+    let at = c .before .loop in
     let e : length (q .units) ≡ 8 = search (needs, unmapped) in
-    let w = well q (length (a .store .now)) (c .before .before .before .before .before .before .pre .2) in
-    let g = at .inv .2 in
-    let r = getD (q .units) (at .i) noRecord in
-    let n = slot-next (q .units) (q .count) (at .i) noRecord (omega arith) (omega arith) in
-    omega (
-      arith,
-      slot-ends (a .pid) (a .counter) (filled q) (a .store .now) (a .out .now)
-          (c .before .before .before .before .before .before .pre .3) (w .1) g r n,
-    )
+    let w = well q (length (a .store .now)) (start .pre .2) in
+    turn (a .pid) (a .counter) (filled q) (a .store .now) (a .out .now) (start .pre .3) (w .1) (at .inv .2) (getD (q .units) (at .i) noRecord)
+    (slot-next (q .units) (q .count) (at .i) noRecord (omega arith) (omega arith))
+
+add-end : tie.Need-add-end Inv-loop μ-loop
+add-end c = omega (arith, slot (c .before .before) .ends)
 
 sub-put-unit : tie.Need-sub-put-unit Inv-loop μ-loop
 sub-put-unit c = omega arith
@@ -58,140 +61,46 @@ part-put-unit-start : tie.Need-part-put-unit-start Inv-loop μ-loop
 part-put-unit-start c = omega arith
 
 part-put-unit-end : tie.Need-part-put-unit-end Inv-loop μ-loop
-part-put-unit-end c = let a = c .before .before .before .before .before .before .args in
-    let q = a .t3 in
-    let at = c .before .before .before .loop in
-    let e : length (q .units) ≡ 8 = search (needs, unmapped) in
-    let w = well q (length (a .store .now)) (c .before .before .before .before .before .before .pre .2) in
-    let g = at .inv .2 in
-    let r = getD (q .units) (at .i) noRecord in
-    let n = slot-next (q .units) (q .count) (at .i) noRecord (omega arith) (omega arith) in
-    slot-ends (a .pid) (a .counter) (filled q) (a .store .now) (a .out .now) (c .before .before .before .before .before .before .pre .3)
-    (w .1) g r n
+part-put-unit-end c = slot (c .before .before) .ends
 
 sub-put-unit-2 : tie.Need-sub-put-unit-2 Inv-loop μ-loop
-sub-put-unit-2 c = let a = c .before .before .before .before .before .before .before .args in
-    let q = a .t3 in
-    let at = c .before .before .before .before .loop in
-    let e : length (q .units) ≡ 8 = search (needs, unmapped) in
-    let w = well q (length (a .store .now)) (c .before .before .before .before .before .before .before .pre .2) in
-    let g = at .inv .2 in
-    let r = getD (q .units) (at .i) noRecord in
-    let n = slot-next (q .units) (q .count) (at .i) noRecord (omega arith) (omega arith) in
-    omega (
-      arith,
-      filling-long (a .pid) (a .counter) (filled q) (a .store .now) (a .out .now)
-          (c .before .before .before .before .before .before .before .pre .3) (w .1) g,
-      slot-to (a .pid) (a .counter) (filled q) (a .store .now)
-          (a .out .now) (c .before .before .before .before .before .before .before .pre .3) (w .1) g r n,
-    )
+sub-put-unit-2 c = omega (arith, slot (c .before .before .before) .long, slot (c .before .before .before) .reaches)
 
 part-put-unit-start-2 : tie.Need-part-put-unit-start-2 Inv-loop μ-loop
-part-put-unit-start-2 c = let a = c .before .before .before .before .before .before .before .args in
-    let q = a .t3 in
-    let at = c .before .before .before .before .loop in
-    let e : length (q .units) ≡ 8 = search (needs, unmapped) in
-    let w = well q (length (a .store .now)) (c .before .before .before .before .before .before .before .pre .2) in
-    let g = at .inv .2 in
-    let r = getD (q .units) (at .i) noRecord in
-    let n = slot-next (q .units) (q .count) (at .i) noRecord (omega arith) (omega arith) in
-    omega (
-      arith,
-      filling-long (a .pid) (a .counter) (filled q) (a .store .now) (a .out .now)
-          (c .before .before .before .before .before .before .before .pre .3) (w .1) g,
-      slot-to (a .pid) (a .counter) (filled q) (a .store .now)
-          (a .out .now) (c .before .before .before .before .before .before .before .pre .3) (w .1) g r n,
-    )
+part-put-unit-start-2 c = omega (arith, slot (c .before .before .before) .long, slot (c .before .before .before) .reaches)
 
 part-put-unit-end-2 : tie.Need-part-put-unit-end-2 Inv-loop μ-loop
-part-put-unit-end-2 c = let a = c .before .before .before .before .before .before .before .args in
-    let q = a .t3 in
-    let at = c .before .before .before .before .loop in
-    let e : length (q .units) ≡ 8 = search (needs, unmapped) in
-    let w = well q (length (a .store .now)) (c .before .before .before .before .before .before .before .pre .2) in
-    let g = at .inv .2 in
-    let r = getD (q .units) (at .i) noRecord in
-    let n = slot-next (q .units) (q .count) (at .i) noRecord (omega arith) (omega arith) in
-    omega (
-      arith,
-      filling-long (a .pid) (a .counter) (filled q) (a .store .now) (a .out .now)
-          (c .before .before .before .before .before .before .before .pre .3) (w .1) g,
-      slot-to (a .pid) (a .counter) (filled q) (a .store .now)
-          (a .out .now) (c .before .before .before .before .before .before .before .pre .3) (w .1) g r n,
-    )
+part-put-unit-end-2 c = omega (arith, slot (c .before .before .before) .long, slot (c .before .before .before) .reaches)
 
 put-unit-requires : tie.Need-put-unit-requires Inv-loop μ-loop
-put-unit-requires c κs = let a = c .before .before .before .before .before .before .before .before .args in
-    let q = a .t3 in
+put-unit-requires c κs =
+    let start = c .before .before .before .before .before .before .before .before in
+    let store = start .args .store .now in
     let at = c .before .before .before .before .before .loop in
-    let e : length (q .units) ≡ 8 = search (needs, unmapped) in
-    let w = well q (length (a .store .now)) (c .before .before .before .before .before .before .before .before .pre .2) in
-    let g = at .inv .2 in
-    let r = getD (q .units) (at .i) noRecord in
-    let n = slot-next (q .units) (q .count) (at .i) noRecord (omega arith) (omega arith) in
-    let so = slot-sound (a .pid) (a .counter) (filled q) (a .store .now) (a .out .now)
-    (c .before .before .before .before .before .before .before .before .pre .3) (w .1) g r n in
-    let p = part-is (a .store .now) (at .at) (r .length) in
-    let t = length-take (r .length) (drop (at .at) (a .store .now)) in (
-      c .before .before .before .before .before .before .before .before .pre .0,
-      g .low,
-      so .pts,
-      so .dts,
-      omega (arith, ap length p, t, so .short),
+    let r = getD (start .args .t3 .units) (at .i) noRecord in
+    let s = slot (c .before .before .before .before) in
+    let p = part-is store (at .at) (r .length) in
+    let t = length-take (r .length) (drop (at .at) store) in (
+      start .pre .0,
+      s .low,
+      s .sound .pts,
+      s .sound .dts,
+      omega (arith, ap length p, t, s .sound .short),
       subst (λ (x : Bytes). 188 * packetsFor (timed x (r .pts) (r .dts) (r .marked)) ≤ length
-          (midOf (at .to) (length (at .out) - at .to) (at .out))) (sym p)
-          (slot-room (a .pid) (a .counter) (filled q) (a .store .now) (a .out .now)
-          (c .before .before .before .before .before .before .before .before .pre .3) (w .1) g r n),
+          (midOf (at .to) (length (at .out) - at .to) (at .out))) (sym p) (s .room),
     )
 
 slot-packets-requires : tie.Need-slot-packets-requires Inv-loop μ-loop
-slot-packets-requires c κs = let a = c .before .before .before .before .before .before .before .before .before .before .before .args in
-    let q = a .t3 in
-    let at = c .before .before .before .before .before .before .before .before .loop in
-    let e : length (q .units) ≡ 8 = search (needs, unmapped) in
-    let w = well q (length (a .store .now))
-    (c .before .before .before .before .before .before .before .before .before .before .before .pre .2) in
-    let g = at .inv .2 in
-    let r = getD (q .units) (at .i) noRecord in
-    let n = slot-next (q .units) (q .count) (at .i) noRecord (omega arith) (omega arith) in
-    slot-sound (a .pid) (a .counter) (filled q) (a .store .now) (a .out .now)
-    (c .before .before .before .before .before .before .before .before .before .before .before .pre .3) (w .1) g r n .short
+slot-packets-requires c κs = slot (c .before .before .before .before .before .before .before) .sound .short
 
 mul-to : tie.Need-mul-to Inv-loop μ-loop
 mul-to c = omega (arith, c .slot-packets .ensures .1)
 
 add-to : tie.Need-add-to Inv-loop μ-loop
-add-to c = let a = c .before .before .before .before .before .before .before .before .before .before .before .before .args in
-    let q = a .t3 in
-    let at = c .before .before .before .before .before .before .before .before .before .loop in
-    let e : length (q .units) ≡ 8 = search (needs, unmapped) in
-    let w = well q (length (a .store .now))
-    (c .before .before .before .before .before .before .before .before .before .before .before .before .pre .2) in
-    let g = at .inv .2 in
-    let r = getD (q .units) (at .i) noRecord in
-    let n = slot-next (q .units) (q .count) (at .i) noRecord (omega arith) (omega arith) in
-    omega (
-      arith,
-      c .slot-packets .ensures .0,
-      filling-long (a .pid) (a .counter) (filled q) (a .store .now) (a .out .now)
-          (c .before .before .before .before .before .before .before .before .before .before .before .before .pre .3) (w .1) g,
-      slot-to (a .pid)
-          (a .counter) (filled q) (a .store .now) (a .out .now)
-          (c .before .before .before .before .before .before .before .before .before .before .before .before .pre .3) (w .1) g r n,
-    )
+add-to c = omega (arith, c .slot-packets .ensures .0, slot (c .before .before .before .before .before .before .before .before) .long, slot (c .before .before .before .before .before .before .before .before) .reaches)
 
 counter-after-requires : tie.Need-counter-after-requires Inv-loop μ-loop
-counter-after-requires c κs =
-    let a = c .before .before .before .before .before .before .before .before .before .before .before .before .args in
-    let q = a .t3 in
-    let at = c .before .before .before .before .before .before .before .before .before .loop in
-    let e : length (q .units) ≡ 8 = search (needs, unmapped) in
-    let w = well q (length (a .store .now))
-    (c .before .before .before .before .before .before .before .before .before .before .before .before .pre .2) in
-    let g = at .inv .2 in
-    let r = getD (q .units) (at .i) noRecord in
-    let n = slot-next (q .units) (q .count) (at .i) noRecord (omega arith) (omega arith) in
-    (g .low, omega (arith, c .slot-packets .ensures .1))
+counter-after-requires c κs = (slot (c .before .before .before .before .before .before .before .before) .low, omega (arith, c .slot-packets .ensures .1))
 
 add-i : tie.Need-add-i Inv-loop μ-loop
 add-i c = omega arith
@@ -200,45 +109,33 @@ loop-less : tie.Need-loop-less Inv-loop μ-loop
 loop-less c = omega arith
 
 loop-again : tie.Need-loop-again Inv-loop μ-loop
-loop-again c = let a = c .before .before .before .before .before .before .before .before .before .before .before .before .before .args in
-    let q = a .t3 in
+loop-again c =
+    let a = c .before .before .before .before .before .before .before .before .before .before .before .before .before .args in
     let at = c .before .before .before .before .before .before .before .before .before .before .loop in
-    let e : length (q .units) ≡ 8 = search (needs, unmapped) in
-    let w = well q (length (a .store .now))
-    (c .before .before .before .before .before .before .before .before .before .before .before .before .before .pre .2) in
-    let g = at .inv .2 in
-    let r = getD (q .units) (at .i) noRecord in
-    let n = slot-next (q .units) (q .count) (at .i) noRecord (omega arith) (omega arith) in
+    let r = getD (a .t3 .units) (at .i) noRecord in
     let p = part-is (a .store .now) (at .at) (r .length) in (
       omega arith,
       at .inv .1,
-      filling-next (a .pid) (a .counter) (filled q) (a .store .now) (a .out .now)
-          (c .before .before .before .before .before .before .before .before .before .before .before .before .before .pre .3)
-          (w .1) g r n _ _ _
-          (c .before .slot-packets .ensures .0) (c .counter-after .ensures)
+      slot (c .before .before .before .before .before .before .before .before .before) .filling _ _ _ (c .before .slot-packets .ensures .0) (c .counter-after .ensures)
           (c .before .before .before .before .put-unit .ensures
           ∙ ap (λ (x : Bytes). over (flatten (unitPackets (a .pid) (at .next) (timed x (r .pts) (r .dts) (r .marked))))
           (midOf (at .to) (length (at .out) - at .to) (at .out))) p),
     )
 
 same-length : tie.Need-same-length Inv-loop μ-loop
-same-length c = let a = c .before .before .before .before .args in
-    let q = a .t3 in
-    let at = c .before .loop in
-    let e : length (q .units) ≡ 8 = search (needs, unmapped) in
-    let w = well q (length (a .store .now)) (c .before .before .before .before .pre .2) in
-    let g = at .inv .2 in
-    filling-long (a .pid) (a .counter) (filled q) (a .store .now) (a .out .now) (c .before .before .before .before .pre .3) (w .1) g
+same-length c =
+    let start = c .before .before .before .before in
+    let a = start .args in
+    filling-long (a .pid) (a .counter) (filled (a .t3)) (a .store .now) (a .out .now) (start .pre .3)
+    (well (a .t3) (length (a .store .now)) (start .pre .2) .1) (c .before .loop .inv .2)
 
 returns : tie.Need-returns Inv-loop μ-loop
-returns c = let a = c .before .before .before .before .args in
-    let q = a .t3 in
+returns c =
+    let start = c .before .before .before .before in
+    let a = start .args in
     let at = c .before .loop in
-    let e : length (q .units) ≡ 8 = search (needs, unmapped) in
-    let w = well q (length (a .store .now)) (c .before .before .before .before .pre .2) in
-    let g = at .inv .2 in
-    filling-done (a .pid) (a .counter) (filled q) (a .store .now) (a .out .now) (c .before .before .before .before .pre .3) (w .1) g
-    (slot-last (q .units) (q .count) (at .i) (omega arith))
+    filling-done (a .pid) (a .counter) (filled (a .t3)) (a .store .now) (a .out .now) (start .pre .3)
+    (well (a .t3) (length (a .store .now)) (start .pre .2) .1) (at .inv .2) (slot-last (a .t3 .units) (a .t3 .count) (at .i) (omega arith))
 
 pub put-units-spec : {M : Type 1} → statement M
 put-units-spec =

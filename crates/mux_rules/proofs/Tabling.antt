@@ -35,10 +35,10 @@ use Rattle.segment_rules.specs.Rules.{unlessRepeat, packetRules}
 use Rattle.segment_rules.proofs.Sequence.{not-repeated}
 use Rattle.refusal.proofs.Verdicts.{All, go-on}
 use Rattle.segment_rules.proofs.ByKind.{counted, pat-packet, map-packet, av1-empty}
-use Rattle.mux.specs.declared.channel.Channel.{Channel}
-use Rattle.mux.specs.Packets.{sectionPacket}
-use Rattle.mux.proofs.States.{seen, firstPat, firstPmt, afterPat, afterPmt, inTables, first-check, next-check, checked-first, none-repeats}
-use Rattle.mux.proofs.States.{checked-later, no-clock, uncounted, counted-by}
+use Rattle.mux_rules.specs.declared.Channel.{Channel}
+use Rattle.mux_rules.specs.Packets.{sectionPacket}
+use Rattle.mux_rules.proofs.States.{seen, firstPat, firstPmt, afterPat, afterPmt, inTables, first-check, next-check, checked-first, none-repeats}
+use Rattle.mux_rules.proofs.States.{checked-later, no-clock, uncounted, counted-by}
 
 -- ---- a section's packet
 -- of a section with so many bytes behind its eight fixed ones, on this PID

@@ -21,10 +21,10 @@ use Rattle.segment_rules.specs.State.{AccessUnit}
 use Rattle.segment_rules.specs.Rules.{Rooms}
 use Rattle.segment_rules.specs.Check.{Accepted, Outputs, roomsOf, outputsAfter, checkSegment}
 use Rattle.segment_rules.specs.Comparison.{Answered, firstFrom, checkCompared}
-use Rattle.mux.specs.declared.channel.Channel.{Channel}
-use Rattle.mux.specs.declared.sending.Written.{Written}
-use Rattle.mux.specs.Packets.{pes, firstMost, packetsFor, packetsForUnits, segment, nextChannel}
-use Rattle.mux.specs.Sending.{sending}
+use Rattle.mux_rules.specs.declared.Channel.{Channel}
+use Rattle.mux_rules.specs.declared.Written.{Written}
+use Rattle.mux_rules.specs.Packets.{pes, firstMost, packetsFor, packetsForUnits, segment, nextChannel}
+use Rattle.mux_rules.specs.Sending.{sending}
 
 -- ---- one send
 -- "the same units and times": in the check's terms, of which the first begins in packet `first`

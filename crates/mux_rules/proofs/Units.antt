@@ -33,13 +33,13 @@ use Rattle.segment_rules.specs.Rules.{closeOpen, lengthDiffers, carriedUnits}
 use Rattle.segment_rules.specs.Check.{Progress, run}
 use Rattle.segment_rules.proofs.ByKind.{counted, av1-packet}
 use Rattle.segment_rules.proofs.Sequence as sequence
-use Rattle.mux.specs.declared.channel.Channel.{Channel}
-use Rattle.mux.specs.Packets.{header, othersFor, firstPart, otherParts, firstFlags, others, packetsFor, unitPackets}
-use Rattle.mux.proofs.Cuts.{firstBytes, first-part, other-parts, first-short, first-some, first-steady, first-clockless, other-some}
-use Rattle.mux.proofs.Cuts.{other-short, others-next, others-none}
-use Rattle.mux.proofs.States.{seen, none-repeats, firstPmt, inTables, kind-av1, next-check, checked-first, checked-later, counted-by, step-by}
-use Rattle.mux.proofs.States.{run-next, totalsAt}
-use Rattle.mux.proofs.Tabling.{still, due-next}
+use Rattle.mux_rules.specs.declared.Channel.{Channel}
+use Rattle.mux_rules.specs.Packets.{header, othersFor, firstPart, otherParts, firstFlags, others, packetsFor, unitPackets}
+use Rattle.mux_rules.proofs.Cuts.{firstBytes, first-part, other-parts, first-short, first-some, first-steady, first-clockless, other-some}
+use Rattle.mux_rules.proofs.Cuts.{other-short, others-next, others-none}
+use Rattle.mux_rules.proofs.States.{seen, none-repeats, firstPmt, inTables, kind-av1, next-check, checked-first, checked-later, counted-by, step-by}
+use Rattle.mux_rules.proofs.States.{run-next, totalsAt}
+use Rattle.mux_rules.proofs.Tabling.{still, due-next}
 
 -- the header that the check reads from a unit's first packet
 abbrev pub headerFor : TimedUnit → Header

@@ -26,15 +26,15 @@ use Rattle.segment_rules.specs.Check.{checkSegment, start, run, ending}
 use Rattle.segment_rules.specs.Comparison.{firstFrom, comparedWith, compared, checkCompared}
 use Rattle.segment_rules.specs.Rules.{Rooms, carriedUnits}
 use Rattle.segment_rules.proofs.Running.{run-append}
-use Rattle.mux.specs.declared.channel.Channel.{Channel}
-use Rattle.mux.specs.declared.sending.Written.{Written}
-use Rattle.mux.specs.Packets.{packetsFor, segmentPackets, segment, packetsForUnits}
-use Rattle.mux.specs.Sending.{channelWrong, sending, unitsLeft, Sends}
-use Rattle.mux.specs.declared.sending.Sent.{Sent}
-use Rattle.mux.specs.Claim.{accessUnits, acceptedAs, LongEnough, unitLengths, unitTimes, handedBack, Claim}
-use Rattle.mux.specs.Claim.{channelThen, acceptedTwice, TwoSends}
-use Rattle.mux.proofs.Counts.{all-append, Whole, packets-back, whole-segment, length-segment}
-use Rattle.mux.proofs.Sent.{Allowed, allowed, each-whole, reached, renamed, send-first, send-again, ends}
+use Rattle.mux_rules.specs.declared.Channel.{Channel}
+use Rattle.mux_rules.specs.declared.Written.{Written}
+use Rattle.mux_rules.specs.Packets.{packetsFor, segmentPackets, segment, packetsForUnits}
+use Rattle.mux_rules.specs.Sending.{channelWrong, sending, unitsLeft, Sends}
+use Rattle.mux_rules.specs.declared.Sent.{Sent}
+use Rattle.mux_rules.specs.Claim.{accessUnits, acceptedAs, LongEnough, unitLengths, unitTimes, handedBack, Claim}
+use Rattle.mux_rules.specs.Claim.{channelThen, acceptedTwice, TwoSends}
+use Rattle.mux_rules.proofs.Counts.{all-append, Whole, packets-back, whole-segment, length-segment}
+use Rattle.mux_rules.proofs.Reaching.{Allowed, allowed, each-whole, reached, renamed, send-first, send-again, ends}
 
 -- ---- the same units and times
 carried-same : (first : ℕ) (us : List TimedUnit) → carriedUnits (accessUnits first us) ≡ queuedBytes us

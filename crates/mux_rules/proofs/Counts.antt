@@ -18,10 +18,10 @@ use Rattle.psi.proofs.Writing.{length-payload}
 use Rattle.queue.specs.Queue.{TimedUnit}
 use Rattle.packet.specs.Header.{packetsOf, packets}
 use Rattle.segment_rules.specs.Check.{rule20, segmentLengthWrong}
-use Rattle.mux.specs.declared.channel.Channel.{Channel}
-use Rattle.mux.specs.Packets.{othersFor, firstPart, otherParts, firstFlags, others, packetsFor, unitPackets, unitsPackets}
-use Rattle.mux.specs.Packets.{sectionPacket, segmentPackets, packetsForUnits}
-use Rattle.mux.proofs.Cuts.{first-short}
+use Rattle.mux_rules.specs.declared.Channel.{Channel}
+use Rattle.mux_rules.specs.Packets.{othersFor, firstPart, otherParts, firstFlags, others, packetsFor, unitPackets, unitsPackets}
+use Rattle.mux_rules.specs.Packets.{sectionPacket, segmentPackets, packetsForUnits}
+use Rattle.mux_rules.proofs.Cuts.{first-short}
 
 abbrev pub Whole : Bytes → Type 0
 Whole p = length p ≡ 188

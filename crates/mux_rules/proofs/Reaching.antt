@@ -30,14 +30,14 @@ use Rattle.segment_rules.specs.State.{Tables, OpenPes, AccessUnit, Extraction, 
 use Rattle.segment_rules.specs.Rules.{Rooms, closePes, closeIfOpen, carriedUnits}
 use Rattle.segment_rules.specs.Check.{Progress, start, run, ending, accepted}
 use Rattle.segment_rules.proofs.Running.{run-append}
-use Rattle.mux.specs.declared.channel.Channel.{Channel}
-use Rattle.mux.specs.Packets.{packetsFor, unitPackets, unitsPackets, sectionPacket, segmentPackets, packetsForUnits}
-use Rattle.mux.specs.Sending.{mapPidWrong, av1PidWrong, programWrong, countersWrong, pcrWrong, channelWrong}
-use Rattle.mux.specs.Claim.{accessUnits}
-use Rattle.mux.proofs.Counts.{Whole, section-whole, units-whole}
-use Rattle.mux.proofs.States.{firstPat, firstPmt, afterPat, afterPmt, inTables, kind-map, kind-av1, step-by, run-next, totalsAt}
-use Rattle.mux.proofs.Tabling.{pat-reads, pmt-reads, clock-reads, pat-first, pmt-first, pcr-first, pat-again, pmt-again, pcr-again}
-use Rattle.mux.proofs.Units.{extracted, going, openFor, unitAt, unit-run, unit-closes}
+use Rattle.mux_rules.specs.declared.Channel.{Channel}
+use Rattle.mux_rules.specs.Packets.{packetsFor, unitPackets, unitsPackets, sectionPacket, segmentPackets, packetsForUnits}
+use Rattle.mux_rules.specs.Sending.{mapPidWrong, av1PidWrong, programWrong, countersWrong, pcrWrong, channelWrong}
+use Rattle.mux_rules.specs.Claim.{accessUnits}
+use Rattle.mux_rules.proofs.Counts.{Whole, section-whole, units-whole}
+use Rattle.mux_rules.proofs.States.{firstPat, firstPmt, afterPat, afterPmt, inTables, kind-map, kind-av1, step-by, run-next, totalsAt}
+use Rattle.mux_rules.proofs.Tabling.{pat-reads, pmt-reads, clock-reads, pat-first, pmt-first, pcr-first, pat-again, pmt-again, pcr-again}
+use Rattle.mux_rules.proofs.Units.{extracted, going, openFor, unitAt, unit-run, unit-closes}
 
 -- ---- a unit that could be added
 pub record Right (u : TimedUnit) : Type 0 where

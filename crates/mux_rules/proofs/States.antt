@@ -26,7 +26,7 @@ use Rattle.segment_rules.specs.State.{FirstPat, FirstPmt, Tables, State, Kind, 
 use Rattle.segment_rules.specs.Rules.{Rooms, onTables, countingPcr, lastPcr, checked, lastRepeats, packetRules}
 use Rattle.segment_rules.specs.Check.{Progress, step, run}
 use Rattle.segment_rules.proofs.ByKind.{counted}
-use Rattle.mux.specs.declared.channel.Channel.{Channel}
+use Rattle.mux_rules.specs.declared.Channel.{Channel}
 
 -- the record of a PID of which this was the last packet
 abbrev pub seen : ℕ → Bytes → StreamRecord

@@ -16,7 +16,7 @@ use Rattle.obu.specs.Header.{typeBits}
 use Rattle.tsobu.specs.StartCodes.{startCodes}
 use Rattle.unit.specs.Unit.{obusIn}
 use Rattle.queue.specs.Queue.{TimedUnit}
-use Rattle.mux.specs.declared.channel.Channel.{Channel}
+use Rattle.mux_rules.specs.declared.Channel.{Channel}
 
 -- ---- one PES a unit
 abbrev pub header : TimedUnit → Bytes

@@ -10,8 +10,8 @@ use lib.ListN.{length, length-append, length-drop}
 use Rattle.lists.specs.Lists.{Bytes, all}
 use Rattle.lists.proofs.Tests.{and-both}
 use Rattle.packet.specs.Writing.{most}
-use Rattle.mux.specs.Packets.{pes, firstMost, othersFor, otherParts}
-use Rattle.mux.specs.Claim.{Fewest}
+use Rattle.mux_rules.specs.Packets.{pes, firstMost, othersFor, otherParts}
+use Rattle.mux_rules.specs.Claim.{Fewest}
 
 carried-by : (more : List Bytes) → all (λ p. leb (length p) most) more ≡ true → length (flatten more) ≤ most * length more
 unfolding flatten all

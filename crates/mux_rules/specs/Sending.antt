@@ -13,12 +13,12 @@ use Rattle.refusal.specs.Number.{refusedBy}
 use Rattle.descriptor.specs.Descriptor.{wrong}
 use Rattle.queue.specs.Queue.{TimedUnit, queueOf}
 use Rattle.segment_rules.specs.Check.{mostPackets}
-use Rattle.mux.specs.declared.channel.Channel.{Channel}
-use Rattle.mux.specs.declared.sending.Written.{Written}
-use Rattle.mux.specs.declared.sending.SendAnswer.{SendAnswer}
-use Rattle.mux.specs.declared.sending.SendAnswer.the-variants as answer
-use Rattle.mux.specs.declared.sending.Sent.{Sent}
-use Rattle.mux.specs.Packets.{segmentPackets, segment, nextChannel}
+use Rattle.mux_rules.specs.declared.Channel.{Channel}
+use Rattle.mux_rules.specs.declared.Written.{Written}
+use Rattle.mux_rules.specs.declared.SendAnswer.{SendAnswer}
+use Rattle.mux_rules.specs.declared.SendAnswer.the-variants as answer
+use Rattle.mux_rules.specs.declared.Sent.{Sent}
+use Rattle.mux_rules.specs.Packets.{segmentPackets, segment, nextChannel}
 
 -- ---- 52 "descriptor, PID, program number, counter or PCR not allowed by 01"
 abbrev pub anyOf : List Bool → Bool
