@@ -7,7 +7,9 @@ ghost use Rattle.lists.specs.Lists.{over};
 ghost use Rattle.packet.specs.Writing.{counterAfter};
 ghost use Rattle.mux_rules.specs.Packets.{othersFor, others};
 ghost use Rattle.mux.specs.Parts.{partSize};
+use crate::packets::MOST_PAYLOAD;
 use crate::packets::put_packet;
+use packet::PACKET_LENGTH;
 
 // The counter after this one.
 pub(crate) fn next_counter(counter: u64) -> u64
@@ -21,10 +23,10 @@ pub(crate) fn next_counter(counter: u64) -> u64
 fn part_size(left: usize) -> usize
     ensures { λ r. ⌜ r ≡ partSize left ⌝ }
 {
-    if left < 184 {
+    if left < MOST_PAYLOAD {
         return left;
     }
-    184
+    MOST_PAYLOAD
 }
 
 // The packets after a PES's first, with these bytes.
@@ -41,7 +43,7 @@ pub(crate) fn put_others(pid: u64, counter: u64, bytes: &[u8], out: &mut [u8])
         let end = at + part_size(bytes.len() - at);
         put_packet(pid, false, next, 0, &bytes[at..end], &mut out[to..]);
         at = end;
-        to += 188;
+        to += PACKET_LENGTH;
         next = next_counter(next);
     }
 }

@@ -11,7 +11,11 @@ use crate::bytes::fill;
 use crate::bytes::high;
 use crate::bytes::low;
 use lists::copy;
+use packet::PACKET_LENGTH;
 use ticks::Ticks27;
+
+// The most bytes of a packet's payload.
+pub(crate) const MOST_PAYLOAD: usize = 184;
 
 // The header's second byte: payload_unit_start_indicator and the upper bits of the PID.
 fn second(pid: u64, start: bool) -> u8
@@ -81,7 +85,7 @@ pub(crate) fn put_packet(
     ensures { λ _. ⌜ now (out .exit)
         ≡ over (carrying pid start counter flags (now (part .entry))) (now (out .entry)) ⌝ }
 {
-    let n = 184 - part.len();
+    let n = MOST_PAYLOAD - part.len();
     put_header(pid, start, control(n), counter, out);
     put_field(n, flags, &mut out[4..]);
     let at = 4 + n;
@@ -98,7 +102,7 @@ pub(crate) fn put_section(pid: u64, counter: u64, section: &[u8], out: &mut [u8]
     copy(&pointer, &mut out[4..]);
     copy(section, &mut out[5..]);
     let at = 5 + section.len();
-    fill(188 - at, &mut out[at..]);
+    fill(PACKET_LENGTH - at, &mut out[at..]);
 }
 
 // A PCR's six bytes.

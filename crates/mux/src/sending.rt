@@ -22,9 +22,18 @@ use mux_rules::Channel;
 use mux_rules::SendAnswer;
 use mux_rules::Sent;
 use mux_rules::Written;
+use packet::PACKET_LENGTH;
 use queue::Queue;
 use refusal::Refusal;
 use refusal::Refused;
+
+// Where the PCR's packet stands, behind PAT and PMT, and where the first unit's.
+const PCR_PLACE: usize = 2 * PACKET_LENGTH;
+
+const UNITS_PLACE: usize = 3 * PACKET_LENGTH;
+
+// The most packets of a segment.
+const MOST_PACKETS: usize = 65535;
 
 // One less modulo 16.
 fn counter_before(counter: u64) -> u64
@@ -42,10 +51,15 @@ fn put_tables(channel: Channel, video: &[u8], out: &mut [u8])
     let pat = pat_section(channel.program, channel.map_pid);
     put_section(0, channel.pat_counter, &pat, out);
     let pmt = pmt_section(channel.program, channel.av1_pid, video);
-    put_section(channel.map_pid, channel.map_counter, &pmt, &mut out[188..]);
+    put_section(
+        channel.map_pid,
+        channel.map_counter,
+        &pmt,
+        &mut out[PACKET_LENGTH..],
+    );
     let counter = counter_before(channel.av1_counter);
     let pcr = channel.pcr;
-    put_pcr(channel.av1_pid, counter, pcr, &mut out[376..]);
+    put_pcr(channel.av1_pid, counter, pcr, &mut out[PCR_PLACE..]);
 }
 
 // A refusal, and channel and queue as they were.
@@ -92,10 +106,10 @@ pub fn send(queue: Queue, store: &[u8], channel: Channel, video: &[u8], out: &mu
     }
     let units = queue_packets(queue, store.len());
     let packets = 3 + units;
-    if 65535 < packets {
+    if MOST_PACKETS < packets {
         return refuse(Refusal::PACKETS_TO_SEND, channel, queue);
     }
-    if out.len() < 188 * packets {
+    if out.len() < PACKET_LENGTH * packets {
         return refuse(Refusal::NO_ROOM, channel, queue);
     }
     put_tables(channel, video, out);
@@ -104,13 +118,13 @@ pub fn send(queue: Queue, store: &[u8], channel: Channel, video: &[u8], out: &mu
         channel.av1_counter,
         queue,
         store,
-        &mut out[564..],
+        &mut out[UNITS_PLACE..],
     );
     let next = channel_after(channel, units);
     let cleared = queue.clear();
     Sent {
         answer: SendAnswer::Sent(Written {
-            bytes: 188 * packets,
+            bytes: PACKET_LENGTH * packets,
             packets,
         }),
         next,

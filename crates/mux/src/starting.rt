@@ -9,6 +9,7 @@ ghost use Rattle.packet.specs.Writing.{carrying};
 ghost use Rattle.mux_rules.specs.Packets.{firstMost, framePlace, within};
 ghost use Rattle.mux.specs.Parts.{firstSize, flagsOf};
 use crate::frames::frame_begins;
+use crate::packets::MOST_PAYLOAD;
 use crate::packets::control;
 use crate::packets::put_field;
 use crate::packets::put_header;
@@ -22,7 +23,7 @@ pub(crate) fn first_most(marked: bool) -> usize
     if marked {
         return 182;
     }
-    184
+    MOST_PAYLOAD
 }
 
 // How many of a unit's n bytes it has, behind a header of so many.
@@ -59,7 +60,7 @@ pub(crate) fn put_first(pid: u64, counter: u64, flags: u8, head: &[u8], part: &[
     ensures { λ _. ⌜ now (out .exit)
         ≡ over (carrying pid true counter flags (now (head .entry) ++ now (part .entry))) (now (out .entry)) ⌝ }
 {
-    let n = 184 - head.len() - part.len();
+    let n = MOST_PAYLOAD - head.len() - part.len();
     put_header(pid, true, control(n), counter, out);
     put_field(n, flags, &mut out[4..]);
     let at = 4 + n;

@@ -18,6 +18,7 @@ use crate::starting::first_size;
 use crate::starting::put_first;
 use lists::part;
 use lists::rest;
+use packet::PACKET_LENGTH;
 use queue::Queue;
 use queue::Queued;
 
@@ -39,7 +40,12 @@ fn put_unit(pid: u64, counter: u64, slot: Queued, unit: &[u8], out: &mut [u8])
     let begun = part(unit, 0, first);
     put_first(pid, counter, flags, front, begun, out);
     let behind = rest(unit, first);
-    put_others(pid, next_counter(counter), behind, &mut out[188..]);
+    put_others(
+        pid,
+        next_counter(counter),
+        behind,
+        &mut out[PACKET_LENGTH..],
+    );
 }
 
 // The counter after so many packets more.
@@ -69,7 +75,7 @@ pub(crate) fn put_units(pid: u64, counter: u64, queue: Queue, store: &[u8], out:
         put_unit(pid, next, slot, &store[at..end], &mut out[to..]);
         let packets = slot_packets(slot);
         at = end;
-        to += 188 * packets;
+        to += PACKET_LENGTH * packets;
         next = counter_after(next, packets);
         i += 1;
     }
