@@ -8,12 +8,13 @@ use crate::headers::head_size;
 use crate::starting::first_most;
 use queue::Queue;
 use queue::Queued;
+use unit::MOST_CARRIED;
 
 // A slot that no unit in so many bytes can have.
 fn slot_wrong(slot: Queued, room: usize) -> bool
     ensures { λ r. ⌜ r ≡ slotWrong slot room ⌝ }
 {
-    if 1573056 < slot.length {
+    if MOST_CARRIED < slot.length {
         return true;
     }
     if room < slot.length {

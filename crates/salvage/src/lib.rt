@@ -17,13 +17,9 @@ use obu::Ordered;
 use refusal::Refusal;
 use refusal::Refused;
 use tsobu::TsObu;
-
-// The most bytes of a carried unit, the most tsOBUs, and the most bytes of an OBU and of the OBUs of a unit together.
-const MOST_CARRIED: usize = 1573056;
-
-const MOST_OBUS: usize = 64;
-
-const MOST_OBU_BYTES: usize = 1048576;
+use unit::MOST_CARRIED;
+use unit::MOST_OBU_BYTES;
+use unit::MOST_OBUS;
 
 // The bytes of the result, the tsOBUs of the input, how many of them were kept, the leading bytes dropped, and whether
 // reading accepts the result.
@@ -56,9 +52,9 @@ struct Measured {
     more: bool,
     count: usize,
     bytes: usize,
-    marks: [u8; 64],
+    marks: [u8; MOST_OBUS],
     kept: usize,
-    kinds: [u8; 64],
+    kinds: [u8; MOST_OBUS],
     size: usize,
 }
 
@@ -152,8 +148,8 @@ fn measure(body: &[u8]) -> Measured
     requires { ⌜ Begins (now body) ⌝ }
     ensures { λ r. ⌜ MeasuredOf (now (body .entry)) r ⌝ }
 {
-    let mut marks = [0u8; 64];
-    let mut kinds = [0u8; 64];
+    let mut marks = [0u8; MOST_OBUS];
+    let mut kinds = [0u8; MOST_OBUS];
     let mut count: usize = 0;
     let mut bytes: usize = 0;
     let mut kept: usize = 0;
@@ -210,7 +206,7 @@ fn write_kept(body: &[u8], out: &mut [u8])
 
 // Whether reading accepts the writer's string of so many OBUs that pass, of so many bytes together and with these
 // numbers of their kinds.
-fn is_accepted(count: usize, bytes: usize, kinds: [u8; 64]) -> bool
+fn is_accepted(count: usize, bytes: usize, kinds: [u8; MOST_OBUS]) -> bool
     requires { ⌜ count ≤ 64 ⌝ }
     ensures { λ r. ⌜ r ≡ acceptable count bytes (take count kinds) ⌝ }
 {

@@ -12,6 +12,9 @@ ghost use Rattle.tsobu.specs.StartCodes.{atStartCode, payloads};
 ghost use Rattle.unit.specs.Unit.{obusIn};
 ghost use Rattle.unit.specs.Answer.{checking, tooShort, readingWidths, readSays};
 ghost use Rattle.unit.specs.Parts.{EndsOf, Judges, wholeCounts, JudgedUnit, endsFrom};
+use crate::limits::MOST_CARRIED;
+use crate::limits::MOST_OBU_BYTES;
+use crate::limits::MOST_OBUS;
 use emulation::unescape_prefix;
 use obu::kind_number;
 use obu::size_bytes;
@@ -21,13 +24,6 @@ use tsobu::TsObu;
 use tsobu::at_start_code;
 use tsobu::find;
 use tsobu::judge_payload;
-
-// The most bytes of a carried unit, the most OBUs and the most bytes of its OBUs.
-const MOST_CARRIED: usize = 1573056;
-
-const MOST_OBUS: usize = 64;
-
-const MOST_OBU_BYTES: usize = 1048576;
 
 // A unit's OBUs, their bytes together, and the bytes dropped in all.
 pub struct Counts {

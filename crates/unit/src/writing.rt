@@ -13,6 +13,8 @@ ghost use Rattle.obu.specs.Order.{orderedSays};
 ghost use Rattle.unit.specs.Unit.{mostObus, mostObuBytes, sum, obusOf, writeRefusal, carried, writeUnit};
 ghost use Rattle.unit.specs.Answer.{writtenSays};
 ghost use Rattle.unit.specs.Demand3.{Demand3Lent};
+use crate::limits::MOST_OBU_BYTES;
+use crate::limits::MOST_OBUS;
 use emulation::Escaped;
 use emulation::escape_prefix;
 use emulation::escaped_length;
@@ -23,12 +25,6 @@ use obu::kind_number;
 use obu::order;
 use refusal::Refusal;
 use refusal::Refused;
-
-// The most OBUs in an access unit.
-const MOST_OBUS: usize = 64;
-
-// The most bytes that the OBUs of a unit have together.
-const MOST_OBU_BYTES: usize = 1048576;
 
 // How many bytes the carried unit has, or the refusal.
 pub enum Written {
