@@ -10,7 +10,7 @@ use Rattle.lists.specs.Lists.{Bytes, pick}
 use Rattle.lists.proofs.Parts.{next}
 use Rattle.crc.specs.Crc.{bitStep, bitsStep, byteStep, crcFrom, crc, bytesOf, crcBytes}
 use Rattle.crc.specs.Parts.{entry}
-use Rattle.crc.proofs.Linear.{step-lt, byte-entry}
+use Rattle.crc.proofs.Linear.{byte-lt, byte-entry}
 
 pub crc-append : (r : ℕ) (s t : Bytes) → crcFrom r (s ++ t) ≡ crcFrom (crcFrom r s) t
 unfolding crcFrom
@@ -28,10 +28,6 @@ module _ (s : Bytes) (r i : ℕ) where
   crc-next h = rw (next s i h)
 
 -- ---- the register keeps to 32 bits
-byte-lt : (r x : ℕ) → byteStep r x < 2 ^ 32
-unfolding byteStep bitsStep
-byte-lt r x = step-lt _ _
-
 crc-lt : (r : ℕ) (s : Bytes) → r < 2 ^ 32 → crcFrom r s < 2 ^ 32
 unfolding crcFrom
 crc-lt r [] h = h

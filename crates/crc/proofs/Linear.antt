@@ -100,6 +100,19 @@ cancels : (x : ℕ) → x < 256 → bitsStep (x * 2 ^ 24) (bitsOf x) ≡ 0
 unfolding leavesNothing allBelow bitsStep bitStep pick
 cancels x h = eqb-true (bitsStep (x * 2 ^ 24) (bitsOf x)) 0 (below leavesNothing 256 refl x h)
 
+-- ---- a zero byte
+pub byte-lt : (r x : ℕ) → byteStep r x < 2 ^ 32
+unfolding byteStep bitsStep
+byte-lt r x = step-lt _ _
+
+pub zero-linear : (a b : ℕ) → a < 2 ^ 32 → b < 2 ^ 32 → byteStep (bitXor a b) 0 ≡ bitXor (byteStep a 0) (byteStep b 0)
+unfolding byteStep
+zero-linear a b ha hb = steps-linear zeroBits zeroBits (omega arith) a b ha hb
+
+pub zero-low : (r : ℕ) → r < 2 ^ 24 → byteStep r 0 ≡ r * 256
+unfolding byteStep
+zero-low r h = low-steps r h
+
 -- ---- a byte at once
 module _ (r x : ℕ) (hr : r < 2 ^ 32) (hx : x < 256) where
   parted : r ≡ bitXor (r / 2 ^ 24 * 2 ^ 24) (r % 2 ^ 24)
