@@ -1,5 +1,5 @@
--- The register goes on from where it is, so what follows a string starts from the string's register; and the four bytes of a CRC, which follow
--- its string, leave 0. Assumes nothing.
+-- The register goes on from where it is, so what follows a string starts from the string's register; and the four bytes of a CRC, which
+-- follow its string, leave 0. Assumes nothing.
 use Prim.Native.Nat.{ℕ, _+_, _*_, _/_, _%_, _^_, _≤_, _<_}
 use mathlib.Core.Path.{_≡_, refl, ap, _∙_}
 use mathlib.Core.List.{[], _∷_, _++_}

@@ -1,4 +1,5 @@
--- The table's rule, by two tests that antt computes: of its first 32 entries, and of each other from the one 32 places before it. Assumes nothing.
+-- The table's rule, by two tests that antt computes: of its first 32 entries, and of each other from the one 32 places before it. Assumes
+-- nothing.
 use Prim.Native.Nat.{ℕ, zero, suc, _+_, _*_, _^_, _<_}
 use mathlib.Core.Bool.{Bool, true}
 use mathlib.Core.Path.{_≡_, sym, ap, _∙_}

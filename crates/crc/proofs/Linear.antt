@@ -1,5 +1,5 @@
--- The register's step is linear over the exclusive or. So a byte's eight steps are those of zero bits from what the byte makes of the register's
--- highest byte, which is a table's entry, and a shift of the others. Assumes nothing.
+-- The register's step is linear over the exclusive or. So a byte's eight steps are those of zero bits from what the byte makes of the
+-- register's highest byte, which is a table's entry, and a shift of the others. Assumes nothing.
 use Prim.Native.Nat.{ℕ, _*_, _/_, _%_, _^_, _<_}
 use mathlib.Core.Bool.{Bool, true, false}
 use mathlib.Core.Path.{_≡_, refl, sym, ap, ap₂, _∙_}

@@ -1,5 +1,5 @@
--- Eight bytes at once. A zero byte's step is linear over the exclusive or, so the register after eight bytes is what each of them leaves, added up; and a byte
--- leaves what its two halves leave. Assumes nothing.
+-- Eight bytes at once. A zero byte's step is linear over the exclusive or, so the register after eight bytes is what each of them leaves,
+-- added up; and a byte leaves what its two halves leave. Assumes nothing.
 use Prim.Native.Nat.{ℕ, zero, suc, _+_, _-_, _*_, _/_, _%_, _^_, _≤_, _<_}
 use mathlib.Core.Path.{_≡_, refl, sym, ap, ap₂, _∙_}
 use mathlib.Core.Bool.{Bool}

@@ -1,5 +1,5 @@
-// What each half of a byte leaves in the register after the byte and k zero bytes, from 0: 32 entries for each k of 0 to 7, 16 of the lower half of the byte,
-// then 16 of its upper half.
+// What each half of a byte leaves in the register after the byte and k zero bytes, from 0: 32 entries for each k of 0
+// to 7, 16 of the lower half of the byte, then 16 of its upper half.
 pub(crate) const TABLE: [u32; 256] = [
     0x00000000,
     0x04C11DB7,

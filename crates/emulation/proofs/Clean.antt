@@ -1,11 +1,11 @@
--- Places at which 00 00 and a byte of 0 to 3 stand (`critical`), and blocks without one (`clean`). At any other place escaping and unescaping give the
--- byte as it is (`KeepsUncritical`), nothing is dropped and no forbidden sequence begins; so they pass a clean block as it is. Assumes nothing.
+-- Places at which 00 00 and a byte of 0 to 3 stand (`critical`), and blocks without one (`clean`). At any other place escaping and
+-- unescaping give the byte as it is (`KeepsUncritical`), nothing is dropped and no forbidden sequence begins; so they pass a clean block as
+-- it is. Assumes nothing.
 use Prim.Native.Nat.{ℕ, zero, suc, _+_, _-_, _≤_, _<_}
 use mathlib.Core.Bool.{Bool, true, false, _&&_, _||_, true≢false}
-use mathlib.Core.Path.{_≡_, refl, sym, ap, ap₂, subst, _∙_}
+use mathlib.Core.Path.{_≡_, refl, sym, ap, ap₂, _∙_}
 use mathlib.Core.List.{[], _∷_, _++_}
 use native.Mathlib.Omega.{arith}
-use native.Mathlib.Numerals.{add-one}
 use lib.ListN.{length, take, drop, getD, length-drop}
 use lib.Seq.{drop-drop}
 use lib.Dec.{leb, eqb}
@@ -14,8 +14,9 @@ use Rattle.lists.specs.Lists.{Bytes}
 use Rattle.lists.proofs.Tests.{case, clash, and-both}
 use Rattle.lists.proofs.Parts.{next, next3}
 use Rattle.emulation.specs.Payload.{stuffed, escape, escapeAfter, unescape, forbidden, above3}
-use Rattle.emulation.specs.Parts.{marked, critical, criticals, block, clean}
+use Rattle.emulation.specs.Parts.{marked, critical, paired, tripled, hits, block, clean, single}
 use Rattle.emulation.proofs.Steps.{escape-stuffed, escape-plain, unescape-plain}
+use Rattle.emulation.proofs.Hits.{one, none-first, none-keeps}
 use Rattle.emulation.proofs.Machine.{stuffed-is, stuffed-of, marked-of, unmarked-of-plain}
 
 -- ---- what begins at such a place alone
@@ -76,6 +77,25 @@ escape-critical (a ∷ b ∷ []) e = absurd (true≢false (sym e))
 escape-critical (a ∷ b ∷ c ∷ s) e =
     let h = stuffed-is a b c e in ap₂ (λ (x y : ℕ). escape (x ∷ y ∷ c ∷ s)) (h .0) (h .1) ∙ escape-zeros c s (h .2)
 
+-- without a third 00, one place puts its own byte and no other
+unpaired-third : (c : ℕ) (s : Bytes) → (c ≡ 0 → ⊥) → critical (0 ∷ c ∷ s) ≡ false
+unfolding critical
+unpaired-third c [] h = refl
+unpaired-third c (d ∷ s) h = rw (ne-eqb c 0 h)
+
+pub escape-one : (a : ℕ) (l : Bytes) → tripled (a ∷ l) ≡ false → length (escape (a ∷ l)) ≡ suc (one (critical (a ∷ l)) + length (escape l))
+unfolding critical tripled
+escape-one a [] e = omega (arith, ap length (escape-uncritical a [] refl))
+escape-one a (b ∷ []) e = omega (arith, ap length (escape-uncritical a (b ∷ []) refl))
+escape-one a (b ∷ c ∷ s) e =
+    case (stuffed a b c)
+    (λ t.
+    let h = stuffed-is a b c t in
+    let n : (c ≡ 0 → ⊥) = λ z. clash (rw (h .0, h .1, z)) e in
+    let m : length (escape (b ∷ c ∷ s)) ≡ suc (length (escape (c ∷ s))) = rw (h .1) (ap length (escape-uncritical 0 (c ∷ s) (unpaired-third c s n))) in
+    omega (arith, ap length (escape-critical (a ∷ b ∷ c ∷ s) t), m, ap one t))
+    (λ t. omega (arith, ap length (escape-uncritical a (b ∷ c ∷ s) t), ap one t))
+
 -- ---- at the code's place i
 pub critical-at : (s : Bytes) (i : ℕ) → i + 2 < length s → critical (drop i s) ≡ stuffed (getD s i 0) (getD s (i + 1) 0) (getD s (i + 2) 0)
 unfolding critical
@@ -97,72 +117,66 @@ escape-at-critical s i e = escape-critical (drop i s) e ∙ rw (drop-drop 2 i s)
 pub escape-at-uncritical : (s : Bytes) (i : ℕ) → i < length s → critical (drop i s) ≡ false → escape (drop i s) ≡ getD s i 0 ∷ escape (drop (i + 1) s)
 escape-at-uncritical s i h e = rw (next s i h) (escape-uncritical (getD s i 0) (drop (i + 1) s) (rw (next s i h) at e))
 
--- ---- how many such places there are
-criticals-yes : (n a : ℕ) (s : Bytes) → critical (a ∷ s) ≡ true → criticals (suc n) (a ∷ s) ≡ suc (criticals n s)
-unfolding criticals
-criticals-yes n a s e = rw (e, criticals)
+-- ---- 00 00 at a place
+pub paired-at : (s : Bytes) (i : ℕ) → i + 1 < length s → paired (drop i s) ≡ eqb (getD s i 0) 0 && eqb (getD s (i + 1) 0) 0
+unfolding paired
+paired-at s i h =
+    let e : drop (i + 1) s ≡ getD s (i + 1) 0 ∷ drop (i + 1 + 1) s = next s (i + 1) h in
+    rw (next s i (omega arith), e)
 
-criticals-no : (n a : ℕ) (s : Bytes) → critical (a ∷ s) ≡ false → criticals (suc n) (a ∷ s) ≡ criticals n s
-unfolding criticals
-criticals-no n a s e = rw (e, criticals)
+pub paired-of : (s : Bytes) (i : ℕ) → i + 1 < length s → getD s i 0 ≡ 0 → getD s (i + 1) 0 ≡ 0 → paired (drop i s) ≡ true
+paired-of s i h e f = paired-at s i h ∙ rw (e, f)
 
--- one place more, at the end
-abbrev pub one : Bool → ℕ
-one true = 1
-one false = 0
+pub tripled-at : (s : Bytes) (i : ℕ) → i + 2 < length s → tripled (drop i s) ≡ eqb (getD s i 0) 0 && eqb (getD s (i + 1) 0) 0 && eqb (getD s (i + 2) 0) 0
+unfolding tripled
+tripled-at s i h = rw (next3 s i h)
 
-criticals-more : (n : ℕ) (l : Bytes) → criticals (suc n) l ≡ criticals n l + one (critical (drop n l))
-unfolding criticals critical
-criticals-more zero [] = refl
-criticals-more zero (a ∷ l) =
-    case (critical (a ∷ l)) (λ t. rw (t, criticals)) (λ t. rw (t, criticals))
-criticals-more (suc n) [] = refl
-criticals-more (suc n) (a ∷ l) =
-    case (critical (a ∷ l))
-    (λ t. omega (arith, criticals-yes (suc n) a l t, criticals-yes n a l t, criticals-more n l))
-    (λ t. omega (arith, criticals-no (suc n) a l t, criticals-no n a l t, criticals-more n l))
-
-pub criticals-at : (s : Bytes) (i j : ℕ) (t : Bool) → critical (drop (i + j) s) ≡ t → criticals (j + 1) (drop i s) ≡ criticals j (drop i s) + one t
-criticals-at s i j t e =
-    let d : critical (drop j (drop i s)) ≡ t = rw drop-drop e in
-    rw add-one (criticals-more j (drop i s) ∙ ap (λ (x : Bool). criticals j (drop i s) + one x) d)
-
--- where there is none, there is none at the first place and none after it
-none-first : (n a : ℕ) (s : Bytes) → criticals (suc n) (a ∷ s) ≡ 0 → (critical (a ∷ s) ≡ false) × (criticals n s ≡ 0)
-none-first n a s e =
-    case (critical (a ∷ s))
-    (λ t. absurd (omega (arith, criticals-yes n a s t)))
-    (λ t. (t, omega (arith, criticals-no n a s t)))
+-- without 00 00 the place is not critical
+pub unpaired-uncritical : (l : Bytes) → paired l ≡ false → critical l ≡ false
+unfolding paired critical
+unpaired-uncritical [] e = refl
+unpaired-uncritical (a ∷ []) e = refl
+unpaired-uncritical (a ∷ b ∷ []) e = refl
+unpaired-uncritical (a ∷ b ∷ c ∷ s) e = rw e
 
 -- ---- a clean block
 pub clean-short : (s : Bytes) (i : ℕ) → length s - i < block + 2 → clean (drop i s) ≡ false
 unfolding clean
 clean-short s i h = rw (length-drop, lt-leb (block + 2) (length s - i) h)
 
-pub clean-counted : (s : Bytes) (i : ℕ) → block + 2 ≤ length s - i → clean (drop i s) ≡ eqb (criticals block (drop i s)) 0
+pub clean-counted : (s : Bytes) (i : ℕ) → block + 2 ≤ length s - i → clean (drop i s) ≡ eqb (hits paired block (drop i s)) 0
 unfolding clean
 clean-counted s i h = rw (length-drop, le-leb (block + 2) (length s - i) h)
 
-pub is-clean : (s : Bytes) (i : ℕ) → clean (drop i s) ≡ true → (i + block + 2 ≤ length s) × (criticals block (drop i s) ≡ 0)
+pub is-clean : (s : Bytes) (i : ℕ) → clean (drop i s) ≡ true → (i + block + 2 ≤ length s) × (hits paired block (drop i s) ≡ 0)
 unfolding clean
 is-clean s i e =
-    let h = and-both (leb (block + 2) (length (drop i s))) (eqb (criticals block (drop i s)) 0) e in
+    let h = and-both (leb (block + 2) (length (drop i s))) (eqb (hits paired block (drop i s)) 0) e in
     let k = leb-true (block + 2) (length (drop i s)) (h .0) in
-    (omega (arith, length-drop i s), eqb-true (criticals block (drop i s)) 0 (h .1))
+    (omega (arith, length-drop i s), eqb-true (hits paired block (drop i s)) 0 (h .1))
 
 -- what each place that is not critical keeps, a clean block keeps
-keeps : (s : Bytes) (P : ℕ → Type 0) → ((j : ℕ) → j < length s → critical (drop j s) ≡ false → P j → P (j + 1))
-    → (n i : ℕ) → i + n ≤ length s → criticals n (drop i s) ≡ 0 → P i → P (i + n)
-keeps s P step zero i h e p = let z : i ≡ i + 0 = omega arith in subst P z p
-keeps s P step (suc n) i h e p =
-    let z : i + 1 + n ≡ i + suc n = omega arith in
-    let d : drop i s ≡ getD s i 0 ∷ drop (i + 1) s = next s i (omega arith) in
-    let k = none-first n (getD s i 0) (drop (i + 1) s) (rw d at e) in
-    subst P z (keeps s P step n (i + 1) (omega arith) (k .1) (step i (omega arith) (rw d (k .0)) p))
-
 pub clean-keeps : (s : Bytes) (P : ℕ → Type 0) → ((j : ℕ) → j < length s → critical (drop j s) ≡ false → P j → P (j + 1))
     → (i : ℕ) → clean (drop i s) ≡ true → P i → P (i + block)
-clean-keeps s P step i e p = let h = is-clean s i e in keeps s P step block i (omega (arith, h .0)) (h .1) p
+clean-keeps s P step i e p =
+    let h = is-clean s i e in
+    none-keeps paired s P (λ j l f q. step j l (unpaired-uncritical (drop j s) f) q) block i (omega (arith, h .0)) (h .1) p
+
+-- ---- a block without 00 00 00
+pub single-short : (s : Bytes) (i : ℕ) → length s - i < block + 2 → single (drop i s) ≡ false
+unfolding single
+single-short s i h = rw (length-drop, lt-leb (block + 2) (length s - i) h)
+
+pub single-counted : (s : Bytes) (i : ℕ) → block + 2 ≤ length s - i → single (drop i s) ≡ eqb (hits tripled block (drop i s)) 0
+unfolding single
+single-counted s i h = rw (length-drop, le-leb (block + 2) (length s - i) h)
+
+pub is-single : (s : Bytes) (i : ℕ) → single (drop i s) ≡ true → (i + block + 2 ≤ length s) × (hits tripled block (drop i s) ≡ 0)
+unfolding single
+is-single s i e =
+    let h = and-both (leb (block + 2) (length (drop i s))) (eqb (hits tripled block (drop i s)) 0) e in
+    let k = leb-true (block + 2) (length (drop i s)) (h .0) in
+    (omega (arith, length-drop i s), eqb-true (hits tripled block (drop i s)) 0 (h .1))
 
 -- ---- what gives each byte as it is where the place is not critical, gives a clean block as it is, and the last two bytes
 pub record KeepsUncritical (f : Bytes → Bytes) : Type 0 where
@@ -178,11 +192,11 @@ unfolding unescape
 unescape-keeps = record { nothing = refl; byte = λ a s e. unescape-plain a s (uncritical-unmarked (a ∷ s) e) }
 
 module _ (f : Bytes → Bytes) (k : KeepsUncritical f) where
-  passes : (n : ℕ) (s : Bytes) → n ≤ length s → criticals n s ≡ 0 → f s ≡ take n s ++ f (drop n s)
+  passes : (n : ℕ) (s : Bytes) → n ≤ length s → hits paired n s ≡ 0 → f s ≡ take n s ++ f (drop n s)
   passes zero s h e = refl
   passes (suc n) [] h e = absurd (omega arith)
   passes (suc n) (a ∷ s) h e =
-      let m = none-first n a s e in k .byte a s (m .0) ∙ ap (λ (l : Bytes). a ∷ l) (passes n s (omega arith) (m .1))
+      let m = none-first paired n a s e in k .byte a s (unpaired-uncritical (a ∷ s) (m .0)) ∙ ap (λ (l : Bytes). a ∷ l) (passes n s (omega arith) (m .1))
 
   pub clean-passes : (s : Bytes) (i : ℕ) → clean (drop i s) ≡ true → f (drop i s) ≡ take block (drop i s) ++ f (drop (i + block) s)
   clean-passes s i e =

@@ -3,7 +3,9 @@ pub mod Steps
 pub mod Answers
 pub mod Machine
 pub mod Theorems
+pub mod Hits
 pub mod Clean
 pub mod Judging
 pub mod Inserting
 pub mod Giving
+pub mod Runs

@@ -1,21 +1,56 @@
-// Blocks of bytes. In a clean block escaping puts nothing, unescaping drops nothing and no forbidden sequence begins. The loop that tests a block
-// has a fixed count and one way out, so that it is compiled to look at many bytes at a time.
+// Blocks of bytes. In a clean block escaping puts nothing, unescaping drops nothing and no forbidden sequence begins.
+// The loops that count places of a block have a fixed count and one way out, so that they are compiled to look at many
+// bytes at a time.
 ghost use mathlib.Core.Path.{_≡_};
+ghost use mathlib.Core.Bool.{_&&_, _||_};
 ghost use Prim.Native.Nat.{_+_, _-_, _≤_, _<_};
+ghost use lib.Dec.{eqb, leb, ltb};
 ghost use lib.ListN.{length, drop};
-ghost use Rattle.emulation.specs.Payload.{stuffed};
-ghost use Rattle.emulation.specs.Parts.{block};
+ghost use Rattle.emulation.specs.Payload.{marked3, stuffed};
+ghost use Rattle.emulation.specs.Payload.{forbidden as Payload·forbidden};
+ghost use Rattle.emulation.specs.Parts.{block, hits, paired, tripled, Fresh};
+ghost use Rattle.emulation.specs.Parts.{marked as Parts·marked};
 ghost use Rattle.emulation.specs.Parts.{critical as Parts·critical};
-ghost use Rattle.emulation.specs.Parts.{criticals as Parts·criticals};
 ghost use Rattle.emulation.specs.Parts.{clean as Parts·clean};
+ghost use Rattle.emulation.specs.Parts.{single as Parts·single};
 
 // The bytes of a block.
-pub(crate) const BLOCK: usize = 128;
+pub(crate) const BLOCK: usize = 64;
 
 // The place that a pass has come to, and its count: of the bytes put, dropped or written.
-pub(crate) struct Reached {
+pub struct Reached {
     pub place: usize,
     pub count: usize,
+}
+
+// A count of places, as a number of bytes.
+pub(crate) fn wide(count: u8) -> usize
+    ensures { λ r. ⌜ r ≡ count ⌝ }
+{
+    count as usize
+}
+
+// Two bytes 00 00.
+fn pair(a: u8, b: u8) -> bool
+    ensures { λ r. ⌜ r ≡ eqb a 0 && eqb b 0 ⌝ }
+{
+    if a != 0 {
+        return false;
+    }
+    b == 0
+}
+
+// Three bytes 00 00 00.
+fn triple(a: u8, b: u8, c: u8) -> bool
+    ensures { λ r. ⌜ r ≡ eqb a 0 && eqb b 0 && eqb c 0 ⌝ }
+{
+    if a != 0 {
+        return false;
+    }
+    if b != 0 {
+        return false;
+    }
+    c == 0
 }
 
 // The three bytes are 00 00 and a byte of 0 to 3.
@@ -31,6 +66,54 @@ fn critical(a: u8, b: u8, c: u8) -> bool
     c <= 3
 }
 
+// The three bytes are 00 00 03.
+pub(crate) fn marked(a: u8, b: u8, c: u8) -> bool
+    ensures { λ r. ⌜ r ≡ marked3 a b c ⌝ }
+{
+    if a != 0 {
+        return false;
+    }
+    if b != 0 {
+        return false;
+    }
+    c == 3
+}
+
+// The four bytes begin with a forbidden sequence.
+fn forbidden(a: u8, b: u8, c: u8, d: u8) -> bool
+    ensures { λ r. ⌜ r ≡ eqb a 0 && eqb b 0 && (leb c 2 || (eqb c 3 && ltb 3 d)) ⌝ }
+{
+    if a != 0 {
+        return false;
+    }
+    if b != 0 {
+        return false;
+    }
+    if c <= 2 {
+        return true;
+    }
+    if c != 3 {
+        return false;
+    }
+    d > 3
+}
+
+// At i stand 00 00.
+fn pair_at(s: &[u8], i: usize) -> bool
+    requires { ⌜ i + 1 < length (now s) ⌝ }
+    ensures { λ r. ⌜ r ≡ paired (drop i (now (s .entry))) ⌝ }
+{
+    pair(s[i], s[i + 1])
+}
+
+// At i stand 00 00 00.
+fn triple_at(s: &[u8], i: usize) -> bool
+    requires { ⌜ i + 2 < length (now s) ⌝ }
+    ensures { λ r. ⌜ r ≡ tripled (drop i (now (s .entry))) ⌝ }
+{
+    triple(s[i], s[i + 1], s[i + 2])
+}
+
 // At i stand 00 00 and a byte of 0 to 3.
 pub(crate) fn critical_at(s: &[u8], i: usize) -> bool
     requires { ⌜ i + 2 < length (now s) ⌝ }
@@ -39,10 +122,60 @@ pub(crate) fn critical_at(s: &[u8], i: usize) -> bool
     critical(s[i], s[i + 1], s[i + 2])
 }
 
-// At how many places of the block at i 00 00 and a byte of 0 to 3 stand.
-fn criticals(s: &[u8], i: usize) -> u8
+// At i stand 00 00 03.
+pub(crate) fn marked_at(s: &[u8], i: usize) -> bool
+    requires { ⌜ i + 2 < length (now s) ⌝ }
+    ensures { λ r. ⌜ r ≡ Parts·marked (drop i (now (s .entry))) ⌝ }
+{
+    marked(s[i], s[i + 1], s[i + 2])
+}
+
+// A forbidden sequence begins at i, and three bytes come after i.
+fn forbidden_at(s: &[u8], i: usize) -> bool
+    requires { ⌜ i + 3 < length (now s) ⌝ }
+    ensures { λ r. ⌜ r ≡ Payload·forbidden (drop i (now (s .entry))) ⌝ }
+{
+    forbidden(s[i], s[i + 1], s[i + 2], s[i + 3])
+}
+
+// At how many places of the block at i 00 00 stands.
+pub(crate) fn pairs(s: &[u8], i: usize) -> u8
+    requires { ⌜ i + block + 1 ≤ length (now s) ⌝ }
+    ensures { λ r. ⌜ r ≡ hits paired block (drop i (now (s .entry))) ⌝ }
+{
+    let mut count: u8 = 0;
+    let mut j: usize = 0;
+    while j < BLOCK {
+        let place = i + j;
+        j += 1;
+        if pair_at(s, place) {
+            count += 1;
+        }
+    }
+    count
+}
+
+// At how many places of the block at i 00 00 00 stands.
+fn triples(s: &[u8], i: usize) -> u8
     requires { ⌜ i + block + 2 ≤ length (now s) ⌝ }
-    ensures { λ r. ⌜ r ≡ Parts·criticals block (drop i (now (s .entry))) ⌝ }
+    ensures { λ r. ⌜ r ≡ hits tripled block (drop i (now (s .entry))) ⌝ }
+{
+    let mut count: u8 = 0;
+    let mut j: usize = 0;
+    while j < BLOCK {
+        let place = i + j;
+        j += 1;
+        if triple_at(s, place) {
+            count += 1;
+        }
+    }
+    count
+}
+
+// At how many places of the block at i 00 00 and a byte of 0 to 3 stand.
+pub(crate) fn criticals(s: &[u8], i: usize) -> u8
+    requires { ⌜ i + block + 2 ≤ length (now s) ⌝ }
+    ensures { λ r. ⌜ r ≡ hits Parts·critical block (drop i (now (s .entry))) ⌝ }
 {
     let mut count: u8 = 0;
     let mut j: usize = 0;
@@ -50,6 +183,40 @@ fn criticals(s: &[u8], i: usize) -> u8
         let place = i + j;
         j += 1;
         if critical_at(s, place) {
+            count += 1;
+        }
+    }
+    count
+}
+
+// At how many places of the block at i 00 00 03 stands.
+pub(crate) fn marks(s: &[u8], i: usize) -> u8
+    requires { ⌜ i + block + 2 ≤ length (now s) ⌝ }
+    ensures { λ r. ⌜ r ≡ hits Parts·marked block (drop i (now (s .entry))) ⌝ }
+{
+    let mut count: u8 = 0;
+    let mut j: usize = 0;
+    while j < BLOCK {
+        let place = i + j;
+        j += 1;
+        if marked_at(s, place) {
+            count += 1;
+        }
+    }
+    count
+}
+
+// At how many places of the block at i a forbidden sequence begins.
+pub(crate) fn forbids(s: &[u8], i: usize) -> u8
+    requires { ⌜ i + block + 3 ≤ length (now s) ⌝ }
+    ensures { λ r. ⌜ r ≡ hits Payload·forbidden block (drop i (now (s .entry))) ⌝ }
+{
+    let mut count: u8 = 0;
+    let mut j: usize = 0;
+    while j < BLOCK {
+        let place = i + j;
+        j += 1;
+        if forbidden_at(s, place) {
             count += 1;
         }
     }
@@ -64,7 +231,18 @@ pub(crate) fn clean(s: &[u8], i: usize) -> bool
     if s.len() - i < BLOCK + 2 {
         return false;
     }
-    criticals(s, i) == 0
+    pairs(s, i) == 0
+}
+
+// At no place of the block at i 00 00 00 stands; it counts only where two bytes come after it.
+pub(crate) fn single(s: &[u8], i: usize) -> bool
+    requires { ⌜ i ≤ length (now s) ⌝ }
+    ensures { λ r. ⌜ r ≡ Parts·single (drop i (now (s .entry))) ⌝ }
+{
+    if s.len() - i < BLOCK + 2 {
+        return false;
+    }
+    triples(s, i) == 0
 }
 
 // How many places of s have two bytes after them: at these alone three bytes can be looked at.
@@ -86,4 +264,22 @@ pub(crate) fn block_end(i: usize, last: usize) -> usize
         return last;
     }
     i + BLOCK
+}
+
+// Where a run ends that begins at i: a block further on, and on to a place behind a byte that is not 00, or the end.
+pub(crate) fn run_end(s: &[u8], i: usize) -> usize
+    requires { ⌜ i < length (now s) ⌝ }
+    ensures { λ r. ⌜ (i < r) × (r ≤ length (now (s .entry))) × Fresh (now (s .entry)) r ⌝ }
+{
+    if s.len() - i <= BLOCK {
+        return s.len();
+    }
+    let mut end = i + BLOCK;
+    while end < s.len() {
+        if s[end - 1] != 0 {
+            return end;
+        }
+        end += 1;
+    }
+    end
 }

@@ -13,7 +13,10 @@ use crate::blocks::Reached;
 use crate::blocks::block_end;
 use crate::blocks::clean;
 use crate::blocks::critical_at;
+use crate::blocks::criticals;
 use crate::blocks::places;
+use crate::blocks::single;
+use crate::blocks::wide;
 use crate::writing::copy_clean;
 use crate::writing::copy_rest;
 use crate::writing::put;
@@ -30,8 +33,9 @@ pub enum Escaped {
     Refused(Refused),
 }
 
-// Goes over the places of obu from i to end and counts the bytes that escaping puts there. `next` is the place to be looked at next; the one after a
-// place at which a 03 is put is passed over. The reads go on by one place a turn and wait for no test.
+// Goes over the places of obu from i to end and counts the bytes that escaping puts there. `next` is the place to be
+// looked at next; the one after a place at which a 03 is put is passed over. The reads go on by one place a turn and
+// wait for no test.
 fn inserted_places(obu: &[u8], i: usize, end: usize) -> Reached
     requires { ⌜ (i < end) × (end + 2 ≤ length (now obu)) ⌝ }
     ensures { λ r. ⌜ Inserts (now (obu .entry)) i (r .place) (r .count) ⌝ }
@@ -64,6 +68,9 @@ fn inserted(obu: &[u8]) -> usize
     let mut i: usize = 0;
     while i < last {
         if clean(obu, i) {
+            i += BLOCK;
+        } else if single(obu, i) {
+            count += wide(criticals(obu, i));
             i += BLOCK;
         } else {
             let reached = inserted_places(obu, i, block_end(i, last));

@@ -4,6 +4,7 @@ mod escaping;
 mod unescaping;
 mod writing;
 
+pub use blocks::Reached;
 pub use escaping::Escaped;
 pub use escaping::escape;
 pub use escaping::escape_prefix;
@@ -11,6 +12,7 @@ pub use escaping::escaped_length;
 pub use unescaping::Counts;
 pub use unescaping::Judged;
 pub use unescaping::Unescaped;
+pub use unescaping::first_forbidden;
 pub use unescaping::judge;
 pub use unescaping::unescape;
 pub use unescaping::unescape_prefix;

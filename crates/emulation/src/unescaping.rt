@@ -1,21 +1,26 @@
 // Legal payloads, and unescaping one payload.
 ghost use mathlib.Core.Path.{_≡_};
-ghost use mathlib.Core.Bool.{false};
-ghost use Prim.Native.Nat.{_+_, _≤_, _<_};
+ghost use mathlib.Core.Bool.{true};
+ghost use Prim.Native.Nat.{_+_, _-_, _≤_, _<_};
 ghost use lib.ListN.{length, take, drop};
 ghost use Rattle.lists.specs.Lists.{over};
 ghost use Rattle.refusal.specs.Verdict.{leaves};
-ghost use Rattle.emulation.specs.Payload.{forbidden};
-ghost use Rattle.emulation.specs.Parts.{marked, Gives, Lawful};
+ghost use Rattle.emulation.specs.Payload.{forbidden, firstForbidden};
+ghost use Rattle.emulation.specs.Parts.{paired, Fresh, Keeps, Gives, Lawful};
 ghost use Rattle.emulation.specs.Payload.{unescape as Payload·unescape};
 ghost use Rattle.emulation.specs.Payload.{dropped as Payload·dropped};
 ghost use Rattle.emulation.specs.Answer.{unescaping, unescapedSays, judging, judgedSays};
 use crate::blocks::BLOCK;
 use crate::blocks::Reached;
 use crate::blocks::block_end;
-use crate::blocks::clean;
-use crate::blocks::critical_at;
+use crate::blocks::forbids;
+use crate::blocks::marked;
+use crate::blocks::marked_at;
+use crate::blocks::marks;
+use crate::blocks::pairs;
 use crate::blocks::places;
+use crate::blocks::run_end;
+use crate::blocks::wide;
 use crate::writing::copy_clean;
 use crate::writing::copy_rest;
 use crate::writing::put;
@@ -43,21 +48,11 @@ pub enum Judged {
     Illegal(Refused),
 }
 
-// A forbidden sequence begins at i.
-fn forbidden_at(s: &[u8], i: usize) -> bool
-    requires { ⌜ i ≤ length (now s) ⌝ }
+// A forbidden sequence begins at i, where 00 00 stands.
+fn forbidden_pair(s: &[u8], i: usize) -> bool
+    requires { ⌜ (i + 2 < length (now s)) × (paired (drop i (now s)) ≡ true) ⌝ }
     ensures { λ r. ⌜ r ≡ forbidden (drop i (now (s .entry))) ⌝ }
 {
-    let left = s.len() - i;
-    if left < 3 {
-        return false;
-    }
-    if s[i] != 0 {
-        return false;
-    }
-    if s[i + 1] != 0 {
-        return false;
-    }
     let c = s[i + 2];
     if c <= 2 {
         return true;
@@ -65,72 +60,99 @@ fn forbidden_at(s: &[u8], i: usize) -> bool
     if c != 3 {
         return false;
     }
-    if left < 4 {
+    if s.len() - i < 4 {
         return false;
     }
     s[i + 3] > 3
 }
 
-// The three bytes 00 00 03 stand at i.
-fn marked_at(s: &[u8], i: usize) -> bool
-    requires { ⌜ i + 2 < length (now s) ⌝ }
-    ensures { λ r. ⌜ r ≡ marked (drop i (now (s .entry))) ⌝ }
+// The first place from i on at which a forbidden sequence begins, or the end; and how many bytes unescaping drops
+// before it. A byte that is not 00 rules out two places.
+fn lawful_places(s: &[u8], i: usize) -> Reached
+    requires { ⌜ i ≤ length (now s) ⌝ }
+    ensures { λ r. ⌜ Lawful (now (s .entry)) i (r .place) (r .count) ⌝ }
+    ensures { λ r. ⌜ firstForbidden (drop (r .place) (now (s .entry))) ≡ 0 ⌝ }
 {
-    if s[i] != 0 {
-        return false;
+    let last = places(s);
+    let mut count: usize = 0;
+    let mut place = i;
+    while place < last {
+        if s[place + 1] != 0 {
+            place += 2;
+        } else if s[place] != 0 {
+            place += 1;
+        } else {
+            if forbidden_pair(s, place) {
+                return Reached { place, count };
+            }
+            if s[place + 2] == 3 {
+                count += 1;
+                place += 3;
+            } else {
+                place += 3;
+            }
+        }
     }
-    if s[i + 1] != 0 {
-        return false;
+    Reached {
+        place: s.len(),
+        count,
     }
-    s[i + 2] == 3
 }
 
-// Goes over the places of payload from i to end and counts the bytes that unescaping drops there; it stops where a forbidden sequence begins.
-fn lawful_places(payload: &[u8], i: usize, end: usize) -> Reached
-    requires { ⌜ (i < end) × (end + 2 ≤ length (now payload)) ⌝ }
-    ensures { λ r. ⌜ Lawful (now (payload .entry)) i (r .place) (r .count) ⌝ }
-    ensures { λ r. ⌜ (forbidden (drop (r .place) (now (payload .entry))) ≡ false → i < r .place) ⌝ }
+// The blocks of s from i on in which no forbidden sequence begins, as far as there is a whole one with three bytes
+// after it: how far they go, and how many bytes unescaping drops there.
+fn lawful_blocks(s: &[u8], i: usize) -> Reached
+    requires { ⌜ i ≤ length (now s) ⌝ }
+    ensures { λ r. ⌜ Lawful (now (s .entry)) i (r .place) (r .count) ⌝ }
 {
     let mut count: usize = 0;
     let mut place = i;
-    while place < end {
-        if critical_at(payload, place) {
-            if forbidden_at(payload, place) {
+    while BLOCK + 3 <= s.len() - place {
+        if pairs(s, place) == 0 {
+            place += BLOCK;
+        } else {
+            if forbids(s, place) != 0 {
                 return Reached { place, count };
             }
-            count += 1;
-            place += 3; // past the 03
-        } else {
-            place += 1;
+            count += wide(marks(s, place));
+            place += BLOCK;
         }
     }
     Reached { place, count }
+}
+
+// The first place from `from` on at which a forbidden sequence begins, or the end; and how many bytes unescaping drops
+// before it.
+pub fn first_forbidden(s: &[u8], from: usize) -> Reached
+    ensures { λ r. ⌜ r .place ≡ from + firstForbidden (drop from (now (s .entry))) ⌝ }
+    ensures { λ r. ⌜ r .count ≡ Payload·dropped (take (firstForbidden (drop from (now (s .entry)))) (drop from (now (s .entry)))) ⌝ }
+{
+    if s.len() <= from {
+        return Reached {
+            place: from,
+            count: 0,
+        };
+    }
+    let blocks = lawful_blocks(s, from);
+    let rest = lawful_places(s, blocks.place);
+    Reached {
+        place: rest.place,
+        count: blocks.count + rest.count,
+    }
 }
 
 // Whether payload is legal, and how many bytes unescaping drops; 10.
 pub fn judge(payload: &[u8]) -> Judged
     ensures { λ r. ⌜ judgedSays r ≡ judging (now (payload .entry)) ⌝ }
 {
-    let last = places(payload);
-    let mut dropped: usize = 0;
-    let mut i: usize = 0;
-    while i < last {
-        if clean(payload, i) {
-            i += BLOCK;
-        } else {
-            let reached = lawful_places(payload, i, block_end(i, last));
-            dropped += reached.count;
-            i = reached.place;
-            // where it stopped before the end of the block
-            if forbidden_at(payload, i) {
-                return Judged::Illegal(Refused {
-                    why: Refusal::ILLEGAL_PAYLOAD,
-                    place: i,
-                });
-            }
-        }
+    let reached = first_forbidden(payload, 0);
+    if reached.place < payload.len() {
+        return Judged::Illegal(Refused {
+            why: Refusal::ILLEGAL_PAYLOAD,
+            place: reached.place,
+        });
     }
-    Judged::Legal(dropped)
+    Judged::Legal(reached.count)
 }
 
 // What payload unescapes to between place i and place end, as far as there is room, into out from n on.
@@ -157,6 +179,47 @@ fn unescape_places(payload: &[u8], i: usize, end: usize, out: &mut [u8], n: usiz
     Reached { place, count }
 }
 
+// What is to stand where b would be given, and how far to go on there.
+struct Kept {
+    byte: u8,
+    step: usize,
+}
+
+// p and q came before b: b is dropped, and the old byte stays, or b is given.
+fn keep(p: u8, q: u8, b: u8, old: u8) -> Kept
+    ensures { λ r. ⌜ Keeps p q b old (r .byte) (r .step) ⌝ }
+{
+    if marked(p, q, b) {
+        return Kept { byte: old, step: 0 };
+    }
+    Kept { byte: b, step: 1 }
+}
+
+// What payload unescapes to from place i to place end, behind which it goes on as from the front, into out from n on,
+// where that many bytes have room. p and q are the bytes that came last. A byte that is dropped is written as what
+// stands there, so that no store waits for a test.
+fn unescape_run(payload: &[u8], i: usize, end: usize, out: &mut [u8], n: usize) -> usize
+    requires { ⌜ (i < end) × (end ≤ length (now payload)) × Fresh (now payload) end × (n + (end - i) ≤ length (now out)) ⌝ }
+    ensures { λ r. ⌜ Gives Payload·unescape (now (payload .entry)) i (now (out .entry)) n end r (now (out .exit)) ⌝ }
+    ensures { λ r. ⌜ n < r ⌝ }
+{
+    let mut p: u8 = 1;
+    let mut q = payload[i];
+    let mut count = n + 1;
+    let mut place = i + 1;
+    out[n] = q;
+    while place < end {
+        let b = payload[place];
+        place += 1;
+        let kept = keep(p, q, b, out[count]);
+        out[count] = kept.byte;
+        count += kept.step;
+        p = q;
+        q = b;
+    }
+    count
+}
+
 // As much of what payload unescapes to as out has room for, over the front of out; answers how many bytes that is.
 pub fn unescape_prefix(payload: &[u8], out: &mut [u8]) -> usize
     ensures { λ r. ⌜ r ≡ length (take (length (now (out .entry))) (Payload·unescape (now (payload .entry)))) ⌝ }
@@ -173,9 +236,15 @@ pub fn unescape_prefix(payload: &[u8], out: &mut [u8]) -> usize
             n += BLOCK;
             i += BLOCK;
         } else {
-            let reached = unescape_places(payload, i, block_end(i, last), out, n);
-            n = reached.count;
-            i = reached.place;
+            let end = run_end(payload, i);
+            if end - i <= out.len() - n {
+                n = unescape_run(payload, i, end, out, n);
+                i = end;
+            } else {
+                let reached = unescape_places(payload, i, block_end(i, last), out, n);
+                n = reached.count;
+                i = reached.place;
+            }
         }
     }
     copy_rest(payload, i, out, n)

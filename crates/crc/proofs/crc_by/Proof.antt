@@ -1,4 +1,5 @@
--- In each of the three loops the register, carried on over the rest of the bytes, is the CRC of all: eight bytes a turn, then four, then one.
+-- In each of the three loops the register, carried on over the rest of the bytes, is the CRC of all: eight bytes a turn, then four, then
+-- one.
 use Prim.Native.Nat.{ℕ, _+_, _-_, _≤_}
 use mathlib.Core.Path.{_≡_, refl, sym, ap, _∙_}
 use mathlib.Core.List.{List}

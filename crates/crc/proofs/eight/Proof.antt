@@ -1,4 +1,5 @@
--- Two words of four bytes, of which the first is added to the register: `by-eight` says that what both leave is the register after the eight.
+-- Two words of four bytes, of which the first is added to the register: `by-eight` says that what both leave is the register after the
+-- eight.
 use mathlib.Core.Path.{ap₂, sym, _∙_}
 use Prim.Native.Nat.{ℕ, _+_, _<_}
 use native.Mathlib.Omega.{arith}

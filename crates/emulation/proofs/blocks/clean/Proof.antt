@@ -17,13 +17,13 @@ add-if1 c = search needs
 returns : tie.Need-returns
 returns c = sym (clean-short (c .before .before .args .s .now) (c .before .before .args .i) (omega arith))
 
-criticals-requires : tie.Need-criticals-requires
-criticals-requires c κs = search needs
+pairs-requires : tie.Need-pairs-requires
+pairs-requires c κs = search needs
 
 returns-2 : tie.Need-returns-2
 returns-2 c =
     let start = c .before .before .before in
-    ap (λ (n : ℕ). eqb n 0) (c .criticals .ensures) ∙ sym (clean-counted (start .args .s .now) (start .args .i) (omega arith))
+    ap (λ (n : ℕ). eqb n 0) (c .pairs .ensures) ∙ sym (clean-counted (start .args .s .now) (start .args .i) (omega arith))
 
 pub clean-spec : {M : Type 1} → statement M
-clean-spec = tie.close (tie.spec sub-if1 add-if1 returns criticals-requires returns-2)
+clean-spec = tie.close (tie.spec sub-if1 add-if1 returns pairs-requires returns-2)

@@ -5,19 +5,20 @@ use Prim.Native.Nat.{_-_, _≤_}
 use mathlib.Core.Bool.{true, false}
 use mathlib.Core.Path.{_≡_, refl, sym, _∙_}
 use lib.ListN.{drop}
-use Rattle.emulation.specs.Parts.{block, criticals}
-use Rattle.emulation.proofs.Clean.{criticals-at}
+use Rattle.emulation.specs.Parts.{critical}
+use Rattle.emulation.specs.Parts.{block, hits}
+use Rattle.emulation.proofs.Hits.{hits-at}
 use Rattle.emulation.proofs.blocks.criticals.Statement.{statement}
 use Rattle.emulation.proofs.blocks.criticals.Tie as tie
 
 abbrev Inv-loop : tie.InvT-loop
-Inv-loop s i count₀ j₀ count j = (j ≤ block) × (count ≤ j) × (count ≡ criticals j (drop i s))
+Inv-loop s i count₀ j₀ count j = (j ≤ block) × (count ≤ j) × (count ≡ hits critical j (drop i s))
 
 abbrev μ-loop : tie.MeasureT-loop
 μ-loop s i count₀ j₀ count j = block - j
 
 loop-holds : tie.Need-loop-holds Inv-loop μ-loop
-unfolding criticals
+unfolding hits
 loop-holds c = (omega arith, omega arith, refl)
 
 add-place : tie.Need-add-place Inv-loop μ-loop
@@ -36,20 +37,22 @@ loop-less : tie.Need-loop-less Inv-loop μ-loop
 loop-less c = omega arith
 
 loop-again : tie.Need-loop-again Inv-loop μ-loop
+unfolding critical
 loop-again c =
     let start = c .before .before .before .before .before in
     let at = c .before .before .before .loop in
-    let e = criticals-at (start .args .s .now) (start .args .i) (at .j) true (sym (c .before .critical-at .ensures) ∙ c .if1 .taken) in
+    let e = hits-at critical refl (start .args .s .now) (start .args .i) (at .j) true (sym (c .before .critical-at .ensures) ∙ c .if1 .taken) in
     (omega arith, omega arith, omega (arith, at .inv .2))
 
 loop-less-2 : tie.Need-loop-less-2 Inv-loop μ-loop
 loop-less-2 c = omega arith
 
 loop-again-2 : tie.Need-loop-again-2 Inv-loop μ-loop
+unfolding critical
 loop-again-2 c =
     let start = c .before .before .before .before .before in
     let at = c .before .before .before .loop in
-    let e = criticals-at (start .args .s .now) (start .args .i) (at .j) false (sym (c .before .critical-at .ensures) ∙ c .if1 .left) in
+    let e = hits-at critical refl (start .args .s .now) (start .args .i) (at .j) false (sym (c .before .critical-at .ensures) ∙ c .if1 .left) in
     (omega arith, omega arith, omega (arith, at .inv .2))
 
 returns : tie.Need-returns Inv-loop μ-loop

@@ -1,5 +1,5 @@
--- One pass, by blocks: what is given of the bytes up to i stands in the output. A clean block is copied where it has room; another, or one without
--- room, goes place by place.
+-- One pass, by blocks: what is given of the bytes up to i stands in the output. A clean block is copied where it has room; another is a
+-- run; what has no room for a run goes place by place.
 use borrow.Author.Needs.{needs}
 use native.Mathlib.Omega.{arith}
 use Prim.Native.Nat.{_-_}
@@ -46,21 +46,45 @@ add-i c = omega (arith, loop-again c .within)
 loop-less : tie.Need-loop-less Inv-loop μ-loop
 loop-less c = omega (arith, loop-again c .written .within, loop-again c .written .long)
 
+-- a block that was not copied left the output as it was
+run-end-requires : tie.Need-run-end-requires Inv-loop μ-loop
+run-end-requires c κs = omega arith
+
+sub-if3 : tie.Need-sub-if3 Inv-loop μ-loop
+sub-if3 c = omega arith
+
+sub-if3-2 : tie.Need-sub-if3-2 Inv-loop μ-loop
+sub-if3-2 c = omega (arith, ap length (c .before .before .before .before .copy-clean .ensures .1 (c .before .if2 .left)), c .before .before .before .before .before .before .before .before .loop .inv .written .within)
+
+unescape-run-requires : tie.Need-unescape-run-requires Inv-loop μ-loop
+unescape-run-requires c κs =
+    let e = c .before .before .run-end .ensures in
+    (e .0, e .1, e .2, omega (arith, c .before .if3 .taken, ap length (c .before .before .before .before .before .before .copy-clean .ensures .1 (c .before .before .before .if2 .left)), c .before .before .before .before .before .before .before .before .before .before .loop .inv .written .within))
+
+loop-less-2 : tie.Need-loop-less-2 Inv-loop μ-loop
+loop-less-2 c =
+    omega (arith, c .before .before .unescape-run .ensures .1, c .before .before .unescape-run .ensures .0 .written .within, c .before .before .unescape-run .ensures .0 .written .long, ap length (c .before .before .before .before .before .before .before .before .before .copy-clean .ensures .1 (c .before .before .before .before .before .before .if2 .left)), c .before .before .before .before .before .before .before .before .before .before .before .before .before .loop .inv .written .long)
+
+loop-again-2 : tie.Need-loop-again-2 Inv-loop μ-loop
+loop-again-2 c =
+    let same = c .before .before .before .before .before .before .before .before .before .copy-clean .ensures .1 (c .before .before .before .before .before .before .if2 .left) in
+    gives-then (c .before .before .before .before .before .before .before .before .before .before .before .before .before .loop .inv) (rw same at (c .before .before .unescape-run .ensures .0))
+
 block-end-requires : tie.Need-block-end-requires Inv-loop μ-loop
 block-end-requires c κs = search needs
 
 unescape-places-requires : tie.Need-unescape-places-requires Inv-loop μ-loop
 unescape-places-requires c κs =
-    (omega arith, omega arith, omega (arith, ap length (c .before .before .before .before .before .copy-clean .ensures .1 (c .before .before .if2 .left))))
+    (omega arith, omega arith, omega (arith, ap length (c .before .before .before .before .before .before .before .copy-clean .ensures .1 (c .before .before .before .before .if2 .left))))
 
-loop-less-2 : tie.Need-loop-less-2 Inv-loop μ-loop
-loop-less-2 c =
-    omega (arith, c .before .before .unescape-places .ensures .1, c .before .before .before .before .before .before .before .before .before .before .before .before .loop .inv .written .long)
+loop-less-3 : tie.Need-loop-less-3 Inv-loop μ-loop
+loop-less-3 c =
+    omega (arith, c .before .before .unescape-places .ensures .1, c .before .before .before .before .before .before .before .before .before .before .before .before .before .before .loop .inv .written .long)
 
-loop-again-2 : tie.Need-loop-again-2 Inv-loop μ-loop
-loop-again-2 c =
-    let same = c .before .before .before .before .before .before .before .before .copy-clean .ensures .1 (c .before .before .before .before .before .if2 .left) in
-    gives-then (c .before .before .before .before .before .before .before .before .before .before .before .before .loop .inv) (rw same at (c .before .before .unescape-places .ensures .0))
+loop-again-3 : tie.Need-loop-again-3 Inv-loop μ-loop
+loop-again-3 c =
+    let same = c .before .before .before .before .before .before .before .before .before .before .copy-clean .ensures .1 (c .before .before .before .before .before .before .before .if2 .left) in
+    gives-then (c .before .before .before .before .before .before .before .before .before .before .before .before .before .before .loop .inv) (rw same at (c .before .before .unescape-places .ensures .0))
 
 copy-rest-requires : tie.Need-copy-rest-requires Inv-loop μ-loop
 copy-rest-requires c κs = (c .before .before .loop .inv .within, c .before .before .loop .inv .written .within)
@@ -86,10 +110,16 @@ unescape-prefix-spec =
     add-i
     loop-less
     loop-again
-    block-end-requires
-    unescape-places-requires
+    run-end-requires
+    sub-if3
+    sub-if3-2
+    unescape-run-requires
     loop-less-2
     loop-again-2
+    block-end-requires
+    unescape-places-requires
+    loop-less-3
+    loop-again-3
     copy-rest-requires
     same-length-2
     returns-2)

@@ -1,0 +1,24 @@
+-- The tests of the definition, one after the other.
+use borrow.Author.Tests.{ne-eqb, eq-eqb, le-leb, lt-leb}
+use Rattle.emulation.proofs.blocks.forbidden.Statement.{statement}
+use Rattle.emulation.proofs.blocks.forbidden.Tie as tie
+
+returns : tie.Need-returns
+returns c = simp (ne-eqb _ _ (c .if1 .taken))
+
+returns-2 : tie.Need-returns-2
+returns-2 c = simp (eq-eqb _ _ (c .before .if1 .left), ne-eqb _ _ (c .if2 .taken))
+
+returns-3 : tie.Need-returns-3
+returns-3 c = simp (eq-eqb _ _ (c .before .before .if1 .left), eq-eqb _ _ (c .before .if2 .left), le-leb _ _ (c .if3 .taken))
+
+returns-4 : tie.Need-returns-4
+returns-4 c =
+    simp (eq-eqb _ _ (c .before .before .before .if1 .left), eq-eqb _ _ (c .before .before .if2 .left), lt-leb _ _ (c .before .if3 .left), ne-eqb _ _ (c .if4 .taken))
+
+returns-5 : tie.Need-returns-5
+returns-5 c =
+    simp (eq-eqb _ _ (c .before .before .before .if1 .left), eq-eqb _ _ (c .before .before .if2 .left), lt-leb _ _ (c .before .if3 .left), eq-eqb _ _ (c .if4 .left))
+
+pub forbidden-spec : {M : Type 1} → statement M
+forbidden-spec = tie.close (tie.spec returns returns-2 returns-3 returns-4 returns-5)

@@ -1,0 +1,13 @@
+-- The tests of the definition, one after the other.
+use borrow.Author.Tests.{ne-eqb, eq-eqb}
+use Rattle.emulation.proofs.blocks.pair.Statement.{statement}
+use Rattle.emulation.proofs.blocks.pair.Tie as tie
+
+returns : tie.Need-returns
+returns c = simp (ne-eqb _ _ (c .if1 .taken))
+
+returns-2 : tie.Need-returns-2
+returns-2 c = simp (eq-eqb _ _ (c .if1 .left))
+
+pub pair-spec : {M : Type 1} → statement M
+pair-spec = tie.close (tie.spec returns returns-2)
