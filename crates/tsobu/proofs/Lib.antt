@@ -1,5 +1,6 @@
 pub mod Splits
 pub mod Places
+pub mod Scanning
 pub mod Steps
 pub mod Walks
 pub mod ByReader

@@ -19,7 +19,7 @@ use Rattle.obu.specs.Header.{headerOf, judged, judgedSays as obuSays, mostJudge
 use Rattle.obu.proofs.Headers.{judged-first, judged-header}
 use Rattle.tsobu.specs.TsObu.{tsobuRefusal}
 use Rattle.tsobu.specs.TsObu.{tsobuFigures, tsobuSays}
-use Rattle.tsobu.specs.Parts.{legalFigures}
+use Rattle.tsobu.specs.Parts.{firstFigures, legalFigures}
 use Rattle.tsobu.specs.declared.judging.Figures.{Figures}
 use Rattle.tsobu.specs.declared.judging.TsObu.{TsObu}
 use Rattle.tsobu.specs.declared.judging.TsObu.the-variants as tsobu
@@ -33,18 +33,25 @@ first-bytes u z first n e f =
     (omega (arith, ap length f, length-append w (drop (length w) z)), ap (take n) f ∙ take-at w (drop (length w) z) n (sym e))
 
 -- the first bytes and the length decide as the whole OBU does
-pub judged-short : (u first : Bytes) (n k : ℕ) → mostJudged ≤ k → first ≡ take k u → n ≡ length u → judged first n ≡ judged u (length u)
+judged-short : (u first : Bytes) (n k : ℕ) → mostJudged ≤ k → first ≡ take k u → n ≡ length u → judged first n ≡ judged u (length u)
 judged-short u first n k h e f = ap₂ judged e f ∙ judged-first k u (length u) h
 
-module _ (payload : Bytes) (q : Obu) (e : obuSays q ≡ judged (unescape payload) (length (unescape payload))) where
-  pub figures-refused : (r : Refused) → q ≡ obu.Refused r → refusedBy r ≡ legalFigures payload
-  unfolding legalFigures
+module _ (first : Bytes) (n d : ℕ) (q : Obu) (e : obuSays q ≡ judged first n) where
+  pub figures-refused : (r : Refused) → q ≡ obu.Refused r → refusedBy r ≡ firstFigures first n d
+  unfolding firstFigures
   figures-refused r k = stop _ _ _ (sym e ∙ ap obuSays k)
 
-  pub figures-passed : (h : Header) (d : ℕ) → q ≡ obu.Passed h → d ≡ dropped payload
-      → passed (record { header = h; dropped = d }) ≡ legalFigures payload
-  unfolding legalFigures
-  figures-passed h d k f = go-on h _ (sym e ∙ ap obuSays k) (ap (λ (n : ℕ). passed (record { header = h; dropped = n })) f)
+  pub figures-passed : (h : Header) → q ≡ obu.Passed h → passed (record { header = h; dropped = d }) ≡ firstFigures first n d
+  unfolding firstFigures
+  figures-passed h k = go-on h _ (sym e ∙ ap obuSays k) refl
+
+-- so they give the figures of the payload
+pub figures-short : (payload first : Bytes) (n d k : ℕ) → mostJudged ≤ k → first ≡ take k (unescape payload) → n ≡ length (unescape payload)
+    → d ≡ dropped payload → firstFigures first n d ≡ legalFigures payload
+unfolding firstFigures
+figures-short payload first n d k h e f g =
+    ap₂ (λ (v : Verdict Header) (m : ℕ). v >>= λ header. passed (record { header = header; dropped = m }))
+    (judged-short (unescape payload) first n k h e f) g
 
 -- ---- the header of an OBU that passes
 passed-judged : (v : Verdict Header) → (v >> passed (tt {0})) ≡ passed tt → (h : Header) × (v ≡ passed h)
@@ -77,7 +84,7 @@ same-header u n f (passed h) e = go-on h f (judged-header u n h e) refl
 same-header u n f (refused number place) e = refl
 
 pub tsobu-legal : (payload : Bytes) → (length payload ≡ 0 → ⊥) → legal payload ≡ true → legalFigures payload ≡ tsobuFigures payload
-unfolding tsobuFigures tsobuRefusal legalFigures given pick
+unfolding tsobuFigures tsobuRefusal firstFigures given pick
 tsobu-legal payload h e =
     let u = unescape payload in
     let f : Header → Verdict Figures = λ header. passed (record { header = header; dropped = dropped payload }) in

@@ -1,13 +1,34 @@
--- What the promise of a private function cites; no public promise does. Assumes nothing.
-use lib.ListN.{length}
+-- What the promises of private functions cite; no public promise does. Assumes nothing.
+use Prim.Native.Nat.{ℕ, _+_}
+use mathlib.Core.Bool.{Bool, true, not, _&&_}
+use mathlib.Core.Path.{_≡_}
+use lib.Dec.{leb, eqb}
+use lib.ListN.{length, drop}
 use Rattle.lists.specs.Lists.{Bytes}
 use Rattle.refusal.specs.Verdict.{Verdict, passed, _>>=_}
-use Rattle.emulation.specs.Payload.{unescape, dropped}
+use Rattle.emulation.specs.Payload.{legal, unescape, dropped}
+use Rattle.emulation.specs.Parts.{block, hits}
 use Rattle.obu.specs.Header.{judged}
+use Rattle.tsobu.specs.StartCodes.{atStartCode, split, codeFrom}
+use Rattle.tsobu.specs.declared.codes.Scanned.{Scanned}
 use Rattle.tsobu.specs.declared.judging.Figures.{Figures}
 
+-- a start code stands at one of the places of a block, or two bytes do not come after it
+unfoldable pub coded : Bytes → Bool
+coded s = not (leb (block + 2) (length s) && eqb (hits atStartCode block s) 0)
+
+-- where the payload from a place on ends, whether it is legal, and how many bytes of a legal one are dropped
+pub record ScannedAt (s : Bytes) (start : ℕ) (r : Scanned) : Type 0 where
+  pub ends : r .end ≡ codeFrom s start
+  pub lawful : r .legal ≡ legal (split (drop start s) .before)
+  pub drops : r .legal ≡ true → r .dropped ≡ dropped (split (drop start s) .before)
+
+-- an OBU of so many bytes, by its first ones, of whose payload so many bytes were dropped: 4, 5, 6, 42
+unfoldable pub firstFigures : Bytes → ℕ → ℕ → Verdict Figures
+firstFigures first length dropped = do
+  header ← judged first length
+  passed (record { header = header; dropped = dropped })
+
 -- a legal payload that is not empty: 4, 5, 6, 42
-unfoldable pub legalFigures : Bytes → Verdict Figures
-legalFigures payload = do
-  header ← judged (unescape payload) (length (unescape payload))
-  passed (record { header = header; dropped = dropped payload })
+abbrev pub legalFigures : Bytes → Verdict Figures
+legalFigures payload = firstFigures (unescape payload) (length (unescape payload)) (dropped payload)

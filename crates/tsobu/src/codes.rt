@@ -1,8 +1,22 @@
-// Start codes.
+// Start codes, and the payloads behind them.
 ghost use mathlib.Core.Path.{_≡_};
-ghost use Prim.Native.Nat.{_≤_};
+ghost use Prim.Native.Nat.{_+_, _≤_, _<_};
 ghost use lib.ListN.{length, drop};
-ghost use Rattle.tsobu.specs.StartCodes.{atStartCode, codeFrom};
+ghost use Rattle.emulation.specs.Parts.{block, hits};
+ghost use Rattle.tsobu.specs.StartCodes.{startCode3, atStartCode, codeFrom};
+ghost use Rattle.tsobu.specs.Parts.{ScannedAt};
+ghost use Rattle.tsobu.specs.Parts.{coded as Parts·coded};
+use emulation::first_forbidden;
+
+// The bytes of a block.
+const BLOCK: usize = 64;
+
+// The payload from a place on: where it ends, whether it is legal, and how many bytes unescaping drops of a legal one.
+pub(crate) struct Scanned {
+    pub(crate) end: usize,
+    pub(crate) legal: bool,
+    pub(crate) dropped: usize,
+}
 
 // A start code stands at i.
 pub(crate) fn code_at(s: &[u8], i: usize) -> bool
@@ -21,11 +35,76 @@ pub(crate) fn code_at(s: &[u8], i: usize) -> bool
     s[i + 2] == 1
 }
 
+// The three bytes are a start code.
+fn is_code(a: u8, b: u8, c: u8) -> bool
+    ensures { λ r. ⌜ r ≡ startCode3 a b c ⌝ }
+{
+    if a != 0 {
+        return false;
+    }
+    if b != 0 {
+        return false;
+    }
+    c == 1
+}
+
+// A start code stands at i, where three bytes are.
+fn is_code_at(s: &[u8], i: usize) -> bool
+    requires { ⌜ i + 2 < length (now s) ⌝ }
+    ensures { λ r. ⌜ r ≡ atStartCode (drop i (now (s .entry))) ⌝ }
+{
+    is_code(s[i], s[i + 1], s[i + 2])
+}
+
+// At how many places of the block at i a start code stands. The loop has a fixed count and one way out, so that it is
+// compiled to look at many bytes at a time.
+fn codes(s: &[u8], i: usize) -> u8
+    requires { ⌜ i + block + 2 ≤ length (now s) ⌝ }
+    ensures { λ r. ⌜ r ≡ hits atStartCode block (drop i (now (s .entry))) ⌝ }
+{
+    let mut count: u8 = 0;
+    let mut j: usize = 0;
+    while j < BLOCK {
+        let place = i + j;
+        j += 1;
+        if is_code_at(s, place) {
+            count += 1;
+        }
+    }
+    count
+}
+
+// A start code stands at a place of the block at i, or two bytes do not come after it.
+fn coded(s: &[u8], i: usize) -> bool
+    requires { ⌜ i ≤ length (now s) ⌝ }
+    ensures { λ r. ⌜ r ≡ Parts·coded (drop i (now (s .entry))) ⌝ }
+{
+    if s.len() - i < BLOCK + 2 {
+        return true;
+    }
+    codes(s, i) != 0
+}
+
+// Passes over the blocks from `from` on in which no start code stands.
+fn pass_blocks(s: &[u8], from: usize) -> usize
+    requires { ⌜ from ≤ length (now s) ⌝ }
+    ensures { λ r. ⌜ (r ≤ length (now (s .entry))) × (codeFrom (now (s .entry)) r ≡ codeFrom (now (s .entry)) from) ⌝ }
+{
+    let mut i = from;
+    while !coded(s, i) {
+        i += BLOCK;
+    }
+    i
+}
+
 // Where the first start code from `from` on stands, or the length; behind the end, `from` itself.
 pub fn find(s: &[u8], from: usize) -> usize
     ensures { λ r. ⌜ r ≡ codeFrom (now (s .entry)) from ⌝ }
 {
-    let mut i = from;
+    if s.len() <= from {
+        return from;
+    }
+    let mut i = pass_blocks(s, from);
     while i < s.len() {
         if code_at(s, i) {
             return i;
@@ -33,6 +112,49 @@ pub fn find(s: &[u8], from: usize) -> usize
         i += 1;
     }
     i
+}
+
+// The payload from a place on, in one pass: a start code is a forbidden sequence, too, and of zeros before one the last
+// two belong to none in the payload.
+pub(crate) fn scan(unit: &[u8], start: usize) -> Scanned
+    ensures { λ r. ⌜ ScannedAt (now (unit .entry)) start r ⌝ }
+{
+    let reached = first_forbidden(unit, start);
+    let place = reached.place;
+    let dropped = reached.count;
+    if unit.len() <= place {
+        return Scanned {
+            end: place,
+            legal: true,
+            dropped,
+        };
+    }
+    if code_at(unit, place) {
+        return Scanned {
+            end: place,
+            legal: true,
+            dropped,
+        };
+    }
+    if code_at(unit, place + 1) {
+        return Scanned {
+            end: place + 1,
+            legal: true,
+            dropped,
+        };
+    }
+    if code_at(unit, place + 2) {
+        return Scanned {
+            end: place + 2,
+            legal: true,
+            dropped,
+        };
+    }
+    Scanned {
+        end: find(unit, place),
+        legal: false,
+        dropped: 0,
+    }
 }
 
 // A start code stands at the head.

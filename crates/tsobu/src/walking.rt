@@ -7,9 +7,7 @@ ghost use Rattle.tsobu.specs.StartCodes.{atStartCode};
 ghost use Rattle.tsobu.specs.Walk.{starting, startedSays, obuIndex, payloadStep, atEnd, stepping};
 ghost use Rattle.tsobu.specs.Walk.{goesTo, placeAfter, handedOut, stepSays};
 use crate::codes::code_at;
-use crate::codes::find;
-use emulation::Judged;
-use emulation::judge;
+use crate::codes::scan;
 use lists::part;
 use refusal::Refusal;
 use refusal::Refused;
@@ -85,14 +83,14 @@ fn payload_step(unit: &[u8], at: usize) -> Step
     ensures { λ r. ⌜ stepSays r ≡ payloadStep (now (unit .entry)) at ⌝ }
 {
     let start = at + 3;
-    let next = find(unit, start);
+    let scanned = scan(unit, start);
+    let next = scanned.end;
     if next == start {
         return refused(unit, at, Refusal::EMPTY_OBU);
     }
-    let judged = judge(&unit[start..next]);
-    let Judged::Legal(_) = judged else {
+    if !scanned.legal {
         return refused(unit, at, Refusal::ILLEGAL_PAYLOAD);
-    };
+    }
     Step::Payload(Part {
         start,
         bytes: next - start,

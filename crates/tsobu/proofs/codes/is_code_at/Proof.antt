@@ -1,0 +1,39 @@
+-- The bytes from i on, which `is_code` tests.
+use borrow.Author.Needs.{needs}
+use mathlib.Core.Path.{sym, _∙_}
+use Rattle.tsobu.proofs.Places.{code-at}
+use Rattle.tsobu.proofs.codes.is_code_at.Statement.{statement}
+use Rattle.tsobu.proofs.codes.is_code_at.Tie as tie
+
+shared-slice-read-is-code : tie.Need-shared-slice-read-is-code
+shared-slice-read-is-code c = search needs
+
+add-is-code : tie.Need-add-is-code
+add-is-code c = search needs
+
+shared-slice-read-is-code-2 : tie.Need-shared-slice-read-is-code-2
+shared-slice-read-is-code-2 c = search needs
+
+add-is-code-2 : tie.Need-add-is-code-2
+add-is-code-2 c = search needs
+
+shared-slice-read-is-code-3 : tie.Need-shared-slice-read-is-code-3
+shared-slice-read-is-code-3 c = search needs
+
+is-code-requires : tie.Need-is-code-requires
+is-code-requires c κs = search needs
+
+returns : tie.Need-returns
+returns c = c .is-code .ensures ∙ sym (code-at (c .before .before .before .before .before .args .s .now) (c .before .before .before .before .before .args .i) (c .before .before .before .before .before .pre))
+
+pub is-code-at-spec : {M : Type 1} → statement M
+is-code-at-spec =
+    tie.close
+    (tie.spec
+    shared-slice-read-is-code
+    add-is-code
+    shared-slice-read-is-code-2
+    add-is-code-2
+    shared-slice-read-is-code-3
+    is-code-requires
+    returns)
