@@ -8,9 +8,10 @@ use borrow.Author.Tests.{lt-ltb, le-ltb, ltb-false}
 use lib.Dec.{ltb}
 use lib.ListN.{length, take, length-map}
 use Rattle.lists.specs.Lists.{Bytes}
-use Rattle.lists.proofs.Tests.{or-neither}
+use Rattle.lists.proofs.Tests.{case, or-neither}
 use Rattle.refusal.specs.Verdict.{Verdict, passed, refused, _>>=_, _>>_, given, inTurn}
 use Rattle.refusal.proofs.Verdicts.{refuse, pass-on, follows, stops, then-bind, then-refused, never, passed-after, passed-same, passed-then}
+use Rattle.refusal.proofs.Verdicts.{given-passed}
 use Rattle.emulation.specs.Payload.{unescape}
 use Rattle.obu.specs.Header.{sizeWidth}
 use Rattle.obu.specs.Order.{Kind, kindOf, kindOfNumber, orderRefusal}
@@ -18,10 +19,9 @@ use Rattle.unit.specs.Unit.{mostCarried, mostObus, mostObuBytes, obusIn,
 use Rattle.tsobu.specs.StartCodes.{atStartCode, payloads}
 use Rattle.tsobu.specs.TsObu.{tsobuRefusal}
 use Rattle.unit.specs.Unit.{droppedIn}
-use Rattle.unit.specs.Answer.{checking, reading, tooShort, readingWidths, readSays}
-use Rattle.unit.specs.Parts.{kindIn, endsFrom, payloadCounts, wholeCounts, JudgedUnit}
+use Rattle.unit.specs.Answer.{checking, reading, tooShort, readingWidths}
+use Rattle.unit.specs.Parts.{kindIn, endsFrom, payloadCounts, countedPayloads, wholeCounts, Notes}
 use Rattle.unit.specs.declared.reading.Counts.{Counts}
-use Rattle.unit.specs.declared.reading.UnitRead.{UnitRead}
 use Rattle.unit.proofs.Acceptance.{reads}
 use Rattle.unit.proofs.Lengths.{sum-lengths}
 
@@ -112,26 +112,38 @@ pub counts-obus : (s : Bytes) (c : Counts) → passed c ≡ payloadCounts s → 
 unfolding payloadCounts
 counts-obus s c k = ap (λ (x : Counts). x .obus) (sym (passed-same _ c (passed-after (inTurn tsobuRefusal 0 (payloads s)) _ c (sym k) .1)))
 
--- ---- the answer with the ends and the widths
+-- ---- 1, and the payloads
+module _ (s : Bytes) where
+  pub counted-refused : length s ≤ mostCarried → atStartCode s ≡ true → (number place : ℕ) → refused number place ≡ countedPayloads s
+      → refused number place ≡ checking s
+  unfolding countedPayloads
+  counted-refused h e number place k =
+      case (ltb mostObus (length (payloads s)))
+      (λ t. k ∙ sym (refuse 1 (payloadCounts s) t) ∙ check-many s h e (sym t))
+      (λ t. check-refused s h e (sym t) number place (k ∙ sym (pass-on 1 t refl)))
+
+  pub counted-passed : (c : Counts) → passed c ≡ countedPayloads s
+      → (false ≡ ltb mostObus (length (payloads s))) × (passed c ≡ payloadCounts s)
+  unfolding countedPayloads
+  counted-passed c k =
+      let p = passed-after (given 1 (ltb mostObus (length (payloads s)))) (payloadCounts s) c (sym k) in
+      (sym (given-passed 1 (ltb mostObus (length (payloads s))) (p .0)), sym (p .1))
+
+-- ---- the answer, and what is noted
 whole-counts : (c : Counts) (numbers : List ℕ) (d : Counts) → wholeCounts c numbers ≡ passed d → d ≡ c
 unfolding wholeCounts
 whole-counts c numbers d e = sym (passed-same c d (passed-after _ _ d (passed-after _ _ d e .1) .1))
 
-pub answer-refused : (s : Bytes) (r : UnitRead) (ends widths : List ℕ) (number place : ℕ) → readSays r ≡ refused number place
-    → refused number place ≡ checking s
-    → JudgedUnit s (record { answer = r; ends = ends; widths = widths })
-answer-refused s r ends widths number place e k =
-    record { answer = e ∙ k; ends = λ c p. never (k ∙ p); widths = λ c p. never (k ∙ p) }
+pub refused-notes : (s : Bytes) (ends widths : List ℕ) (number place : ℕ) → refused number place ≡ checking s → Notes s ends widths
+refused-notes s ends widths number place k = record { ends = λ c p. never (k ∙ p); widths = λ c p. never (k ∙ p) }
 
-pub answer-whole : (s : Bytes) (r : UnitRead) (c : Counts) (at widths numbers : List ℕ) → readSays r ≡ wholeCounts c numbers
-    → wholeCounts c numbers ≡ checking s → c .obus ≡ length (payloads s)
+pub whole-notes : (s : Bytes) (c : Counts) (at widths numbers : List ℕ) → wholeCounts c numbers ≡ checking s → c .obus ≡ length (payloads s)
     → take (length (payloads s)) at ≡ endsFrom 0 (payloads s) → take (length (payloads s)) widths ≡ map sizeWidth (obusIn s)
-    → JudgedUnit s (record { answer = r; ends = at; widths = widths })
-answer-whole s r c at widths numbers e k n a w =
+    → Notes s at widths
+whole-notes s c at widths numbers k n a w =
     let obus : (d : Counts) → checking s ≡ passed d → d .obus ≡ length (payloads s) =
     λ d p. ap (λ (x : Counts). x .obus) (whole-counts c numbers d (k ∙ p)) ∙ n in
     record {
-      answer = e ∙ k;
       ends = λ d p. ap (λ (m : ℕ). take m at) (obus d p) ∙ a;
       widths = λ d p. ap (λ (m : ℕ). take m widths) (obus d p) ∙ w;
     }
@@ -142,6 +154,7 @@ pub record Checked (s : Bytes) (c : Counts) : Type 0 where
   pub obus : c .obus ≡ length (payloads s)
   pub few : c .obus ≤ 64
   pub bytes : c .bytes ≡ length (flatten (obusIn s))
+  pub drops : c .dropped ≡ droppedIn s
 
 pub checked : (s : Bytes) (c : Counts) → checking s ≡ passed c → Checked s c
 unfolding checking
@@ -156,6 +169,7 @@ checked s c e =
       obus = n;
       few = omega (arith, n, r .0 .most);
       bytes = sym (ap (λ (x : Counts). x .bytes) same) ∙ ap (λ (l : List Bytes). sum (map length l)) (sym (r .1)) ∙ sum-lengths (obusIn s);
+      drops = sym (ap (λ (x : Counts). x .dropped) same);
     }
 
 -- ---- reading, behind the verdict of checking

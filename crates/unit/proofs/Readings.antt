@@ -1,6 +1,6 @@
 -- Loops over the payloads of a unit: what is done, then the definition of the rest, is the definition of the whole. Assumes nothing.
 use Prim.Native.Nat.{ℕ, _+_, _-_, _≤_, _<_}
-use mathlib.Core.Bool.{true, false, true≢false}
+use mathlib.Core.Bool.{true}
 use mathlib.Core.Path.{_≡_, refl, sym, ap, subst, _∙_}
 use mathlib.Core.Logic.{inr}
 use mathlib.Core.List.{List, [], _∷_, _++_, map, flatten, append-nil}
@@ -17,7 +17,7 @@ use Rattle.lists.proofs.Writing.{Part, start, counted, room, put, put-all, done
 use Rattle.refusal.specs.declared.Refused.{Refused}
 use Rattle.refusal.specs.Verdict.{passed, refused, inTurn}
 use Rattle.refusal.specs.Number.{numberOf, refusedBy}
-use Rattle.refusal.proofs.Verdicts.{refuse, pass-on, follows, stops, never, then-refused, turn-passed, turn-refused}
+use Rattle.refusal.proofs.Verdicts.{refuse, pass-on, follows, stops, never, turn-passed, turn-refused}
 use Rattle.emulation.specs.Payload.{unescape, dropped}
 use Rattle.emulation.proofs.Steps.{given-or-dropped}
 use Rattle.obu.specs.Header.{sizeBytes, widthSaid, sizeWidth}
@@ -28,10 +28,9 @@ use Rattle.unit.specs.Unit.{mostObus, mostObuBytes, obusIn, sum, dropped
 use Rattle.tsobu.specs.StartCodes.{atStartCode, payloads}
 use Rattle.tsobu.specs.TsObu.{tsobuRefusal}
 use Rattle.unit.specs.Answer.{readSays}
-use Rattle.unit.specs.Parts.{kindIn, endsFrom, EndsOf, payloadCounts, Judges, wholeCounts}
+use Rattle.unit.specs.Parts.{kindIn, endsFrom, payloadCounts, countedPayloads, Judges, wholeCounts}
 use Rattle.unit.specs.declared.reading.Counts.{Counts}
 use Rattle.unit.specs.declared.reading.UnitRead.the-variants as read
-use Rattle.unit.specs.declared.reading.Ends.{Ends}
 use Rattle.unit.specs.declared.reading.Payloads.{Payloads}
 use Rattle.tsobu.specs.declared.judging.Figures.{Figures}
 use Rattle.tsobu.proofs.TsObus.{Passes}
@@ -92,24 +91,14 @@ ending-step {s} {at} {count} {code} {next} j h k e =
           ∙ j .filled;
     })
 
-pub ending-past : {s : Bytes} {at : List ℕ} {count code : ℕ} → Ending s at count code → code < length s → mostObus ≤ count
-    → EndsOf s (record { more = true; count = count; at = at })
-ending-past {s} {at} {count} {code} j h k =
-    record {
-      more = sym (lt-ltb mostObus (length (payloads s)) (omega (arith, ending-more j h)));
-      count = λ e. absurd (true≢false e);
-      at = λ e. absurd (true≢false e);
-    }
+-- no payload is left
+ending-none : {s : Bytes} {at : List ℕ} {count code : ℕ} → Ending s at count code → length s ≤ code → count ≡ length (payloads s)
+ending-none {s} {at} {count} {code} j h = omega (arith, j .counted, ap length (payloads-end s code h))
 
-pub ending-done : {s : Bytes} {at : List ℕ} {count code : ℕ} → Ending s at count code → length s ≤ code
-    → EndsOf s (record { more = false; count = count; at = at })
-ending-done {s} {at} {count} {code} j h =
-    let n : count ≡ length (payloads s) = omega (arith, j .counted, ap length (payloads-end s code h)) in
-    record {
-      more = sym (le-ltb mostObus (length (payloads s)) (omega (arith, j .few)));
-      count = λ e. n;
-      at = λ e. sym (append-nil (take count at)) ∙ ap (λ (l : List ℕ). take count at ++ l) (sym (ends-end s code h)) ∙ j .filled;
-    }
+ending-noted : {s : Bytes} {at : List ℕ} {count code : ℕ} → Ending s at count code → length s ≤ code
+    → take count at ≡ endsFrom 0 (payloads s)
+ending-noted {s} {at} {count} {code} j h =
+    sym (append-nil (take count at)) ∙ ap (λ (l : List ℕ). take count at ++ l) (sym (ends-end s code h)) ∙ j .filled
 
 -- ---- one payload after the other: `k` of them stand before `code`, and their ends are known
 pub record Passing (s : Bytes) (at : List ℕ) (code k : ℕ) : Type 0 where
@@ -177,9 +166,10 @@ pub record Noted (f : Bytes → ℕ) (s : Bytes) (noted : List ℕ) (code k : �
 noted-start : (f : Bytes → ℕ) (s : Bytes) (noted : List ℕ) → length noted ≡ 64 → Noted f s noted 0 0
 noted-start f s noted l = record { long = l; front = refl }
 
-noted-step : (f : Bytes → ℕ) (s : Bytes) {at noted : List ℕ} {code k : ℕ} → Noted f s noted code k → Passing s at code k
-    → k < length (payloads s) → k < 64 → (n : ℕ) → n ≡ f (payloadAt s code) → Noted f s (set noted k n) (nextCode s code) (k + 1)
-noted-step f s {at} {noted} {code} {k} j p h small n e =
+noted-step : (f : Bytes → ℕ) (s : Bytes) {noted : List ℕ} {code k : ℕ} → Noted f s noted code k
+    → payloads (drop code s) ≡ payloadAt s code ∷ payloads (drop (nextCode s code) s) → k < 64 → (n : ℕ) → n ≡ f (payloadAt s code)
+    → Noted f s (set noted k n) (nextCode s code) (k + 1)
+noted-step f s {noted} {code} {k} j p small n e =
     let rest = payloads (drop (nextCode s code) s) in
     record {
       long = length-set noted k n ∙ j .long;
@@ -188,7 +178,7 @@ noted-step f s {at} {noted} {code} {k} j p h small n e =
           (ap (λ (m : ℕ). take m (set noted k n)) (add-one k) ∙ take-suc-set noted k n (omega (arith, j .long)))
           ∙ append-snoc (take k noted) n (map f rest)
           ∙ ap (λ (t : ℕ). take k noted ++ (t ∷ map f rest)) e
-          ∙ ap (λ (l : List Bytes). take k noted ++ map f l) (sym (passing-payloads p h))
+          ∙ ap (λ (l : List Bytes). take k noted ++ map f l) (sym p)
           ∙ j .front;
     }
 
@@ -208,7 +198,7 @@ widths-in [] = refl
 widths-in (p ∷ ps) = ap (λ (l : List ℕ). widthIn p ∷ l) (widths-in ps)
 
 pub record Judging (s : Bytes) (at kinds widths : List ℕ) (bytes drops code k : ℕ) : Type 0 where
-  pub passing : Passing s at code k
+  pub ending : Ending s at k code
   pub small : bytes + drops ≤ code
   pub passed-so-far : inTurn tsobuRefusal 0 (payloads s) ≡ inTurn tsobuRefusal k (payloads (drop code s))
   pub sum-bytes : bytes + sum (map length (map unescape (payloads (drop code s)))) ≡ sum (map length (obusIn s))
@@ -216,35 +206,44 @@ pub record Judging (s : Bytes) (at kinds widths : List ℕ) (bytes drops code k 
   pub kinds-noted : Noted kindIn s kinds code k
   pub widths-noted : Noted widthIn s widths code k
 
-pub judging-start : (s : Bytes) (e : Ends) (kinds widths : List ℕ) → length kinds ≡ 64 → length widths ≡ 64 → atStartCode s ≡ true
-    → EndsOf s e → e .more ≡ false → Judging s (e .at) kinds widths 0 0 0 0
-judging-start s e kinds widths l m c o n =
+pub judging-start : (s : Bytes) (at kinds widths : List ℕ) → length at ≡ 64 → length kinds ≡ 64 → length widths ≡ 64 → atStartCode s ≡ true
+    → Judging s at kinds widths 0 0 0 0
+judging-start s at kinds widths l m n c =
     record {
-      passing = passing-start s (e .at) c (ap (λ (x : ℕ). take x (e .at)) (sym (o .count n)) ∙ o .at n);
+      ending = ending-start s at l c;
       small = omega arith;
       passed-so-far = refl;
       sum-bytes = omega arith;
       sum-dropped = omega arith;
-      kinds-noted = noted-start kindIn s kinds l;
-      widths-noted = noted-start widthIn s widths m;
+      kinds-noted = noted-start kindIn s kinds m;
+      widths-noted = noted-start widthIn s widths n;
     }
 
+-- there are more than 64
+pub counted-many : (s : Bytes) → mostObus < length (payloads s) → refused 1 0 ≡ countedPayloads s
+unfolding countedPayloads
+counted-many s h = refuse 1 _ (lt-ltb mostObus (length (payloads s)) h)
+
+-- a payload is left
 module _ {s : Bytes} {at kinds widths : List ℕ} {bytes drops code k : ℕ} (j : Judging s at kinds widths bytes drops code k)
-    (h : k < length (payloads s)) where
+    (h : code < length s) where
+  left-payloads : payloads (drop code s) ≡ payloadAt s code ∷ payloads (drop (nextCode s code) s)
+  left-payloads = payloads-from s code (ending-code (j .ending) h)
+
   pub judging-step : (f : Figures) → Passes (payloadAt s code) f → k < 64
       → (kind width : ℕ) → kind ≡ kindNumber (f .header) → width ≡ sizeBytes (f .header .size)
-      → Judging s at (set kinds k kind) (set widths k width) (bytes + (nextCode s code - (code + 3) - f .dropped)) (drops + f .dropped)
-      (nextCode s code) (k + 1)
+      → Judging s (set at k (nextCode s code)) (set kinds k kind) (set widths k width)
+      (bytes + (nextCode s code - (code + 3) - f .dropped)) (drops + f .dropped) (nextCode s code) (k + 1)
   unfolding sum endsFrom
   judging-step f p few kind width e g =
-      let q = passing-payloads (j .passing) h in
+      let q = left-payloads in
       let pay = payloadAt s code in
       let rest = payloads (drop (nextCode s code) s) in
       let dr : f .dropped ≡ dropped pay = p .dropped-is in
       let len = payload-length s code in
       let both = given-or-dropped pay in
       record {
-        passing = passing-step (j .passing) h;
+        ending = ending-step (j .ending) h few refl;
         small = omega (arith, j .small);
         passed-so-far =
             j .passed-so-far ∙ ap (inTurn tsobuRefusal k) q ∙ turn-passed tsobuRefusal k pay rest (p .tries)
@@ -252,48 +251,81 @@ module _ {s : Bytes} {at kinds widths : List ℕ} {bytes drops code k : ℕ} (j 
         sum-bytes =
             omega (arith, j .sum-bytes, ap (λ (l : List Bytes). sum (map length (map unescape l))) q);
         sum-dropped = omega (arith, j .sum-dropped, ap (λ (l : List Bytes). sum (map dropped l)) q);
-        kinds-noted = noted-step kindIn s (j .kinds-noted) (j .passing) h few kind (e ∙ sym (ap numberSaid (p .header)));
-        widths-noted = noted-step widthIn s (j .widths-noted) (j .passing) h few width (g ∙ sym (ap widthSaid (p .header)));
+        kinds-noted = noted-step kindIn s (j .kinds-noted) q few kind (e ∙ sym (ap numberSaid (p .header)));
+        widths-noted = noted-step widthIn s (j .widths-noted) q few width (g ∙ sym (ap widthSaid (p .header)));
       }
 
-  -- the first payload that is left is refused
-  pub judging-refused : (r : Refused) → tsobuRefusal (payloadAt s code) ≡ refusedBy r → refused (numberOf (r .why)) k ≡ payloadCounts s
-  unfolding payloadCounts
-  judging-refused r e =
+  -- how many there are: those that passed, this one, and those behind it
+  pub judging-count : k + 1 + length (payloads (drop (nextCode s code) s)) ≡ length (payloads s)
+  judging-count = omega (arith, j .ending .counted, ap length left-payloads)
+
+  -- it is one too many
+  pub judging-past : mostObus ≤ k → refused 1 0 ≡ countedPayloads s
+  judging-past m = counted-many s (omega (arith, judging-count))
+
+  -- it is refused
+  pub judging-refused : (r : Refused) → tsobuRefusal (payloadAt s code) ≡ refusedBy r → length (payloads s) ≤ mostObus
+      → refused (numberOf (r .why)) k ≡ countedPayloads s
+  unfolding countedPayloads payloadCounts
+  judging-refused r e m =
       let t : inTurn tsobuRefusal 0 (payloads s) ≡ refused (numberOf (r .why)) k =
-      j .passed-so-far ∙ ap (inTurn tsobuRefusal k) (passing-payloads (j .passing) h)
+      j .passed-so-far ∙ ap (inTurn tsobuRefusal k) left-payloads
       ∙ turn-refused tsobuRefusal k (payloadAt s code) (payloads (drop (nextCode s code) s)) (numberOf (r .why)) (r .place) e in
-      stops _ t
+      pass-on 1 (le-ltb mostObus (length (payloads s)) m) (stops _ t)
 
 -- all passed
-module _ {s : Bytes} {at kinds widths : List ℕ} {bytes drops code k : ℕ} (j : Judging s at kinds widths bytes drops code k)
-    (h : length (payloads s) ≤ k) where
-  pub judging-done : (count : ℕ) → count ≡ length (payloads s)
-      → Judges s (record {
-        found = read.Obus (record { obus = count; bytes = bytes; dropped = drops });
-        kinds = kinds;
-        widths = widths;
-      })
-  unfolding payloadCounts sum inTurn
-  judging-done count n =
-      let z = passing-none (j .passing) h in
-      let m : length (payloads s) ≡ k = omega (arith, j .passing .counted, ap length z) in
-      let b : bytes ≡ sum (map length (obusIn s)) =
-      omega (arith, j .sum-bytes, ap (λ (l : List Bytes). sum (map length (map unescape l))) z) in
-      let d : drops ≡ droppedIn s = omega (arith, j .sum-dropped, ap (λ (l : List Bytes). sum (map dropped l)) z) in
-      record {
-        found = follows (j .passed-so-far ∙ ap (inTurn tsobuRefusal k) z) (λ i. passed (record { obus = n i; bytes = b i; dropped = d i }));
-        kinds = λ e. noted-done kindIn s (j .kinds-noted) z m;
-        widths = λ e. noted-done widthIn s (j .widths-noted) z m ∙ widths-in (payloads s);
-      }
+pub judging-done : {s : Bytes} {at kinds widths : List ℕ} {bytes drops code k : ℕ} → Judging s at kinds widths bytes drops code k
+    → length s ≤ code
+    → Judges s (record { found = read.Obus (record { obus = k; bytes = bytes; dropped = drops }); kinds = kinds }) at widths
+unfolding countedPayloads payloadCounts sum inTurn
+judging-done {s} {at} {kinds} {widths} {bytes} {drops} {code} {k} j h =
+    let z = payloads-end s code h in
+    let n : k ≡ length (payloads s) = ending-none (j .ending) h in
+    let b : bytes ≡ sum (map length (obusIn s)) =
+    omega (arith, j .sum-bytes, ap (λ (l : List Bytes). sum (map length (map unescape l))) z) in
+    let d : drops ≡ droppedIn s = omega (arith, j .sum-dropped, ap (λ (l : List Bytes). sum (map dropped l)) z) in
+    record {
+      found =
+          pass-on 1 (le-ltb mostObus (length (payloads s)) (omega (arith, j .ending .few)))
+          (follows (j .passed-so-far ∙ ap (inTurn tsobuRefusal k) z) (λ i. passed (record { obus = n i; bytes = b i; dropped = d i })));
+      kinds = λ c e. noted-done kindIn s (j .kinds-noted) z (sym n);
+      ends = λ c e. ap (λ (x : ℕ). take x at) (sym n) ∙ ending-noted (j .ending) h;
+      widths = λ c e. noted-done widthIn s (j .widths-noted) z (sym n) ∙ widths-in (payloads s);
+    }
 
--- where a payload was refused, nothing is asked of what was noted
-pub refused-judges : {s : Bytes} (p : Payloads) {number place : ℕ} → readSays (p .found) ≡ refused number place
-    → refused number place ≡ payloadCounts s → Judges s p
-unfolding payloadCounts
-refused-judges {s} p {number} {place} f e =
-    let r = then-refused (inTurn tsobuRefusal 0 (payloads s)) _ number place (sym e) in
-    record { found = f ∙ e; kinds = λ t. never (sym r ∙ t); widths = λ t. never (sym r ∙ t) }
+-- where something was refused, nothing is asked of what was noted
+pub refused-judges : {s : Bytes} (p : Payloads) (ends widths : List ℕ) {number place : ℕ} → readSays (p .found) ≡ refused number place
+    → refused number place ≡ countedPayloads s → Judges s p ends widths
+refused-judges p ends widths f e =
+    record { found = f ∙ e; kinds = λ c t. never (e ∙ t); ends = λ c t. never (e ∙ t); widths = λ c t. never (e ∙ t) }
+
+-- ---- payloads counted on
+pub record Counting (s : Bytes) (at before code count : ℕ) : Type 0 where
+  pub place : Place s code
+  pub within : code ≤ length s
+  pub counted : count + length (payloads (drop code s)) ≡ before + length (payloads (drop at s))
+
+pub counting-step : {s : Bytes} {at before code count : ℕ} → Counting s at before code count → code < length s
+    → Counting s at before (nextCode s code) (count + 1)
+counting-step {s} {at} {before} {code} {count} j h =
+    let c = place-code s code (j .place) h in
+    record {
+      place = next-place s code c;
+      within = next-fits s code c;
+      counted = omega (arith, j .counted, ap length (payloads-from s code c));
+    }
+
+pub counting-past : {s : Bytes} {at before code count : ℕ} → Counting s at before code count → code < length s → mostObus ≤ count
+    → true ≡ ltb mostObus (before + length (payloads (drop at s)))
+counting-past {s} {at} {before} {code} {count} j h m =
+    let one = ap length (payloads-from s code (place-code s code (j .place) h)) in
+    sym (lt-ltb mostObus (before + length (payloads (drop at s))) (omega (arith, j .counted, one)))
+
+pub counting-done : {s : Bytes} {at before code count : ℕ} → Counting s at before code count → length s ≤ code
+    → ltb mostObus count ≡ ltb mostObus (before + length (payloads (drop at s)))
+counting-done {s} {at} {before} {code} {count} j h =
+    let e : count ≡ before + length (payloads (drop at s)) = omega (arith, j .counted, ap length (payloads-end s code h)) in
+    ap (ltb mostObus) e
 
 -- ---- the payloads passed
 module _ (counts : Counts) (kinds : List ℕ) where
@@ -312,6 +344,12 @@ module _ (counts : Counts) (kinds : List ℕ) where
       → passed counts ≡ wholeCounts counts kinds
   unfolding wholeCounts
   whole-legal q h e k = pass-on 2 (le-ltb mostObuBytes (counts .bytes) h) (follows (sym e ∙ ap orderedSays k) refl)
+
+-- the bytes dropped of the payloads from a start code on
+pub dropped-left : (s : Bytes) (code : ℕ) → atStartCode (drop code s) ≡ true
+    → sum (map dropped (payloads (drop code s))) ≡ dropped (payloadAt s code) + sum (map dropped (payloads (drop (nextCode s code) s)))
+unfolding sum
+dropped-left s code e = ap (λ (l : List Bytes). sum (map dropped l)) (payloads-from s code e)
 
 -- ---- the OBUs of a unit, copied in turn: `k` of them are in `out`, and their lengths in `lens`
 pub record Copying (s : Bytes) (ends out₀ lens₀ out lens : List ℕ) (code n k : ℕ) : Type 0 where

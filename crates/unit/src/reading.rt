@@ -1,21 +1,25 @@
 // Reading and checking a carried unit.
 ghost use mathlib.Core.Path.{_≡_};
-ghost use mathlib.Core.Bool.{true, false};
+ghost use mathlib.Core.Bool.{true};
 ghost use mathlib.Core.List.{map, flatten};
 ghost use Rattle.lists.specs.Lists.{over};
-ghost use Prim.Native.Nat.{_≤_};
-ghost use lib.ListN.{length, take};
+ghost use Prim.Native.Nat.{_+_, _≤_};
+ghost use lib.Dec.{ltb};
+ghost use lib.ListN.{length, take, drop};
 ghost use Rattle.refusal.specs.Verdict.{refused, leaves};
 ghost use Rattle.refusal.specs.Number.{numberOf};
+ghost use Rattle.emulation.specs.Payload.{unescape};
+ghost use Rattle.emulation.specs.Payload.{dropped as Payload·dropped};
 ghost use Rattle.obu.specs.Header.{sizeWidth};
 ghost use Rattle.tsobu.specs.StartCodes.{atStartCode, payloads};
-ghost use Rattle.unit.specs.Unit.{obusIn};
+ghost use Rattle.unit.specs.Unit.{mostObus, obusIn, droppedIn};
 ghost use Rattle.unit.specs.Answer.{checking, tooShort, readingWidths, readSays};
-ghost use Rattle.unit.specs.Parts.{EndsOf, Judges, wholeCounts, JudgedUnit, endsFrom};
+ghost use Rattle.unit.specs.Parts.{Place, Judges, wholeCounts, Notes, endsFrom};
 use crate::limits::MOST_CARRIED;
 use crate::limits::MOST_OBU_BYTES;
 use crate::limits::MOST_OBUS;
 use emulation::unescape_prefix;
+use lists::copy;
 use obu::kind_number;
 use obu::size_bytes;
 use refusal::Refusal;
@@ -23,7 +27,7 @@ use refusal::Refused;
 use tsobu::TsObu;
 use tsobu::at_start_code;
 use tsobu::find;
-use tsobu::judge_payload;
+use tsobu::judge_from;
 
 // A unit's OBUs, their bytes together, and the bytes dropped in all.
 pub struct Counts {
@@ -37,52 +41,10 @@ pub enum UnitRead {
     Refused(Refused),
 }
 
-// Where the payloads of a unit end, of at most 64; more says that there are more.
-struct Ends {
-    more: bool,
-    count: usize,
-    at: [usize; 64],
-}
-
-// What the payloads of a unit were found to be, with the numbers of the OBUs' kinds and the widths of their sizes.
+// What the payloads of a unit were found to be, with the numbers of the OBUs' kinds.
 struct Payloads {
     found: UnitRead,
     kinds: [u8; 64],
-    widths: [usize; 64],
-}
-
-// A unit's answer, with the places where its payloads end and the widths of the OBUs' sizes.
-struct Judged {
-    answer: UnitRead,
-    ends: [usize; 64],
-    widths: [usize; 64],
-}
-
-// Where the payloads of a unit end.
-fn payload_ends(unit: &[u8]) -> Ends
-    requires { ⌜ atStartCode (now unit) ≡ true ⌝ }
-    ensures { λ r. ⌜ EndsOf (now (unit .entry)) r ⌝ }
-{
-    let mut at = [0usize; 64];
-    let mut count: usize = 0;
-    let mut code: usize = 0;
-    while code < unit.len() {
-        if MOST_OBUS <= count {
-            return Ends {
-                more: true,
-                count,
-                at,
-            };
-        }
-        code = find(unit, code + 3);
-        at[count] = code;
-        count += 1;
-    }
-    Ends {
-        more: false,
-        count,
-        at,
-    }
 }
 
 // The refusal of the payload with this index.
@@ -92,41 +54,63 @@ fn stopped(why: Refusal, index: usize) -> Payloads
     Payloads {
         found: UnitRead::Refused(Refused { why, place: index }),
         kinds: [0u8; 64],
-        widths: [0usize; 64],
     }
 }
 
-// Each payload in turn: 3, 10, 4, 5, 6, 42.
-fn judge_payloads(unit: &[u8], ends: Ends) -> Payloads
-    requires { ⌜ (atStartCode (now unit) ≡ true) × EndsOf (now unit) ends × (ends .more ≡ false) ⌝ }
-    ensures { λ r. ⌜ Judges (now (unit .entry)) r ⌝ }
+// There are more than 64 payloads, where so many stand before this place, at which a start code stands or the unit
+// ends.
+fn too_many(unit: &[u8], at: usize, before: usize) -> bool
+    requires { ⌜ (at ≤ length (now unit)) × Place (now unit) at ⌝ }
+    ensures { λ r. ⌜ r ≡ ltb mostObus (before + length (payloads (drop at (now (unit .entry))))) ⌝ }
 {
-    let count = ends.count;
-    let at = ends.at;
+    let mut count = before;
+    let mut code = at;
+    while code < unit.len() {
+        if MOST_OBUS <= count {
+            return true;
+        }
+        code = find(unit, code + 3);
+        count += 1;
+    }
+    MOST_OBUS < count
+}
+
+// The payloads in turn, where each ends, and the width of its OBU's size: 1; 3, 10, 4, 5, 6, 42.
+fn judge_payloads(unit: &[u8], ends: &mut [usize; 64], widths: &mut [usize; 64]) -> Payloads
+    requires { ⌜ (atStartCode (now unit) ≡ true) × (length (now ends) ≡ 64) × (length (now widths) ≡ 64) ⌝ }
+    ensures { λ r. ⌜ Judges (now (unit .entry)) r (now (ends .exit)) (now (widths .exit)) ⌝ }
+{
     let mut kinds = [0u8; 64];
-    let mut widths = [0usize; 64];
     let mut bytes: usize = 0;
     let mut dropped: usize = 0;
     let mut code: usize = 0;
-    let mut k: usize = 0;
-    while k < count {
+    let mut count: usize = 0;
+    while code < unit.len() {
+        if MOST_OBUS <= count {
+            return stopped(Refusal::OBU_COUNT, 0);
+        }
         let start = code + 3;
-        let end = at[k];
-        let judged = judge_payload(&unit[start..end]);
+        let found = judge_from(unit, start);
+        let end = found.end;
+        let judged = found.tsobu;
         match judged {
             TsObu::Refused(refused) => {
+                if too_many(unit, end, count + 1) {
+                    return stopped(Refusal::OBU_COUNT, 0);
+                }
                 let why = refused.why;
-                return stopped(why, k);
+                return stopped(why, count);
             }
             TsObu::Passed(figures) => {
                 let header = figures.header;
                 let size = header.size;
-                kinds[k] = kind_number(header);
-                widths[k] = size_bytes(size);
+                kinds[count] = kind_number(header);
+                widths[count] = size_bytes(size);
+                ends[count] = end;
                 bytes += end - start - figures.dropped;
                 dropped += figures.dropped;
                 code = end;
-                k += 1;
+                count += 1;
             }
         }
     }
@@ -135,11 +119,7 @@ fn judge_payloads(unit: &[u8], ends: Ends) -> Payloads
         bytes,
         dropped,
     });
-    Payloads {
-        found,
-        kinds,
-        widths,
-    }
+    Payloads { found, kinds }
 }
 
 fn refusal(why: Refusal) -> UnitRead
@@ -166,68 +146,61 @@ fn judge_whole(counts: Counts, kinds: [u8; 64]) -> UnitRead
 
 // The verdict on a unit, where its payloads end, and the widths of its OBUs' sizes: 2 for the carried length; 9; 1;
 // each payload; 2 for the OBUs' sum; 7.
-fn judge_unit(unit: &[u8]) -> Judged
-    ensures { λ r. ⌜ JudgedUnit (now (unit .entry)) r ⌝ }
+fn judge_unit(unit: &[u8], ends: &mut [usize; 64], widths: &mut [usize; 64]) -> UnitRead
+    requires { ⌜ (length (now ends) ≡ 64) × (length (now widths) ≡ 64) ⌝ }
+    ensures { λ r. ⌜ readSays r ≡ checking (now (unit .entry)) ⌝ }
+    ensures { λ r. ⌜ Notes (now (unit .entry)) (now (ends .exit)) (now (widths .exit)) ⌝ }
 {
-    let none = [0usize; 64];
     if MOST_CARRIED < unit.len() {
-        let answer = refusal(Refusal::LENGTH);
-        return Judged {
-            answer,
-            ends: none,
-            widths: none,
-        };
+        return refusal(Refusal::LENGTH);
     }
     if !at_start_code(unit) {
-        let answer = refusal(Refusal::NO_START_CODE);
-        return Judged {
-            answer,
-            ends: none,
-            widths: none,
-        };
+        return refusal(Refusal::NO_START_CODE);
     }
-    let ends = payload_ends(unit);
-    let at = ends.at;
-    if ends.more {
-        let answer = refusal(Refusal::OBU_COUNT);
-        return Judged {
-            answer,
-            ends: none,
-            widths: none,
-        };
-    }
-    let payloads = judge_payloads(unit, ends);
+    let payloads = judge_payloads(unit, ends, widths);
     let found = payloads.found;
     let UnitRead::Obus(counts) = found else {
-        return Judged {
-            answer: found,
-            ends: none,
-            widths: none,
-        };
+        return found;
     };
     let kinds = payloads.kinds;
-    let widths = payloads.widths;
-    let answer = judge_whole(counts, kinds);
-    Judged {
-        answer,
-        ends: at,
-        widths, // of the sizes
-    }
+    judge_whole(counts, kinds)
 }
 
 // The figures of a unit that reading accepts, or the refusal.
 pub fn check(unit: &[u8]) -> UnitRead
     ensures { λ r. ⌜ readSays r ≡ checking (now (unit .entry)) ⌝ }
 {
-    let judged = judge_unit(unit);
-    judged.answer
+    let mut ends = [0usize; 64];
+    let mut widths = [0usize; 64];
+    judge_unit(unit, &mut ends, &mut widths)
 }
 
-// The OBUs of a unit whose payloads end there, back to back over the front of out, and their lengths over the front of
-// lens.
-fn copy_obus(unit: &[u8], count: usize, ends: [usize; 64], out: &mut [u8], lens: &mut [usize])
+// The OBU of a payload over the front of out, where nothing is dropped of it if `dropped` is 0; answers its length.
+fn copy_obu(payload: &[u8], dropped: usize, out: &mut [u8]) -> usize
+    requires { ⌜ (dropped ≡ 0 → Payload·dropped (now payload) ≡ 0)
+        × (length (unescape (now payload)) ≤ length (now out)) ⌝ }
+    ensures { λ r. ⌜ r ≡ length (unescape (now (payload .entry))) ⌝ }
+    ensures { λ r. ⌜ now (out .exit) ≡ over (unescape (now (payload .entry))) (now (out .entry)) ⌝ }
+{
+    if dropped == 0 {
+        copy(payload, out);
+        return payload.len();
+    }
+    unescape_prefix(payload, out)
+}
+
+// The OBUs of a unit whose payloads end there and drop so many bytes in all, back to back over the front of out, and
+// their lengths over the front of lens.
+fn copy_obus(
+    unit: &[u8],
+    count: usize,
+    dropped: usize,
+    ends: &[usize; 64],
+    out: &mut [u8],
+    lens: &mut [usize],
+)
     requires { ⌜ (atStartCode (now unit) ≡ true) × (count ≡ length (payloads (now unit))) × (count ≤ 64)
-        × (take count ends ≡ endsFrom 0 (payloads (now unit))) ⌝ }
+        × (take count (now ends) ≡ endsFrom 0 (payloads (now unit))) × (dropped ≡ droppedIn (now unit)) ⌝ }
     requires { ⌜ (length (flatten (obusIn (now unit))) ≤ length (now out)) × (count ≤ length (now lens)) ⌝ }
     ensures { λ _. ⌜ now (out .exit) ≡ over (flatten (obusIn (now (unit .entry)))) (now (out .entry)) ⌝ }
     ensures { λ _. ⌜ now (lens .exit) ≡ over (map length (obusIn (now (unit .entry)))) (now (lens .entry)) ⌝ }
@@ -238,7 +211,7 @@ fn copy_obus(unit: &[u8], count: usize, ends: [usize; 64], out: &mut [u8], lens:
     while k < count {
         let start = code + 3;
         let end = ends[k];
-        let written = unescape_prefix(&unit[start..end], &mut out[n..]);
+        let written = copy_obu(&unit[start..end], dropped, &mut out[n..]);
         lens[k] = written;
         n += written;
         code = end;
@@ -283,17 +256,16 @@ pub fn read(unit: &[u8], out: &mut [u8], lens: &mut [usize], widths: &mut [usize
     ensures { λ r. ⌜ now (widths .exit)
         ≡ leaves (readSays r) (map sizeWidth (obusIn (now (unit .entry)))) (now (widths .entry)) ⌝ }
 {
-    let judged = judge_unit(unit);
-    let answer = judged.answer;
+    let mut ends = [0usize; 64];
+    let mut found = [0usize; 64];
+    let answer = judge_unit(unit, &mut ends, &mut found);
     let UnitRead::Obus(counts) = answer else {
         return answer;
     };
     if no_room(counts, out.len(), lens.len(), widths.len()) {
         return refusal(Refusal::NO_ROOM);
     }
-    let ends = judged.ends;
-    copy_obus(unit, counts.obus, ends, out, lens);
-    let found = judged.widths;
+    copy_obus(unit, counts.obus, counts.dropped, &ends, out, lens);
     copy_widths(found, counts.obus, widths);
     UnitRead::Obus(counts)
 }

@@ -1,15 +1,14 @@
 -- The tries in their order: each answer is a refusal of checking, or what `judge_whole` says of payloads that passed.
 use borrow.Author.Needs.{needs}
 use native.Mathlib.Omega.{arith}
-use Prim.Native.Nat.{ℕ}
 use mathlib.Core.Path.{sym, ap, _∙_}
 use borrow.Author.Tests.{ltb-false, not-true, not-false}
-use lib.ListN.{length, take}
+use lib.ListN.{length}
 use Rattle.unit.specs.Unit.{mostObus}
 use Rattle.tsobu.specs.StartCodes.{payloads}
 use Rattle.unit.specs.Answer.{readSays}
-use Rattle.unit.proofs.Checking.{counts-obus, check-long, check-headless, check-many, check-refused, counts-are, check-whole}
-use Rattle.unit.proofs.Checking.{answer-refused, answer-whole}
+use Rattle.unit.proofs.Checking.{counts-obus, check-long, check-headless, check-whole, counted-refused, counted-passed}
+use Rattle.unit.proofs.Checking.{refused-notes, whole-notes}
 use Rattle.unit.proofs.reading.judge_unit.Statement.{statement}
 use Rattle.unit.proofs.reading.judge_unit.Tie as tie
 
@@ -17,7 +16,9 @@ refusal-requires : tie.Need-refusal-requires
 refusal-requires c κs = search needs
 
 returns : tie.Need-returns
-returns c = answer-refused _ _ _ _ 2 0 (ap readSays (c .refusal .ensures)) (check-long _ (c .before .if1 .taken))
+returns c =
+    let k = check-long _ (c .before .if1 .taken) in
+    (ap readSays (c .refusal .ensures) ∙ k, refused-notes _ _ _ 2 0 k)
 
 at-start-code-requires : tie.Need-at-start-code-requires
 at-start-code-requires c κs = search needs
@@ -27,30 +28,12 @@ refusal-requires-2 c κs = search needs
 
 returns-2 : tie.Need-returns-2
 returns-2 c =
-    answer-refused _ _ _ _ 9 0 (ap readSays (c .refusal2 .ensures))
-    (check-headless _ (c .before .before .before .if1 .left)
-    (sym (c .before .before .at-start-code .ensures) ∙ not-true _ (c .before .if2 .taken)))
-
-payload-ends-requires : tie.Need-payload-ends-requires
-payload-ends-requires c κs = sym (c .before .at-start-code .ensures) ∙ not-false _ (c .if2 .left)
-
-refusal-requires-3 : tie.Need-refusal-requires-3
-refusal-requires-3 c κs = search needs
-
-returns-3 : tie.Need-returns-3
-returns-3 c =
-    answer-refused _ _ _ _ 1 0 (ap readSays (c .refusal3 .ensures))
-    (check-many _ (c .before .before .before .before .before .before .if1 .left)
-    (sym (c .before .before .before .before .before .at-start-code .ensures) ∙ not-false _ (c .before .before .before .before .if2 .left))
-    (sym (c .before .if3 .taken) ∙ c .before .before .before .payload-ends .ensures .more))
+    let k = check-headless _ (c .before .before .before .if1 .left) (sym (c .before .before .at-start-code .ensures) ∙ not-true _ (c .before .if2 .taken)) in
+    (ap readSays (c .refusal2 .ensures) ∙ k, refused-notes _ _ _ 9 0 k)
 
 judge-payloads-requires : tie.Need-judge-payloads-requires
-judge-payloads-requires c κs = (
-  sym (c .before .before .before .before .at-start-code .ensures)
-      ∙ not-false _ (c .before .before .before .if2 .left),
-  c .before .before .payload-ends .ensures,
-  c .if3 .left,
-)
+judge-payloads-requires c κs =
+    (sym (c .before .before .before .at-start-code .ensures) ∙ not-false _ (c .before .before .if2 .left), c .before .before .before .before .before .before .pre .0, c .before .before .before .before .before .before .pre .1)
 
 enum-known-found : tie.Need-enum-known-found
 enum-known-found c = search needs
@@ -58,47 +41,30 @@ enum-known-found c = search needs
 enum-told : tie.Need-enum-told
 enum-told c = search needs
 
-returns-4 : tie.Need-returns-4
-returns-4 c =
-    let k = ap readSays (c .enum-told .given .1) in
-    let ends = c .before .before .before .before .before .payload-ends .ensures in
-    answer-refused _ _ _ _ _ _ k
-    (check-refused _ (c .before .before .before .before .before .before .before .before .if1 .left)
-    (sym (c .before .before .before .before .before .before .before .at-start-code .ensures)
-    ∙ not-false _ (c .before .before .before .before .before .before .if2 .left))
-    (sym (c .before .before .before .if3 .left) ∙ ends .more) _ _ (sym k ∙ c .before .before .judge-payloads .ensures .found))
+returns-3 : tie.Need-returns-3
+returns-3 c =
+    let e = ap readSays (c .enum-told .given .1) in
+    let headed = sym (c .before .before .before .before .before .before .at-start-code .ensures) ∙ not-false _ (c .before .before .before .before .before .if2 .left) in
+    let k = counted-refused _ (c .before .before .before .before .before .before .before .if1 .left) headed _ _ (sym e ∙ c .before .before .judge-payloads .ensures .found) in
+    (e ∙ k, refused-notes _ _ _ _ _ k)
 
 judge-whole-requires : tie.Need-judge-whole-requires
 judge-whole-requires c κs =
-    let s = c .before .before .before .before .before .before .before .before .before .before .before .before .before .args .unit .now in
-    let k = ap readSays (c .before .before .before .found .given .1) in
-    let ends = c .before .before .before .before .before .before .before .before .payload-ends .ensures in
-    let n = counts-obus s _ (sym k ∙ c .before .before .before .before .before .judge-payloads .ensures .found) in
-    omega (
-      arith,
-      n,
-      ltb-false mostObus (length (payloads s))
-          (sym (ends .more) ∙ c .before .before .before .before .before .before .if3 .left),
-    )
+    let s = c .before .before .before .before .before .before .before .before .before .before .before .args .unit .now in
+    let e = ap readSays (c .before .before .found .given .1) in
+    let p = counted-passed s _ (sym e ∙ c .before .before .before .before .judge-payloads .ensures .found) in
+    omega (arith, counts-obus s _ (p .1), ltb-false mostObus (length (payloads s)) (sym (p .0)))
 
-returns-5 : tie.Need-returns-5
-returns-5 c =
-    let k = ap readSays (c .before .before .before .before .found .given .1) in
-    let ends = c .before .before .before .before .before .before .before .before .before .payload-ends .ensures in
-    let some-more = c .before .before .before .before .before .before .before .if3 .left in
-    let judged = c .before .before .before .before .before .before .judge-payloads .ensures in
-    let h = c .before .before .before .before .before .before .before .before .before .before .before .before .if1 .left in
-    let e = sym (c .before .before .before .before .before .before .before .before .before .before .before .at-start-code .ensures)
-    ∙ not-false _ (c .before .before .before .before .before .before .before .before .before .before .if2 .left) in
-    let m = sym some-more ∙ ends .more in
-    let found = sym k ∙ judged .found in
-    let all = counts-are _ h e m _ found .0 in
-    answer-whole _ _ _ _ _ _ (c .judge-whole .ensures)
-    (check-whole _ h e m _ _ found (judged .kinds all))
-    (counts-obus _ _ found)
-    (ap (λ (n : ℕ). take n (c .before .before .before .before .before .before .before .before .before .payload-ends .result .at))
-    (sym (ends .count some-more)) ∙ ends .at some-more)
-    (judged .widths all)
+returns-4 : tie.Need-returns-4
+returns-4 c =
+    let s = c .before .before .before .before .before .before .before .before .before .before .before .before .args .unit .now in
+    let e = ap readSays (c .before .before .before .found .given .1) in
+    let judged = c .before .before .before .before .before .judge-payloads .ensures in
+    let headed = sym (c .before .before .before .before .before .before .before .before .before .at-start-code .ensures) ∙ not-false _ (c .before .before .before .before .before .before .before .before .if2 .left) in
+    let f = sym e ∙ judged .found in
+    let p = counted-passed s _ f in
+    let k = check-whole s (c .before .before .before .before .before .before .before .before .before .before .if1 .left) headed (p .0) _ _ (p .1) (judged .kinds _ (sym f)) in
+    (c .judge-whole .ensures ∙ k, whole-notes s _ _ _ _ k (counts-obus s _ (p .1)) (judged .ends _ (sym f)) (judged .widths _ (sym f)))
 
 pub judge-unit-spec : {M : Type 1} → statement M
 judge-unit-spec =
@@ -109,12 +75,9 @@ judge-unit-spec =
     at-start-code-requires
     refusal-requires-2
     returns-2
-    payload-ends-requires
-    refusal-requires-3
-    returns-3
     judge-payloads-requires
     enum-known-found
     enum-told
-    returns-4
+    returns-3
     judge-whole-requires
-    returns-5)
+    returns-4)
