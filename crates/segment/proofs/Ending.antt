@@ -23,13 +23,17 @@ use Rattle.segment_rules.specs.Rules.{closePes}
 use Rattle.packet.specs.Header.{packets}
 use Rattle.segment_rules.specs.Check.{Accepted, Progress, Outputs, outputsOf, start, run, segmentLengthWrong, accepted, ending, checkSegment, roomsOf, holding, zeros, outputsAfter}
 use Rattle.segment_rules.proofs.Running.{index-totals, length-packets}
-use Rattle.segment.specs.declared.state.Outcome.the-variants as outcome
-use Rattle.segment.specs.declared.state.PatFound.{PatFound}
-use Rattle.segment.specs.declared.state.PatSeen.the-variants as pat
-use Rattle.segment.specs.declared.state.PmtFound.{PmtFound}
-use Rattle.segment.specs.declared.state.PmtSeen.the-variants as pmt
+use Rattle.tables.specs.declared.state.Outcome.the-variants as outcome
+use Rattle.tables.specs.declared.state.PatFound.{PatFound}
+use Rattle.tables.specs.declared.state.PatSeen.the-variants as pat
+use Rattle.tables.specs.declared.state.PmtFound.{PmtFound}
+use Rattle.tables.specs.declared.state.PmtSeen.the-variants as pmt
+use Rattle.tables.specs.declared.tables.Tables.{Tables}
+use Rattle.tables.specs.Tables.{Turns, TablesStand}
+use Rattle.tables.proofs.Turning.{refused-turn, passed-turn}
+use Rattle.tables.proofs.Standing.{no-pat-yet, pat-yet, no-pmt-yet, pmt-yet}
+use Rattle.tables.proofs.Mapping.{av1-slot}
 use Rattle.segment.specs.declared.state.PesSeen.the-variants as seen
-use Rattle.segment.specs.declared.tables.Tables.{Tables}
 use Rattle.segment.specs.declared.extraction.ExtractionTurn.{ExtractionTurn}
 use Rattle.segment.specs.declared.whole.Summary.{Summary}
 use Rattle.segment.specs.declared.whole.Ran.{Ran}
@@ -37,10 +41,7 @@ use Rattle.segment.specs.declared.whole.SegmentCheck.{SegmentCheck}
 use Rattle.segment.specs.declared.whole.SegmentCheck.the-variants as checked
 use Rattle.segment.specs.declared.whole.Checked.{Checked}
 use Rattle.segment.specs.Answer.{summaryOf, summarised, mapAfter, checkSays}
-use Rattle.segment.specs.Parts.{Turns, TablesStand, UnitsStand, StateStands, RunTurn, AnswerTurn, CheckedTurn, WholeTurn}
-use Rattle.segment.proofs.Turning.{refused-turn, passed-turn}
-use Rattle.segment.proofs.Standing.{no-pat-yet, pat-yet, no-pmt-yet, pmt-yet}
-use Rattle.segment.proofs.Mapping.{av1-slot}
+use Rattle.segment.specs.Parts.{UnitsStand, StateStands, RunTurn, AnswerTurn, CheckedTurn, WholeTurn}
 use Rattle.segment.proofs.Holding.{closed-outputs}
 
 -- ---- 20, part by part

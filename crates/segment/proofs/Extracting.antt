@@ -29,16 +29,17 @@ use Rattle.segment_rules.specs.State.{OpenPes, State, withExtraction, withPes, 
 use Rattle.segment_rules.specs.Rules.{Rooms, inSequence, onUnits, rule, rule29, rule30, rule31, rule34, rule8, carried, addedTo, av1Start, av1More, closeOpen, closeIfOpen, closePes, unitOf, lengthWrong, isOpen, isPcr, openBytes, carriedSoFar, mostUnits, withNext, payloadRules, pesRules}
 use Rattle.segment_rules.specs.Check.{Outputs, outputsOf, roomsOf, ptsAndDts}
 use Rattle.segment_rules.proofs.Sequence.{bind-same, then-same, sequence-append, rule-then, starts, adds}
+use Rattle.tables.specs.declared.state.Outcome.{Outcome}
+use Rattle.tables.specs.declared.state.Outcome.the-variants as outcome
+use Rattle.tables.specs.Tables.{Turns}
+use Rattle.tables.proofs.Turning.{turn-refused, refused-turn, passed-turn, turn-as}
 use Rattle.segment.specs.declared.state.PesFound.{PesFound}
 use Rattle.segment.specs.declared.state.PesSeen.{PesSeen}
 use Rattle.segment.specs.declared.state.PesSeen.the-variants as seen
-use Rattle.segment.specs.declared.state.Outcome.{Outcome}
-use Rattle.segment.specs.declared.state.Outcome.the-variants as outcome
 use Rattle.segment.specs.declared.outputs.Rooms as code
 use Rattle.segment.specs.declared.extraction.Extraction.{Extraction}
 use Rattle.segment.specs.declared.extraction.ExtractionTurn.{ExtractionTurn}
-use Rattle.segment.specs.Parts.{Turns, isAbsent, openPes, pesOf, unitsBegun, Fits, RoomsStand, UnitsStand, PayloadOf, PesTurn}
-use Rattle.segment.proofs.Turning.{turn-refused, refused-turn, passed-turn, turn-as}
+use Rattle.segment.specs.Parts.{isAbsent, openPes, pesOf, unitsBegun, Fits, RoomsStand, UnitsStand, PayloadOf, PesTurn}
 use Rattle.segment.proofs.Holding.{written, same-bytes, same-lens, same-times, unit-bytes, stands-opened, stands-added, stands-closed}
 
 -- ---- the unit of a PES that closes

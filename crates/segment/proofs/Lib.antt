@@ -1,13 +1,7 @@
-pub mod Classes
 pub mod Clearing
-pub mod Counting
 pub mod Editions
 pub mod Ending
 pub mod Extracting
 pub mod Holding
 pub mod Looping
-pub mod Mapping
-pub mod Reading
-pub mod Standing
 pub mod Stepping
-pub mod Turning

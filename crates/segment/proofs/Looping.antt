@@ -27,16 +27,17 @@ use Rattle.segment_rules.specs.Named.{Named}
 use Rattle.segment_rules.proofs.Keeping.{Holds}
 use Rattle.segment_rules.proofs.Naming.{packet-named}
 use Rattle.segment_rules.proofs.Running.{counting-one, length-packets}
-use Rattle.segment.specs.declared.state.Outcome.the-variants as outcome
-use Rattle.segment.specs.declared.tables.Tables.{Tables}
+use Rattle.tables.specs.declared.state.Outcome.the-variants as outcome
+use Rattle.tables.specs.declared.tables.Tables.{Tables}
+use Rattle.tables.specs.Tables.{Turns, freshTables, kindSays, packetAt}
+use Rattle.tables.proofs.Turning.{turn-refused, refused-turn, passed-turn}
+use Rattle.tables.proofs.Standing.{tables-start}
 use Rattle.segment.specs.declared.extraction.Extraction.{Extraction}
 use Rattle.segment.specs.declared.packets.Stepped.{Stepped}
 use Rattle.segment.specs.declared.whole.Ran.{Ran}
 use Rattle.descriptor.specs.Naming.{editionSays}
 use Rattle.descriptor.specs.declared.edition.Edition.{Edition as EditionName}
-use Rattle.segment.specs.Parts.{Turns, freshTables, kindSays, freshExtraction, packetAt, StateStands, PacketTurn, RunTurn}
-use Rattle.segment.proofs.Turning.{turn-refused, refused-turn, passed-turn}
-use Rattle.segment.proofs.Standing.{tables-start}
+use Rattle.segment.specs.Parts.{freshExtraction, StateStands, PacketTurn, RunTurn}
 use Rattle.segment.proofs.Holding.{units-start}
 
 -- "over 65,535 packets" is one of the parts of 20

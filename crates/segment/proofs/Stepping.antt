@@ -30,19 +30,20 @@ use Rattle.segment_rules.specs.Named.{Named}
 use Rattle.segment_rules.proofs.Sequence.{bind-unit, bind-same, up-to-24, not-av1, no-payload, not-repeated, repeated, either-way}
 use Rattle.segment_rules.proofs.Keeping.{Holds}
 use Rattle.segment_rules.proofs.Naming.{checked-named, clocked-named}
-use Rattle.segment.specs.declared.state.Kind.{Kind}
-use Rattle.segment.specs.declared.state.Outcome.{Outcome}
-use Rattle.segment.specs.declared.state.Outcome.the-variants as outcome
-use Rattle.segment.specs.declared.tables.Tables.{Tables}
-use Rattle.segment.specs.declared.tables.TablesTurn.{TablesTurn}
+use Rattle.tables.specs.declared.state.Kind.{Kind}
+use Rattle.tables.specs.declared.state.Outcome.{Outcome}
+use Rattle.tables.specs.declared.state.Outcome.the-variants as outcome
+use Rattle.tables.specs.declared.tables.Tables.{Tables}
+use Rattle.tables.specs.declared.tables.TablesTurn.{TablesTurn}
+use Rattle.tables.specs.Tables.{Turns, placedAt, recordIn, lastRepeated, streamsIn, LiesAt, packetAt, TablesStand, CarriesOut}
+use Rattle.tables.specs.Tables.{kindSays, SlotOf}
+use Rattle.tables.proofs.Standing.{pids-stand}
+use Rattle.tables.proofs.Counting.{kind-repeats, kept-pids}
+use Rattle.tables.proofs.Turning.{turn-refused, refused-turn, passed-turn, turn-at, turn-as, turn-also, turn-then}
 use Rattle.segment.specs.declared.extraction.Extraction.{Extraction}
 use Rattle.segment.specs.declared.extraction.ExtractionTurn.{ExtractionTurn}
 use Rattle.segment.specs.declared.packets.Stepped.{Stepped}
-use Rattle.segment.specs.Parts.{Turns, placedAt, recordIn, lastRepeated, streamsIn, LiesAt, packetAt, TablesStand, CarriesOut}
-use Rattle.segment.specs.Parts.{kindSays, SlotOf, UnitsStand, PesTurn, StateStands}
-use Rattle.segment.proofs.Standing.{pids-stand}
-use Rattle.segment.proofs.Counting.{kind-repeats, kept-pids}
-use Rattle.segment.proofs.Turning.{turn-refused, refused-turn, passed-turn, turn-at, turn-as, turn-also, turn-then}
+use Rattle.segment.specs.Parts.{UnitsStand, PesTurn, StateStands}
 
 -- ---- where the payload lies
 -- bytes that end at a place of the segment

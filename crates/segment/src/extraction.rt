@@ -27,10 +27,8 @@ use crate::outputs::Rooms;
 use crate::outputs::copy;
 use crate::outputs::put_unit;
 use crate::outputs::time_pair;
-use crate::state::Outcome;
 use crate::state::PesFound;
 use crate::state::PesSeen;
-use crate::state::at_place;
 use descriptor::Edition;
 use lists::part;
 use lists::rest;
@@ -39,6 +37,8 @@ use pes::PesRead;
 use pes::Times;
 use refusal::Refusal;
 use refusal::Refused;
+use tables::Outcome;
+use tables::at_place;
 use unit::UnitRead;
 
 // The most units of a segment.

@@ -1,11 +1,8 @@
 // The check of a segment and the extraction of its access units (document 01, "A segment").
-mod counters;
 mod extraction;
 mod outputs;
 mod packets;
-mod sections;
 mod state;
-mod tables;
 mod whole;
 
 pub use whole::Checked;

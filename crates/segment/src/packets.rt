@@ -7,35 +7,26 @@ ghost use Rattle.descriptor.specs.Naming.{editionSays};
 ghost use Rattle.segment_rules.specs.State.{counting};
 ghost use Rattle.segment_rules.specs.Rules.{isAv1};
 ghost use Rattle.segment_rules.specs.Check.{outputsOf};
-ghost use Rattle.segment.specs.Parts.{
-  kindSays,
-  roomsIn,
-  Fits,
-  CountsUpTo,
-  packetAt,
-  PayloadTurn,
-  ContentTurn,
-  ReadTurn,
-  PacketTurn,
-};
+ghost use Rattle.tables.specs.Tables.{kindSays, packetAt};
+ghost use Rattle.segment.specs.Parts.{roomsIn, Fits, CountsUpTo, PayloadTurn, ContentTurn, ReadTurn, PacketTurn};
 use crate::extraction::Arrival;
 use crate::extraction::Extraction;
 use crate::extraction::ExtractionTurn;
 use crate::extraction::add;
 use crate::extraction::start;
-use crate::sections::read_section;
-use crate::state::Kind;
-use crate::state::Outcome;
-use crate::state::Packet;
-use crate::state::at_place;
-use crate::tables::Tables;
-use crate::tables::check_counter;
-use crate::tables::is_pcr;
-use crate::tables::kind_of;
 use lists::part;
 use lists::rest;
 use packet::PacketRead;
 use segment_rules::Totals;
+use tables::Kind;
+use tables::Outcome;
+use tables::Packet;
+use tables::Tables;
+use tables::at_place;
+use tables::check_counter;
+use tables::is_pcr;
+use tables::kind_of;
+use tables::read_section;
 
 // The length of a packet.
 const PACKET_LENGTH: usize = 188;

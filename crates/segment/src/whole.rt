@@ -13,19 +13,19 @@ use crate::extraction::fresh_extraction;
 use crate::outputs::clear;
 use crate::packets::count_packet;
 use crate::packets::step;
-use crate::state::Outcome;
-use crate::state::PatSeen;
-use crate::state::PmtSeen;
 use crate::state::none_yet;
-use crate::tables::Tables;
-use crate::tables::fresh_tables;
-use crate::tables::pid_in;
 use descriptor::Edition;
 use descriptor::Named;
 use pmt::ProgramMap;
 use refusal::Refusal;
 use refusal::Refused;
 use segment_rules::Totals;
+use tables::Outcome;
+use tables::PatSeen;
+use tables::PmtSeen;
+use tables::Tables;
+use tables::fresh_tables;
+use tables::pid_in;
 
 // The length of a packet, and the most packets of a segment.
 const PACKET_LENGTH: usize = 188;

@@ -5,8 +5,8 @@ use native.Mathlib.Omega.{arith}
 use Prim.Native.Nat.{_+_}
 use mathlib.Core.Path.{sym, ap, _∙_}
 use Rattle.lists.proofs.Parts.{tail-placed}
+use Rattle.tables.proofs.Turning.{turn-refused}
 use Rattle.segment.specs.declared.extraction.ExtractionTurn.{ExtractionTurn}
-use Rattle.segment.proofs.Turning.{turn-refused}
 use Rattle.segment.proofs.Extracting.{adds-closed, adds-unseen, adds-bytes, adds-right}
 use Rattle.segment.proofs.extraction.add.Statement.{statement}
 use Rattle.segment.proofs.extraction.add.Tie as tie

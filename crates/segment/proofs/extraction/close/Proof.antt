@@ -4,7 +4,7 @@ use native.Mathlib.Omega.{arith}
 use Prim.Native.Nat.{_<_}
 use mathlib.Core.Path.{refl}
 use lib.ListN.{length}
-use Rattle.segment.proofs.Turning.{never-passed}
+use Rattle.tables.proofs.Turning.{never-passed}
 use Rattle.segment.proofs.Extracting.{unit-fits, none-closes, refused-closes, passed-closes}
 use Rattle.segment.proofs.extraction.close.Statement.{statement}
 use Rattle.segment.proofs.extraction.close.Tie as tie

@@ -3,7 +3,7 @@ use borrow.Author.Needs.{needs}
 use mathlib.Core.Path.{sym, ap, _∙_}
 use Rattle.pes.specs.Pes.{pesSays}
 use Rattle.pes.proofs.Headers.{read-data}
-use Rattle.segment.proofs.Turning.{turn-refused}
+use Rattle.tables.proofs.Turning.{turn-refused}
 use Rattle.segment.proofs.Extracting.{opens-wrong}
 use Rattle.segment.proofs.extraction.open.Statement.{statement}
 use Rattle.segment.proofs.extraction.open.Tie as tie

@@ -2,8 +2,8 @@
 use borrow.Author.Needs.{needs}
 use mathlib.Core.Path.{sym, ap}
 use Rattle.segment_rules.specs.State.{counting}
-use Rattle.segment.specs.declared.state.Kind.{Kind}
-use Rattle.segment.specs.Parts.{kindSays}
+use Rattle.tables.specs.declared.state.Kind.{Kind}
+use Rattle.tables.specs.Tables.{kindSays}
 use Rattle.segment.proofs.packets.count_packet.Statement.{statement}
 use Rattle.segment.proofs.packets.count_packet.Tie as tie
 

@@ -2,7 +2,7 @@
 use borrow.Author.Needs.{needs}
 use mathlib.Core.Path.{refl}
 use Rattle.segment_rules.specs.Check.{roomsOf}
-use Rattle.segment.specs.Parts.{packetAt}
+use Rattle.tables.specs.Tables.{packetAt}
 use Rattle.segment.proofs.Stepping.{header-refused, header-right, packet-kind}
 use Rattle.segment.proofs.packets.step.Statement.{statement}
 use Rattle.segment.proofs.packets.step.Tie as tie

@@ -3,8 +3,8 @@ use borrow.Author.Needs.{needs}
 use mathlib.Core.Path.{refl, sym, ap, _∙_}
 use Rattle.packet.specs.declared.header.Header.{Header}
 use Rattle.packet.proofs.Headers.{passed-fields}
+use Rattle.tables.proofs.Turning.{negated, affirmed}
 use Rattle.segment.proofs.Stepping.{counter-wrong, next-named, next-stands, next-repeats, no-content, no-more, with-content}
-use Rattle.segment.proofs.Turning.{negated, affirmed}
 use Rattle.segment.proofs.packets.step_read.Statement.{statement}
 use Rattle.segment.proofs.packets.step_read.Tie as tie
 

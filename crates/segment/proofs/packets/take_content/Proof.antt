@@ -92,7 +92,7 @@ sub-at c =
     )
 
 read-section-requires : tie.Need-read-section-requires
-read-section-requires c κs = omega (arith, c .before .before .before .before .before .before .before .before .before .before .pre .0)
+read-section-requires c κs = search needs
 
 at-place-requires : tie.Need-at-place-requires
 at-place-requires c κs = search needs

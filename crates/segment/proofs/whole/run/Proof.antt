@@ -5,8 +5,8 @@ use Prim.Native.Nat.{_-_}
 use mathlib.Core.Path.{refl, subst, _∙_}
 use Rattle.descriptor.specs.Naming.{editionSays}
 use Rattle.segment_rules.specs.Check.{outputsOf}
-use Rattle.segment.specs.declared.state.Outcome.the-variants.{Passed}
-use Rattle.segment.specs.declared.tables.Tables.{Tables}
+use Rattle.tables.specs.declared.state.Outcome.the-variants.{Passed}
+use Rattle.tables.specs.declared.tables.Tables.{Tables}
 use Rattle.segment.specs.declared.whole.Ran.{Ran}
 use Rattle.segment.specs.Parts.{RunTurn}
 use Rattle.segment.proofs.Holding.{same-bytes, same-lens, same-times, stands-fits}

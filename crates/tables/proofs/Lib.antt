@@ -1,0 +1,6 @@
+pub mod Classes
+pub mod Counting
+pub mod Mapping
+pub mod Reading
+pub mod Standing
+pub mod Turning

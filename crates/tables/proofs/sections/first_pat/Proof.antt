@@ -1,0 +1,48 @@
+-- By what the reading of the PAT answers: the first PAT is remembered by its place.
+use borrow.Author.Needs.{needs}
+use mathlib.Core.Path.{sym, subst}
+use Rattle.segment_rules.specs.Rules.{patSection}
+use Rattle.tables.specs.declared.tables.TablesTurn.{TablesTurn}
+use Rattle.tables.specs.Tables.{Turns, TablesStand}
+use Rattle.tables.proofs.Reading.{pat-refused, pat-read}
+use Rattle.tables.proofs.sections.first_pat.Statement.{statement}
+use Rattle.tables.proofs.sections.first_pat.Tie as tie
+
+read-pat-requires : tie.Need-read-pat-requires
+read-pat-requires c κs = search needs
+
+enum-known-read : tie.Need-enum-known-read
+enum-known-read c = search needs
+
+enum-known-read-2 : tie.Need-enum-known-read-2
+enum-known-read-2 c = search needs
+
+named-requires : tie.Need-named-requires
+named-requires c κs = search needs
+
+pass-requires : tie.Need-pass-requires
+pass-requires c κs = search needs
+
+returns : tie.Need-returns
+returns c segment lies e edition t h s = pat-refused h s _ e _ _ (c .before .read .given .1) (c .before .before .before .read-pat .ensures)
+
+returns-2 : tie.Need-returns-2
+returns-2 c segment lies e edition t h s =
+    let a = c .before .before .before .before .before .before .before .before .before .before .before .args in
+    subst (λ (x : TablesTurn). Turns (x .outcome) (patSection (t .pat) (a .section .now) t) (TablesStand edition segment (x .tables)))
+    (sym (c .pass .ensures))
+    (pat-read h s (a .section .now) e (a .at) _ _ _ lies (c .before .before .before .before .before .before .before .read2 .given .1)
+    (c .before .before .before .before .before .before .before .before .before .read-pat .ensures)
+    (c .before .before .before .named .ensures .1 segment))
+
+pub first-pat-spec : {M : Type 1} → statement M
+first-pat-spec =
+    tie.close
+    (tie.spec
+    read-pat-requires
+    enum-known-read
+    enum-known-read-2
+    named-requires
+    pass-requires
+    returns
+    returns-2)

@@ -1,0 +1,40 @@
+-- The first PAT is read; a later one is compared with the bytes at the place of the first.
+use borrow.Author.Needs.{needs}
+use Rattle.tables.proofs.Reading.{pat-later}
+use Rattle.tables.proofs.sections.pat_section.Statement.{statement}
+use Rattle.tables.proofs.sections.pat_section.Tie as tie
+
+enum-told : tie.Need-enum-told
+enum-told c = search needs
+
+first-pat-requires : tie.Need-first-pat-requires
+first-pat-requires c κs = search needs
+
+enum-known-pat : tie.Need-enum-known-pat
+enum-known-pat c = search needs
+
+part-requires : tie.Need-part-requires
+part-requires c κs = search needs
+
+later-section-requires : tie.Need-later-section-requires
+later-section-requires c κs = search needs
+
+returns : tie.Need-returns
+returns c lies = c .first-pat .ensures _ lies (c .before .enum-told .given .1)
+
+returns-2 : tie.Need-returns-2
+returns-2 c lies edition t h s =
+    pat-later h s (c .before .before .before .before .before .before .before .args .section .now) _ _ (c .later-section .result)
+    (c .before .before .before .pat .given .1) (c .before .part .ensures) (c .later-section .ensures t)
+
+pub pat-section-spec : {M : Type 1} → statement M
+pat-section-spec =
+    tie.close
+    (tie.spec
+    enum-told
+    first-pat-requires
+    enum-known-pat
+    part-requires
+    later-section-requires
+    returns
+    returns-2)
