@@ -84,7 +84,8 @@ pub extern "C" fn av1ts_check_segment(
         (roomsOf (outputsOf (now (out .entry)) (now (lengths .entry)) (now (times .entry)))) (now (segment .entry)))
         (outputsOf (now (out .entry)) (now (lengths .entry)) (now (times .entry))) ⌝ }
 {
-    let checked = segment::check(0, segment, out, lengths, times);
+    let mut none: [usize; 0] = [];
+    let checked = segment::check(0, segment, out, lengths, times, &mut none);
     let answer = checked.answer;
     segment_answer(answer)
 }
@@ -105,7 +106,8 @@ pub extern "C" fn av1ts_check_segment_edition(
         (roomsOf (outputsOf (now (out .entry)) (now (lengths .entry)) (now (times .entry)))) (now (segment .entry)))
         (outputsOf (now (out .entry)) (now (lengths .entry)) (now (times .entry))) ⌝ }
 {
-    let checked = segment::check(edition, segment, out, lengths, times);
+    let mut none: [usize; 0] = [];
+    let checked = segment::check(edition, segment, out, lengths, times, &mut none);
     let answer = checked.answer;
     segment_answer(answer)
 }

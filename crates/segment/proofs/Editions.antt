@@ -7,7 +7,7 @@ use Rattle.refusal.specs.Verdict.{Verdict, passed, refused, _>>=_}
 use Rattle.descriptor.specs.Edition.{Edition, editionOf}
 use Rattle.pmt.specs.Answer.{noMap}
 use Rattle.segment_rules.specs.Rules.{Rooms}
-use Rattle.segment_rules.specs.Check.{Accepted, Outputs, outputsOf, checkSegment, checkIn, outputsAfter, zeros}
+use Rattle.segment_rules.specs.Check.{Accepted, Outputs, outputsOf, checkSegment, checkIn, outputsAfter, firstsAfter, zeros}
 use Rattle.segment.specs.Answer.{summarised, checking, mapAfter, mapIn, mapChecked}
 
 module _ (n : ℕ) (edition : Edition) (rooms : Rooms) (s : Bytes) (known : passed edition ≡ editionOf n) where
@@ -24,6 +24,9 @@ module _ (n : ℕ) (edition : Edition) (rooms : Rooms) (s : Bytes) (known : pass
 
   pub known-leaves : (o : Outputs) → outputsAfter (checkSegment edition rooms s) o ≡ outputsAfter (checkIn n rooms s) o
   known-leaves o = ap (λ (v : Verdict Accepted). outputsAfter v o) check-known
+
+  pub known-firsts : (o : List ℕ) → firstsAfter (checkSegment edition rooms s) o ≡ firstsAfter (checkIn n rooms s) o
+  known-firsts o = ap (λ (v : Verdict Accepted). firstsAfter v o) check-known
 
 module _ (n number place : ℕ) (rooms : Rooms) (s : Bytes) (unknown : refused number place ≡ editionOf n) where
   check-unknown : refused number place ≡ checkIn n rooms s
@@ -44,3 +47,7 @@ module _ (n number place : ℕ) (rooms : Rooms) (s : Bytes) (unknown : refused n
   unknown-leaves o out lens times a b c =
       ap (λ (x : List ℕ). outputsOf x lens times) a ∙ ap₂ (λ (x y : List ℕ). outputsOf (zeros (o .bytes)) x y) b c
       ∙ ap (λ (v : Verdict Accepted). outputsAfter v o) check-unknown
+
+  pub unknown-firsts : (o firsts : List ℕ) → firsts ≡ zeros o → firsts ≡ firstsAfter (checkIn n rooms s) o
+  unfolding firstsAfter
+  unknown-firsts o firsts a = a ∙ ap (λ (v : Verdict Accepted). firstsAfter v o) check-unknown

@@ -21,7 +21,8 @@ use Rattle.segment_rules.specs.State as state
 use Rattle.segment_rules.specs.State.{FirstPat, FirstPmt, AccessUnit}
 use Rattle.segment_rules.specs.Rules.{closePes}
 use Rattle.packet.specs.Header.{packets}
-use Rattle.segment_rules.specs.Check.{Accepted, Progress, Outputs, outputsOf, start, run, segmentLengthWrong, accepted, ending, checkSegment, roomsOf, holding, zeros, outputsAfter}
+use Rattle.segment_rules.specs.Check.{Accepted, Progress, Outputs, outputsOf, start, run, segmentLengthWrong, accepted, ending, checkSegment, roomsOf, holding, holdingFirsts, zeros, outputsAfter, firstsAfter}
+use Rattle.segment_rules.proofs.Growing.{close-grows}
 use Rattle.segment_rules.proofs.Running.{index-totals, length-packets}
 use Rattle.tables.specs.declared.state.Outcome.the-variants as outcome
 use Rattle.tables.specs.declared.state.PatFound.{PatFound}
@@ -34,6 +35,7 @@ use Rattle.tables.proofs.Turning.{refused-turn, passed-turn}
 use Rattle.tables.proofs.Standing.{no-pat-yet, pat-yet, no-pmt-yet, pmt-yet}
 use Rattle.tables.proofs.Mapping.{av1-slot}
 use Rattle.segment.specs.declared.state.PesSeen.the-variants as seen
+use Rattle.segment.specs.declared.extraction.Extraction.{Extraction}
 use Rattle.segment.specs.declared.extraction.ExtractionTurn.{ExtractionTurn}
 use Rattle.segment.specs.declared.whole.Summary.{Summary}
 use Rattle.segment.specs.declared.whole.Ran.{Ran}
@@ -41,8 +43,9 @@ use Rattle.segment.specs.declared.whole.SegmentCheck.{SegmentCheck}
 use Rattle.segment.specs.declared.whole.SegmentCheck.the-variants as checked
 use Rattle.segment.specs.declared.whole.Checked.{Checked}
 use Rattle.segment.specs.Answer.{summaryOf, summarised, mapAfter, checkSays}
-use Rattle.segment.specs.Parts.{UnitsStand, StateStands, RunTurn, AnswerTurn, CheckedTurn, WholeTurn}
+use Rattle.segment.specs.Parts.{UnitsStand, StateStands, RunTurn, AnswerTurn, CheckedTurn, WholeTurn, firstNoted, AcceptedFirsts}
 use Rattle.segment.proofs.Holding.{closed-outputs}
+use Rattle.segment.proofs.Firsts.{notes}
 
 -- ---- 20, part by part
 pub no-bytes : (s : Bytes) → length s ≡ 0 → true ≡ segmentLengthWrong s
@@ -170,6 +173,31 @@ module _ (edition : Edition) (before after : Outputs) (g : Progress) (r : Extrac
         says us (t .2 .units) .1,
       )
 
+-- the list of first packets
+module _ (before after : Outputs) (g : Progress) (r : ExtractionTurn)
+    (turn : Turns (r .outcome) (closePes (g .state .extraction)) (UnitsStand before after (r .extraction))) where
+  -- nothing is accepted
+  pub end-refused-firsts : (q : Refused) → r .outcome ≡ outcome.Refused q → (old last : List ℕ) → AcceptedFirsts old (ending g) last
+  unfolding ending _>>=_
+  end-refused-firsts q e old last a p =
+      never
+      (sym (ap (λ (v : Verdict state.Extraction). v >>= λ x. accepted (g .index) (g .state .tables .pat) (g .state .tables .pmt) (x .units)
+      (g .totals))
+      (refused-turn (closePes (g .state .extraction)) (UnitsStand before after (r .extraction)) (r .outcome) q e turn)) ∙ p)
+
+  -- the first packet of the PES that closed was put behind the others
+  pub end-closed-firsts : {now : Outputs} {c : Extraction} → UnitsStand before now c (g .state .extraction) → r .outcome ≡ outcome.Passed
+      → (old firsts last : List ℕ) → firsts ≡ holdingFirsts (g .state .extraction .units) old → last ≡ firstNoted c (r .extraction) firsts
+      → AcceptedFirsts old (ending g) last
+  unfolding ending _>>=_
+  end-closed-firsts s e old firsts last h note a p =
+      let t = passed-turn (closePes (g .state .extraction)) (UnitsStand before after (r .extraction)) (r .outcome) e turn in
+      note ∙ notes s (t .2) old firsts h (close-grows (g .state .extraction) (t .0) (t .1))
+      ∙ ap (λ (l : List AccessUnit). holdingFirsts l old)
+      (sym (accepted-units _ _ _ (t .0 .units) (g .totals) a
+      (sym (ap (λ (v : Verdict state.Extraction). v >>= λ x. accepted (g .index) (g .state .tables .pat) (g .state .tables .pmt) (x .units)
+      (g .totals)) (t .1)) ∙ p)))
+
 -- ---- the whole
 module _ (edition : Edition) (segment : Bytes) (before now : Outputs) where
   pub length-refused : (q : Refused) → q ≡ record { why = record { number = 20 }; place = 0 } → segmentLengthWrong segment ≡ true
@@ -177,6 +205,11 @@ module _ (edition : Edition) (segment : Bytes) (before now : Outputs) where
   unfolding checkSegment
   length-refused q e h a f =
       refused-beside edition before _ q now a f (sym (refuse 20 _ h) ∙ ap (λ (x : Refused). refusedBy x) (sym e))
+
+  pub length-refused-firsts : segmentLengthWrong segment ≡ true → (old last : List ℕ)
+      → AcceptedFirsts old (checkSegment edition (roomsOf before) segment) last
+  unfolding checkSegment
+  length-refused-firsts h old last a p = never (refuse 20 _ h ∙ p)
 
   module _ (h : segmentLengthWrong segment ≡ false) (r : Ran) (turn : RunTurn edition segment before r now) where
     whole : (v : Verdict Progress) → run edition (roomsOf before) start (packets segment) ≡ v → checkSegment edition (roomsOf before)
@@ -190,6 +223,13 @@ module _ (edition : Edition) (segment : Bytes) (before now : Outputs) where
     run-refused q last e a f =
         refused-beside edition before _ q last a f
         (whole (refusedBy q) (refused-turn (run edition (roomsOf before) start (packets segment)) _ (r .outcome) q e turn))
+
+    pub run-refused-firsts : (q : Refused) → r .outcome ≡ outcome.Refused q → (old last : List ℕ)
+        → AcceptedFirsts old (checkSegment edition (roomsOf before) segment) last
+    unfolding _>>=_
+    run-refused-firsts q e old last a p =
+        never
+        (sym (whole (refusedBy q) (refused-turn (run edition (roomsOf before) start (packets segment)) _ (r .outcome) q e turn)) ∙ p)
 
     module _ (e : r .outcome ≡ outcome.Passed) where
       pub ran : (g : Progress) × (run edition (roomsOf before) start (packets segment) ≡ passed g)
@@ -205,6 +245,11 @@ module _ (edition : Edition) (segment : Bytes) (before now : Outputs) where
           → WholeTurn edition segment before a last
       unfolding _>>=_
       run-ended a last j = subst (λ (v : Verdict Accepted). CheckedTurn edition before v a last) (sym (whole (passed (ran .0)) (ran .1))) j
+
+      pub run-ended-firsts : (old last : List ℕ) → AcceptedFirsts old (ending (ran .0)) last
+          → AcceptedFirsts old (checkSegment edition (roomsOf before) segment) last
+      unfolding _>>=_
+      run-ended-firsts old last j a p = j a (sym (whole (passed (ran .0)) (ran .1)) ∙ p)
 
 -- ---- the answer says the check's verdict, and the outputs are what it leaves
 pub answers : (r : SegmentCheck) (before : Outputs) (v : Verdict Accepted) (now : Outputs) → AnswerTurn before v r now → checkSays r ≡
@@ -222,6 +267,15 @@ pub accepted-leaves : (r : SegmentCheck) (s : Summary) → r ≡ checked.Accepte
     → AnswerTurn before v r now → now ≡ outputsAfter v before
 accepted-leaves r s e before v now j = accepted-by s before v now (subst (λ (y : SegmentCheck). AnswerTurn before v y now) e j)
 
+firsts-by : (s : Summary) (before : Outputs) (v : Verdict Accepted) (now : Outputs) → AnswerTurn before v (checked.Accepted s) now
+    → (old firsts : List ℕ) → AcceptedFirsts old v firsts → firsts ≡ firstsAfter v old
+unfolding firstsAfter
+firsts-by s before v now j old firsts k = k (j .0) (j .1) ∙ sym (ap (λ (w : Verdict Accepted). firstsAfter w old) (j .1))
+
+pub accepted-firsts : (r : SegmentCheck) (s : Summary) → r ≡ checked.Accepted s → (before : Outputs) (v : Verdict Accepted) (now : Outputs)
+    → AnswerTurn before v r now → (old firsts : List ℕ) → AcceptedFirsts old v firsts → firsts ≡ firstsAfter v old
+accepted-firsts r s e before v now j = firsts-by s before v now (subst (λ (y : SegmentCheck). AnswerTurn before v y now) e j)
+
 -- zeros in an output that is as long as before
 zeros-as : {out : List ℕ} (o b : List ℕ) → out ≡ zeros o → length o ≡ length b → out ≡ zeros b
 zeros-as o b e h = e ∙ ap (λ (n : ℕ). replicate n 0) h
@@ -236,3 +290,11 @@ refused-leaves r q e before v o l t out lens times j a b c la lb lc =
     ap (λ (x : List ℕ). outputsOf x lens times) (zeros-as o (before .bytes) a la)
     ∙ ap₂ (λ (x y : List ℕ). outputsOf (zeros (before .bytes)) x y) (zeros-as l (before .lens) b lb) (zeros-as t (before .times) c lc)
     ∙ sym (ap (λ (w : Verdict Accepted). outputsAfter w before) (subst (λ (y : SegmentCheck). AnswerTurn before v y (outputsOf o l t)) e j))
+
+pub refused-firsts : (r : SegmentCheck) (q : Refused) → r ≡ checked.Refused q → (before : Outputs) (v : Verdict Accepted) (now : Outputs)
+    → AnswerTurn before v r now → (old firsts last : List ℕ) → last ≡ zeros firsts → length firsts ≡ length old
+    → last ≡ firstsAfter v old
+unfolding firstsAfter
+refused-firsts r q e before v now j old firsts last z h =
+    zeros-as firsts old z h
+    ∙ sym (ap (λ (w : Verdict Accepted). firstsAfter w old) (subst (λ (y : SegmentCheck). AnswerTurn before v y now) e j))

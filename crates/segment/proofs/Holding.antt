@@ -21,7 +21,7 @@ use Rattle.segment.specs.declared.extraction.Extraction.{Extraction}
 use Rattle.segment.specs.Parts.{openPes, pesOf, freshExtraction, unitsBegun, Fits, UnitsStand}
 
 -- ---- what stands over the front of an output
-length-over : (w b : List ℕ) → length w ≤ length b → length (over w b) ≡ length b
+pub length-over : (w b : List ℕ) → length w ≤ length b → length (over w b) ≡ length b
 length-over w b h = omega (arith, length-append w (drop (length w) b), length-drop (length w) b)
 
 -- more behind it
@@ -33,7 +33,7 @@ over-more w v b =
     ∙ ap (λ (n : ℕ). (w ++ v) ++ drop n b) (sym (length-append w v))
 
 -- one element more, which has its place
-over-one : (w b : List ℕ) (a : ℕ) → length w < length b → set (over w b) (length w) a ≡ over (w ++ (a ∷ [])) b
+pub over-one : (w b : List ℕ) (a : ℕ) → length w < length b → set (over w b) (length w) a ≡ over (w ++ (a ∷ [])) b
 over-one w b a h =
     ap (λ (x : List ℕ). set (w ++ x) (length w) a) (drop-cons b (length w) 0 h)
     ∙ set-append-seam w _ _ a
@@ -49,7 +49,7 @@ unfolding flatten
 flatten-last f [] a = append-nil (f a)
 flatten-last f (b ∷ l) a = ap (λ (x : List ℕ). f b ++ x) (flatten-last f l a) ∙ sym (append-assoc (f b) (flatten (map f l)) (f a))
 
-map-last : {A : Type 0} (f : A → ℕ) (l : List A) (a : A) → map f (l ++ (a ∷ [])) ≡ map f l ++ (f a ∷ [])
+pub map-last : {A : Type 0} (f : A → ℕ) (l : List A) (a : A) → map f (l ++ (a ∷ [])) ≡ map f l ++ (f a ∷ [])
 map-last f [] a = refl
 map-last f (b ∷ l) a = ap (λ (x : List ℕ). f b ∷ x) (map-last f l a)
 

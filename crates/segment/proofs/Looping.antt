@@ -2,7 +2,7 @@
 use Prim.Native.Nat.{ℕ, zero, suc, _+_, _*_, _/_, _%_, _≤_, _<_}
 use mathlib.Core.Bool.{false, not, _||_}
 use mathlib.Core.Path.{_≡_, refl, sym, ap, subst, _∙_}
-use mathlib.Core.List.{[], _∷_}
+use mathlib.Core.List.{List, [], _∷_}
 use native.Mathlib.Omega.{arith}
 use native.Mathlib.Nat.{not-suc-le-zero, le-of-suc-le-suc}
 use native.Mathlib.Numerals.{add-one}
@@ -13,7 +13,9 @@ use lib.Seq.{drop-cons, drop-drop}
 use Rattle.lists.specs.Lists.{Bytes, pick}
 use Rattle.lists.proofs.Tests.{or-neither}
 use Rattle.refusal.specs.Verdict.{Verdict, passed, _>>=_}
+use Rattle.refusal.specs.Number.{refusedBy}
 use Rattle.refusal.specs.declared.Refused.{Refused}
+use Rattle.refusal.proofs.Verdicts.{never, passed-same}
 use Rattle.descriptor.specs.Edition.{Edition}
 use Rattle.packet.specs.Header.{pid, packetLength}
 use Rattle.packet.specs.Counter.{recordOf}
@@ -22,10 +24,11 @@ use Rattle.segment_rules.specs.State as state
 use Rattle.segment_rules.specs.State.{State, fresh, noneYet, counting, packetCount, kindOf}
 use Rattle.segment_rules.specs.Rules.{packetRules}
 use Rattle.packet.specs.Header.{packetsOf, packets}
-use Rattle.segment_rules.specs.Check.{Progress, Outputs, roomsOf, start, step, run, segmentLengthWrong}
+use Rattle.segment_rules.specs.Check.{Progress, Outputs, roomsOf, holdingFirsts, start, step, run, segmentLengthWrong}
 use Rattle.segment_rules.specs.Named.{Named}
 use Rattle.segment_rules.proofs.Keeping.{Holds}
 use Rattle.segment_rules.proofs.Naming.{packet-named}
+use Rattle.segment_rules.proofs.Growing.{packet-grows}
 use Rattle.segment_rules.proofs.Running.{counting-one, length-packets}
 use Rattle.tables.specs.declared.state.Outcome.the-variants as outcome
 use Rattle.tables.specs.declared.tables.Tables.{Tables}
@@ -37,8 +40,9 @@ use Rattle.segment.specs.declared.packets.Stepped.{Stepped}
 use Rattle.segment.specs.declared.whole.Ran.{Ran}
 use Rattle.descriptor.specs.Naming.{editionSays}
 use Rattle.descriptor.specs.declared.edition.Edition.{Edition as EditionName}
-use Rattle.segment.specs.Parts.{freshExtraction, StateStands, PacketTurn, RunTurn}
+use Rattle.segment.specs.Parts.{freshExtraction, StateStands, PacketTurn, RunTurn, firstNoted, RunFirsts}
 use Rattle.segment.proofs.Holding.{units-start}
+use Rattle.segment.proofs.Firsts.{none-held, notes}
 
 -- "over 65,535 packets" is one of the parts of 20
 pub count-within : (s : Bytes) → segmentLengthWrong s ≡ false → length s / packetLength ≤ 65535
@@ -56,37 +60,39 @@ packets-at (suc n) (suc k) s h =
     packets-at n k (drop packetLength s) (le-of-suc-le-suc h) ∙ ap (take packetLength)
     (drop-drop (k * 188) 188 s ∙ ap (λ (m : ℕ). drop m s) j)
 
-pub record Running (edition : Edition) (segment : Bytes) (before now : Outputs) (c : Tables) (e : Extraction) (totals : Totals) (k : ℕ)
-    : Type 0 where
+pub record Running (edition : Edition) (segment : Bytes) (before now : Outputs) (old firsts : List ℕ) (c : Tables) (e : Extraction)
+    (totals : Totals) (k : ℕ) : Type 0 where
   pub state : State
   pub stands : StateStands edition segment before now c e state
+  pub noted : firsts ≡ holdingFirsts (state .extraction .units) old
   pub named : Named (state .tables)
   pub counts : packetCount totals ≡ k
   pub rest : run edition (roomsOf before) start (packets segment)
       ≡ run edition (roomsOf before) (record { index = k; state = state; totals = totals }) (drop k (packets segment))
 
-running-start : (edition : EditionName) (segment : Bytes) (before : Outputs)
-    → Running (editionSays edition) segment before before (freshTables edition) freshExtraction noneYet 0
+running-start : (edition : EditionName) (segment : Bytes) (before : Outputs) (old : List ℕ)
+    → Running (editionSays edition) segment before before old old (freshTables edition) freshExtraction noneYet 0
 unfolding recordOf pick
-running-start edition segment before =
+running-start edition segment before old =
     record {
       state = fresh;
       stands = record { tables = tables-start edition segment; extraction = units-start before };
+      noted = none-held old;
       named = record { patFirst = tt; pids = refl; null = refl };
       counts = refl;
       rest = refl;
     }
 
-pub begins : (edition : EditionName) (segment : Bytes) (before : Outputs) (c : Tables) (e : Extraction) (n : Totals)
-    → c ≡ freshTables edition → e ≡ freshExtraction → n ≡ noneYet → Running (editionSays (c .edition)) segment before before c e n 0
-begins edition segment before c e n f g h =
-    subst (λ (y : Tables). Running (editionSays (y .edition)) segment before before y e n 0) (sym f)
-    (subst (λ (y : Extraction). Running (editionSays edition) segment before before (freshTables edition) y n 0) (sym g)
-    (subst (λ (y : Totals). Running (editionSays edition) segment before before (freshTables edition) freshExtraction y 0) (sym h)
-    (running-start edition segment before)))
+pub begins : (edition : EditionName) (segment : Bytes) (before : Outputs) (old : List ℕ) (c : Tables) (e : Extraction) (n : Totals)
+    → c ≡ freshTables edition → e ≡ freshExtraction → n ≡ noneYet → Running (editionSays (c .edition)) segment before before old old c e n 0
+begins edition segment before old c e n f g h =
+    subst (λ (y : Tables). Running (editionSays (y .edition)) segment before before old old y e n 0) (sym f)
+    (subst (λ (y : Extraction). Running (editionSays edition) segment before before old old (freshTables edition) y n 0) (sym g)
+    (subst (λ (y : Totals). Running (editionSays edition) segment before before old old (freshTables edition) freshExtraction y 0) (sym h)
+    (running-start edition segment before old)))
 
-module _ (edition : Edition) (segment : Bytes) (before now : Outputs) (c : Tables) (e : Extraction) (totals : Totals) (k : ℕ)
-    (inv : Running edition segment before now c e totals k) (h : k < length segment / packetLength) where
+module _ (edition : Edition) (segment : Bytes) (before now : Outputs) (old firsts : List ℕ) (c : Tables) (e : Extraction) (totals : Totals)
+    (k : ℕ) (inv : Running edition segment before now old firsts c e totals k) (h : k < length segment / packetLength) where
   abbrev here : State
   here = inv .state
 
@@ -116,14 +122,19 @@ module _ (edition : Edition) (segment : Bytes) (before now : Outputs) (c : Table
     turned = turn before here (inv .named) (inv .stands)
 
     pub goes-on : r .outcome ≡ outcome.Passed → (n : Totals) → n ≡ counting (kindSays (r .kind)) totals
-        → Running edition segment before after (r .tables) (r .extraction) n (k + 1)
+        → (firsts′ : List ℕ) → firsts′ ≡ firstNoted e (r .extraction) firsts
+        → Running edition segment before after old firsts′ (r .tables) (r .extraction) n (k + 1)
     unfolding _>>=_
-    goes-on w n m =
+    goes-on w n m firsts′ note =
         let t = passed-turn stepped _ (r .outcome) w turned in
         let all : n ≡ counting kind totals = m ∙ ap (λ (x : state.Kind). counting x totals) (t .2 .1) in
         record {
           state = t .0;
           stands = t .2 .0;
+          noted =
+              note
+              ∙ notes (inv .stands .extraction) (t .2 .0 .extraction) old firsts (inv .noted)
+              (packet-grows edition (roomsOf before) k (packetAt segment k) kind here (t .0) (t .1));
           named =
               subst (Holds (λ (st : State). Named (st .tables))) (t .1)
               (packet-named edition (roomsOf before) k (packetAt segment k) kind here (inv .named));
@@ -136,22 +147,34 @@ module _ (edition : Edition) (segment : Bytes) (before now : Outputs) (c : Table
               (sym (add-one k));
         }
 
+    refused-there : (q : Refused) → r .outcome ≡ outcome.Refused q → run edition (roomsOf before) start (packets segment) ≡ refusedBy q
+    unfolding _>>=_
+    refused-there q w = next-packet ∙ ap then-on (refused-turn stepped _ (r .outcome) q w turned)
+
     pub stops-there : (q : Refused) → r .outcome ≡ outcome.Refused q → (ran : Ran) (last : Outputs) → ran .outcome ≡ r .outcome → RunTurn
         edition segment before ran last
-    unfolding _>>=_
     stops-there q w ran last f =
-        turn-refused (run edition (roomsOf before) start (packets segment)) _ (ran .outcome) q (f ∙ w)
-        (sym (next-packet ∙ ap then-on (refused-turn stepped _ (r .outcome) q w turned)))
+        turn-refused (run edition (roomsOf before) start (packets segment)) _ (ran .outcome) q (f ∙ w) (sym (refused-there q w))
 
-pub comes-to-end : (edition : Edition) (segment : Bytes) (before now : Outputs) (c : Tables) (e : Extraction) (totals : Totals) (k : ℕ)
-    → Running edition segment before now c e totals k → length segment / packetLength ≤ k
-    → RunTurn edition segment before (record { tables = c; extraction = e; totals = totals; outcome = outcome.Passed }) now
-unfolding run
-comes-to-end edition segment before now c e totals k inv h = (
-  record { index = k; state = inv .state; totals = totals },
-  inv .rest
-      ∙ ap (run edition (roomsOf before) (record { index = k; state = inv .state; totals = totals }))
+    pub none-noted : (q : Refused) → r .outcome ≡ outcome.Refused q → (last : List ℕ) → RunFirsts edition segment (roomsOf before) old last
+    none-noted q w last g p = never (sym (refused-there q w) ∙ p)
+
+module _ (edition : Edition) (segment : Bytes) (before now : Outputs) (old firsts : List ℕ) (c : Tables) (e : Extraction) (totals : Totals)
+    (k : ℕ) (inv : Running edition segment before now old firsts c e totals k) (h : length segment / packetLength ≤ k) where
+  abbrev last : Progress
+  last = record { index = k; state = inv .state; totals = totals }
+
+  all-passed : run edition (roomsOf before) start (packets segment) ≡ passed last
+  unfolding run
+  all-passed =
+      inv .rest
+      ∙ ap (run edition (roomsOf before) last)
       (drop-of-length-le (packets segment) {i = k} (subst (λ (n : ℕ). n ≤ k) (sym (length-packets (length segment / packetLength) segment))
-      h)),
-  (inv .stands, refl),
-)
+      h))
+
+  pub comes-to-end : RunTurn edition segment before (record { tables = c; extraction = e; totals = totals; outcome = outcome.Passed }) now
+  comes-to-end = (last, all-passed, (inv .stands, refl))
+
+  pub all-noted : RunFirsts edition segment (roomsOf before) old firsts
+  all-noted g p =
+      inv .noted ∙ ap (λ (x : Progress). holdingFirsts (x .state .extraction .units) old) (passed-same last g (sym all-passed ∙ p))

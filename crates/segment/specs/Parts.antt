@@ -5,8 +5,9 @@ use mathlib.Core.Bool.{Bool, true, false}
 use mathlib.Core.Path.{_≡_}
 use mathlib.Core.List.{List, [], _∷_}
 use mathlib.Core.Option.{Option, none, some}
-use lib.ListN.{length}
-use Rattle.lists.specs.Lists.{Bytes, over}
+use lib.Dec.{ltb}
+use lib.ListN.{length, set}
+use Rattle.lists.specs.Lists.{Bytes, over, pick}
 use Rattle.refusal.specs.Verdict.{Verdict}
 use Rattle.refusal.specs.Verdict as verdict
 use Rattle.descriptor.specs.Edition.{Edition}
@@ -19,7 +20,7 @@ use Rattle.segment_rules.specs.State as state
 use Rattle.segment_rules.specs.State.{OpenPes, State, AccessUnit, withUnit, kindOf, packetCount}
 use Rattle.segment_rules.specs.Rules.{Rooms, Rule, inSequence, isPcr, closeOpen, closePes, unitOf, openBytes, carriedUnits, carriedSoFar, rule31, rule34, rule8, payloadRules, pesRules, after24, packetRules}
 use Rattle.packet.specs.Header.{packets}
-use Rattle.segment_rules.specs.Check.{Accepted, Outputs, Progress, outputsOf, roomsOf, lengths, timesInTurn, holding, start, run, mostPackets, accepted, ending, checkSegment}
+use Rattle.segment_rules.specs.Check.{Accepted, Outputs, Progress, outputsOf, roomsOf, lengths, timesInTurn, holding, holdingFirsts, start, run, mostPackets, accepted, ending, checkSegment}
 use Rattle.segment_rules.specs.Named.{Named}
 use Rattle.tables.specs.declared.state.Packet.{Packet}
 use Rattle.tables.specs.declared.state.Outcome.{Outcome}
@@ -110,6 +111,17 @@ ClosingTurn e now r after =
     (before : Outputs) (x : state.Extraction) → UnitsStand before now e x
     → Turns (r .outcome) (closePes x) (UnitsStand before after (r .extraction))
 
+-- ---- the packets that began the units
+-- the packet that began the open PES
+abbrev pub firstOf : PesSeen → ℕ
+firstOf seen.Closed = 0
+firstOf (seen.Open f) = f .first
+
+-- where a unit more has closed since, it stands in the unit's place, if the list has it
+abbrev pub firstNoted : Extraction → Extraction → List ℕ → List ℕ
+firstNoted e e′ firsts = pick (ltb (e .units) (e′ .units)) (set firsts (e .units) (firstOf (e .pes))) firsts
+
+-- ---- an AV1 payload
 -- w is the payload of packet p, which has this payload start
 pub record PayloadOf (p : Bytes) (startFlag : Bool) (w : Bytes) : Type 0 where
   pub carries : hasPayload p ≡ true
@@ -189,6 +201,12 @@ module _ (edition : Edition) (segment : Bytes) where
       Turns (r .outcome) (run edition (roomsOf before) start (packets segment))
       (λ g. StateStands edition segment before now (r .tables) (r .extraction) (g .state) × (r .totals ≡ g .totals))
 
+  -- where they passed, the list that was `old` at first holds the first packets of the units so far
+  abbrev pub RunFirsts : Rooms → List ℕ → List ℕ → Type 0
+  RunFirsts rooms old firsts =
+      (g : Progress) → run edition rooms start (packets segment) ≡ verdict.passed g
+      → firsts ≡ holdingFirsts (g .state .extraction .units) old
+
 -- there is room for one more packet in each total
 abbrev pub CountsUpTo : Totals → Type 0
 CountsUpTo t = packetCount t < mostPackets
@@ -211,12 +229,21 @@ AnswerTurn before v (checked.Refused r) now = Turns (Refused r) v (λ a. ⊥)
 abbrev pub CheckedTurn : Edition → Outputs → Verdict Accepted → Checked → Outputs → Type 0
 CheckedTurn edition before v r now = AnswerTurn before v (r .answer) now × (r .map ≡ mapAfter edition v)
 
+-- where it accepts, the list that was `old` at first holds the first packets of the units
+abbrev pub AcceptedFirsts : List ℕ → Verdict Accepted → List ℕ → Type 0
+AcceptedFirsts old v firsts = (a : Accepted) → v ≡ verdict.passed a → firsts ≡ holdingFirsts (a .units) old
+
 -- after so many packets
 abbrev pub EndTurn : Edition → Ran → ℕ → Outputs → Checked → Outputs → Type 0
 EndTurn edition ran count now r after =
     (segment : Bytes) (before : Outputs) (g : Progress) → count ≡ g .index → ran .totals ≡ g .totals
     → StateStands edition segment before now (ran .tables) (ran .extraction) (g .state)
     → CheckedTurn edition before (ending g) r after
+
+abbrev pub EndFirsts : Ran → Outputs → List ℕ → List ℕ → Type 0
+EndFirsts ran now firsts after =
+    (before : Outputs) (g : Progress) (old : List ℕ) → UnitsStand before now (ran .extraction) (g .state .extraction)
+    → firsts ≡ holdingFirsts (g .state .extraction .units) old → AcceptedFirsts old (ending g) after
 
 -- the whole segment
 abbrev pub WholeTurn : Edition → Bytes → Outputs → Checked → Outputs → Type 0

@@ -12,6 +12,8 @@ ghost use Rattle.segment_rules.specs.Rules.{lengthDiffers};
 ghost use Rattle.segment_rules.specs.Check.{outputsOf};
 ghost use Rattle.segment.specs.Parts.{
   freshExtraction,
+  firstOf,
+  firstNoted,
   roomsIn,
   Fits,
   openPes,
@@ -162,6 +164,32 @@ pub(crate) fn close(
         extraction: closed,
         outcome: Outcome::Passed,
     }
+}
+
+// The packet that began the open PES; 0 where none is open.
+fn first_of(pes: PesSeen) -> usize
+    ensures { λ r. ⌜ r ≡ firstOf pes ⌝ }
+{
+    match pes {
+        PesSeen::Closed => 0,
+        PesSeen::Open(found) => found.first,
+    }
+}
+
+// Where a unit more has closed since, the packet that began it was that of the PES which was open: it is put in the
+// unit's place, if the list has it.
+pub(crate) fn note_first(before: Extraction, after: Extraction, firsts: &mut [usize])
+    ensures { λ _. ⌜ now (firsts .exit) ≡ firstNoted before after (now (firsts .entry)) ⌝ }
+{
+    let unit = before.units;
+    if after.units <= unit {
+        return;
+    }
+    if firsts.len() <= unit {
+        return;
+    }
+    let pes = before.pes;
+    firsts[unit] = first_of(pes);
 }
 
 // Whether a PES may open with so many bytes, no other being open; 31, 34, 8.

@@ -100,13 +100,15 @@ fn clear_times(times: &mut [u64])
     }
 }
 
-// Zeros throughout the three outputs.
-pub(crate) fn clear(out: &mut [u8], lens: &mut [usize], times: &mut [u64])
+// Zeros throughout the three outputs and the list of first packets.
+pub(crate) fn clear(out: &mut [u8], lens: &mut [usize], times: &mut [u64], firsts: &mut [usize])
     ensures { λ _. ⌜ now (out .exit) ≡ zeros (now (out .entry)) ⌝ }
     ensures { λ _. ⌜ now (lens .exit) ≡ zeros (now (lens .entry)) ⌝ }
     ensures { λ _. ⌜ now (times .exit) ≡ zeros (now (times .entry)) ⌝ }
+    ensures { λ _. ⌜ now (firsts .exit) ≡ zeros (now (firsts .entry)) ⌝ }
 {
     clear_bytes(out);
     clear_lens(lens);
     clear_times(times);
+    clear_lens(firsts);
 }

@@ -3,13 +3,32 @@ ghost use mathlib.Core.Path.{_≡_};
 ghost use mathlib.Core.Bool.{false};
 ghost use Rattle.descriptor.specs.Edition.{Edition as Edition·rules};
 ghost use Rattle.descriptor.specs.Naming.{editionSays};
-ghost use Rattle.segment_rules.specs.Check.{outputsOf, segmentLengthWrong, roomsOf, outputsAfter, checkSegment, checkIn};
+ghost use Rattle.segment_rules.specs.Check.{
+  outputsOf,
+  segmentLengthWrong,
+  roomsOf,
+  outputsAfter,
+  firstsAfter,
+  checkSegment,
+  checkIn,
+};
 ghost use Rattle.pmt.specs.Answer.{noMap};
 ghost use Rattle.segment.specs.Answer.{summarised, mapAfter, checking, mapChecked, checkSays};
-ghost use Rattle.segment.specs.Parts.{roomsIn, Fits, AcceptTurn, EndTurn, RunTurn, WholeTurn};
+ghost use Rattle.segment.specs.Parts.{
+  roomsIn,
+  Fits,
+  AcceptTurn,
+  EndTurn,
+  RunTurn,
+  WholeTurn,
+  RunFirsts,
+  EndFirsts,
+  AcceptedFirsts,
+};
 use crate::extraction::Extraction;
 use crate::extraction::close;
 use crate::extraction::fresh_extraction;
+use crate::extraction::note_first;
 use crate::outputs::clear;
 use crate::packets::count_packet;
 use crate::packets::step;
@@ -80,11 +99,15 @@ fn run(
     out: &mut [u8],
     lens: &mut [usize],
     times: &mut [u64],
+    firsts: &mut [usize],
 ) -> Ran
     requires { ⌜ segmentLengthWrong (now segment) ≡ false ⌝ }
     ensures { λ r. ⌜ RunTurn (editionSays edition) (now (segment .entry))
         (outputsOf (now (out .entry)) (now (lens .entry)) (now (times .entry))) r
         (outputsOf (now (out .exit)) (now (lens .exit)) (now (times .exit))) ⌝ }
+    ensures { λ _. ⌜ RunFirsts (editionSays edition) (now (segment .entry))
+        (roomsIn (now (out .entry)) (now (lens .entry)) (now (times .entry))) (now (firsts .entry))
+        (now (firsts .exit)) ⌝ }
 {
     let count = segment.len() / PACKET_LENGTH;
     let mut tables = fresh_tables(edition);
@@ -103,8 +126,10 @@ fn run(
             };
         };
         let kind = stepped.kind;
+        let next = stepped.extraction;
+        note_first(extraction, next, firsts);
         tables = stepped.tables;
-        extraction = stepped.extraction;
+        extraction = next;
         totals = count_packet(kind, totals);
         index += 1;
     }
@@ -154,11 +179,20 @@ fn accept(tables: Tables, units: usize, packets: usize, totals: Totals) -> Check
 }
 
 // After the last packet the open PES closes, then 33.
-fn finish(ran: Ran, packets: usize, out: &[u8], lens: &mut [usize], times: &mut [u64]) -> Checked
+fn finish(
+    ran: Ran,
+    packets: usize,
+    out: &[u8],
+    lens: &mut [usize],
+    times: &mut [u64],
+    firsts: &mut [usize],
+) -> Checked
     requires { ⌜ Fits (ran .extraction) (roomsIn (now out) (now lens) (now times)) ⌝ }
     ensures { λ r. ⌜ ((edition : Edition·rules) → EndTurn edition ran packets
         (outputsOf (now (out .entry)) (now (lens .entry)) (now (times .entry))) r
         (outputsOf (now (out .entry)) (now (lens .exit)) (now (times .exit)))) ⌝ }
+    ensures { λ _. ⌜ EndFirsts ran (outputsOf (now (out .entry)) (now (lens .entry)) (now (times .entry)))
+        (now (firsts .entry)) (now (firsts .exit)) ⌝ }
 {
     let last = ran.extraction;
     let closed = close(last, out, lens, times);
@@ -167,6 +201,7 @@ fn finish(ran: Ran, packets: usize, out: &[u8], lens: &mut [usize], times: &mut 
         Outcome::Refused(refused) => refuse(refused),
         Outcome::Passed => {
             let extraction = closed.extraction;
+            note_first(last, extraction, firsts);
             let tables = ran.tables;
             let totals = ran.totals;
             accept(tables, extraction.units, packets, totals)
@@ -181,19 +216,23 @@ fn judge(
     out: &mut [u8],
     lens: &mut [usize],
     times: &mut [u64],
+    firsts: &mut [usize],
 ) -> Checked
     ensures { λ r. ⌜ WholeTurn (editionSays edition) (now (segment .entry))
         (outputsOf (now (out .entry)) (now (lens .entry)) (now (times .entry))) r
         (outputsOf (now (out .exit)) (now (lens .exit)) (now (times .exit))) ⌝ }
+    ensures { λ _. ⌜ AcceptedFirsts (now (firsts .entry)) (checkSegment (editionSays edition)
+        (roomsOf (outputsOf (now (out .entry)) (now (lens .entry)) (now (times .entry)))) (now (segment .entry)))
+        (now (firsts .exit)) ⌝ }
 {
     if length_wrong(segment) {
         return refuse(Refusal::SEGMENT_LENGTH.at(0));
     }
-    let ran = run(edition, segment, out, lens, times);
+    let ran = run(edition, segment, out, lens, times, firsts);
     let outcome = ran.outcome;
     match outcome {
         Outcome::Refused(refused) => refuse(refused),
-        Outcome::Passed => finish(ran, segment.len() / PACKET_LENGTH, out, lens, times),
+        Outcome::Passed => finish(ran, segment.len() / PACKET_LENGTH, out, lens, times, firsts),
     }
 }
 
@@ -204,6 +243,7 @@ fn check_in(
     out: &mut [u8],
     lens: &mut [usize],
     times: &mut [u64],
+    firsts: &mut [usize],
 ) -> Checked
     ensures { λ r. ⌜ checkSays (r .answer) ≡ summarised (checkSegment (editionSays edition)
         (roomsOf (outputsOf (now (out .entry)) (now (lens .entry)) (now (times .entry)))) (now (segment .entry))) ⌝ }
@@ -213,26 +253,31 @@ fn check_in(
         ≡ outputsAfter (checkSegment (editionSays edition)
         (roomsOf (outputsOf (now (out .entry)) (now (lens .entry)) (now (times .entry)))) (now (segment .entry)))
         (outputsOf (now (out .entry)) (now (lens .entry)) (now (times .entry))) ⌝ }
+    ensures { λ _. ⌜ now (firsts .exit) ≡ firstsAfter (checkSegment (editionSays edition)
+        (roomsOf (outputsOf (now (out .entry)) (now (lens .entry)) (now (times .entry)))) (now (segment .entry)))
+        (now (firsts .entry)) ⌝ }
 {
-    let checked = judge(edition, segment, out, lens, times);
+    let checked = judge(edition, segment, out, lens, times, firsts);
     let answer = checked.answer;
     match answer {
         SegmentCheck::Accepted(_) => checked,
         SegmentCheck::Refused(_) => {
-            clear(out, lens, times);
+            clear(out, lens, times, firsts);
             checked
         }
     }
 }
 
 // The check of a segment in the edition of this number: its units over the front of out, their lengths over the front
-// of lens, their times in turn over the front of times; where the segment is refused, zeros throughout all three.
+// of lens, their times in turn over the front of times, and the packets that began them over the front of firsts, as
+// many as it has room for; where the segment is refused, zeros throughout all four.
 pub fn check(
     edition: u64,
     segment: &[u8],
     out: &mut [u8],
     lens: &mut [usize],
     times: &mut [u64],
+    firsts: &mut [usize],
 ) -> Checked
     ensures { λ r. ⌜ checkSays (r .answer) ≡ checking edition
         (roomsOf (outputsOf (now (out .entry)) (now (lens .entry)) (now (times .entry)))) (now (segment .entry)) ⌝ }
@@ -242,12 +287,15 @@ pub fn check(
         ≡ outputsAfter (checkIn edition
         (roomsOf (outputsOf (now (out .entry)) (now (lens .entry)) (now (times .entry)))) (now (segment .entry)))
         (outputsOf (now (out .entry)) (now (lens .entry)) (now (times .entry))) ⌝ }
+    ensures { λ _. ⌜ now (firsts .exit) ≡ firstsAfter (checkIn edition
+        (roomsOf (outputsOf (now (out .entry)) (now (lens .entry)) (now (times .entry)))) (now (segment .entry)))
+        (now (firsts .entry)) ⌝ }
 {
     let named = Edition::named(edition);
     match named {
-        Named::Edition(known) => check_in(known, segment, out, lens, times),
+        Named::Edition(known) => check_in(known, segment, out, lens, times, firsts),
         Named::Refused(unknown) => {
-            clear(out, lens, times);
+            clear(out, lens, times, firsts);
             refuse(unknown)
         }
     }

@@ -86,7 +86,8 @@ fn main() {
     let mut out = unit_buffer();
     let mut lens = [0usize; MOST_UNITS];
     let mut times = [0u64; 2048];
-    let checked = segment::check(0, &bytes[..n], &mut out, &mut lens, &mut times);
+    let mut none: [usize; 0] = [];
+    let checked = segment::check(0, &bytes[..n], &mut out, &mut lens, &mut times, &mut none);
     let answer = checked.answer;
     match answer {
         SegmentCheck::Refused(refused) => print_refused(refused),

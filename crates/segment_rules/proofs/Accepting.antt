@@ -6,7 +6,7 @@ use Prim.Native.Nat.{ℕ, zero, suc, _+_, _<_, _≤_, _/_, _^_}
 use mathlib.Core.Bool.{Bool, true, false, not, _&&_}
 use mathlib.Core.Path.{_≡_, refl, sym, ap, _∙_, subst}
 use mathlib.Core.Logic.{_⊎_, inl, inr}
-use mathlib.Core.List.{List, [], _∷_, _++_, map, append-nil, map-append}
+use mathlib.Core.List.{List, [], _∷_, _++_, append-nil, map-append}
 use mathlib.Core.Option.{Option, none, some}
 use native.Mathlib.Omega.{arith}
 use borrow.Author.Tests.{ltb-false, eqb-true, not-false}
@@ -27,7 +27,7 @@ use Rattle.pmt.proofs.Passed.{Octets, octets-drop, octets-take}
 use Rattle.unit.specs.Unit.{mostCarried, readUnit}
 use Rattle.segment_rules.specs.State.{OpenPes, AccessUnit, Extraction}
 use Rattle.segment_rules.specs.Rules.{Rooms, lengthDiffers, unitOf}
-use Rattle.segment_rules.specs.Check.{Accepted, checkSegment}
+use Rattle.segment_rules.specs.Check.{Accepted, firstPackets, checkSegment}
 use Rattle.segment_rules.proofs.Moving.{Moved, stays, starting, adding, Closes}
 use Rattle.segment_rules.proofs.Moving.{none-open, one-open, close-passed, Kept, accepted-keeps}
 use Rattle.segment_rules.proofs.Running.{length-packets}
@@ -54,9 +54,6 @@ Ascending (n ∷ l) = All (λ m. n < m) l × Ascending l
 ascending-and : (l : List ℕ) (n : ℕ) → Ascending l → All (λ m. m < n) l → Ascending (l ++ (n ∷ []))
 ascending-and [] n a h = (tt, tt)
 ascending-and (m ∷ l) n a h = (all-and-one (λ k. m < k) l n (a .0) (h .0), ascending-and l n (a .1) (h .1))
-
-abbrev pub firstsOf : List AccessUnit → List ℕ
-firstsOf units = map (λ u. u .first) units
 
 -- ---- bytes
 octets-none : Octets []
@@ -157,7 +154,7 @@ module _ (edition : Edition) where
   record RightUpTo (ps : List Bytes) (x : Extraction) : Type 0 where
     units : All (UnitRight ps) (x .units)
     pes : OpenRight ps (x .pes)
-    ascend : Ascending (firstsOf (x .units) ++ openFirst (x .pes))
+    ascend : Ascending (firstPackets (x .units) ++ openFirst (x .pes))
 
   -- the closing adds the unit of the open PES
   closed : (ps : List Bytes) (x x′ : Extraction) → RightUpTo ps x → Closes x x′ → RightUpTo ps x′ × (x′ .pes ≡ none)
@@ -176,8 +173,8 @@ module _ (edition : Edition) where
           pes = tt;
           ascend =
               subst Ascending
-              (ap (λ (z : Option OpenPes). firstsOf (x .units) ++ openFirst z) at
-              ∙ sym (append-nil (firstsOf (x .units ++ (unitOf o ∷ [])))
+              (ap (λ (z : Option OpenPes). firstPackets (x .units) ++ openFirst z) at
+              ∙ sym (append-nil (firstPackets (x .units ++ (unitOf o ∷ [])))
               ∙ map-append (λ (u : AccessUnit). u .first) (x .units) (unitOf o ∷ [])))
               (r .ascend);
         },
@@ -192,7 +189,7 @@ module _ (edition : Edition) where
       open-longer none h = tt
       open-longer (some o) h = began-longer ps p (o .first) (o .header) h
 
-  firsts-below : (ps : List Bytes) (units : List AccessUnit) → All (UnitRight ps) units → All (λ n. n < length ps) (firstsOf units)
+  firsts-below : (ps : List Bytes) (units : List AccessUnit) → All (UnitRight ps) units → All (λ n. n < length ps) (firstPackets units)
   firsts-below ps [] h = tt
   firsts-below ps (u ∷ units) h = (h .0 .began .within, firsts-below ps units (h .1))
 
@@ -215,9 +212,9 @@ module _ (edition : Edition) where
                 timed = rw e (s .times);
               };
           ascend =
-              ascending-and (firstsOf (s .closed .units)) (length ps)
-              (subst Ascending (ap (λ (z : Option OpenPes). firstsOf (s .closed .units) ++ openFirst z) (k .1)
-              ∙ append-nil (firstsOf (s .closed .units))) (k .0 .ascend))
+              ascending-and (firstPackets (s .closed .units)) (length ps)
+              (subst Ascending (ap (λ (z : Option OpenPes). firstPackets (s .closed .units) ++ openFirst z) (k .1)
+              ∙ append-nil (firstPackets (s .closed .units))) (k .0 .ascend))
               (firsts-below ps (s .closed .units) (k .0 .units));
         })
     moved ps p x x′ r (adding a) =
@@ -226,7 +223,7 @@ module _ (edition : Edition) where
         (record {
           units = c .units;
           pes = subst (OpenRight (ps ++ (p ∷ []))) (a .there) (c .pes);
-          ascend = subst Ascending (ap (λ (z : Option OpenPes). firstsOf (x .units) ++ openFirst z) (a .there)) (c .ascend);
+          ascend = subst Ascending (ap (λ (z : Option OpenPes). firstPackets (x .units) ++ openFirst z) (a .there)) (c .ascend);
         })
 
     -- ---- an accepted segment
@@ -269,14 +266,14 @@ module _ (edition : Edition) where
           units-right
 
       -- the packets that began the units ascend, and are packets of the segment
-      pub firsts-ascend : Ascending (firstsOf (a .units))
+      pub firsts-ascend : Ascending (firstPackets (a .units))
       firsts-ascend =
           subst Ascending
-          (ap (λ (z : Option OpenPes). firstsOf (kept .last .units) ++ openFirst z) (ended .1) ∙ append-nil (firstsOf (kept .last .units))
-          ∙ ap firstsOf (sym (kept .units)))
+          (ap (λ (z : Option OpenPes). firstPackets (kept .last .units) ++ openFirst z) (ended .1)
+          ∙ append-nil (firstPackets (kept .last .units)) ∙ ap firstPackets (sym (kept .units)))
           (ended .0 .ascend)
 
-      pub firsts-within : All (λ n. n < length s / packetLength) (firstsOf (a .units))
+      pub firsts-within : All (λ n. n < length s / packetLength) (firstPackets (a .units))
       firsts-within =
-          subst (λ (n : ℕ). All (λ m. m < n) (firstsOf (a .units))) (length-packets (length s / packetLength) s)
+          subst (λ (n : ℕ). All (λ m. m < n) (firstPackets (a .units))) (length-packets (length s / packetLength) s)
           (firsts-below (packets s) (a .units) units-right)

@@ -15,6 +15,7 @@ pub mod Comparing
 pub mod Contents
 pub mod Examples
 pub mod Moving
+pub mod Growing
 pub mod Fitting
 pub mod Outputs
 pub mod Clocks

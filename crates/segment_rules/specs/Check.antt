@@ -4,7 +4,7 @@ use mathlib.Core.Bool.{Bool, not, _||_}
 use mathlib.Core.List.{List, [], _∷_, map, flatten}
 use mathlib.Core.Option.{Option, none, some}
 use lib.Dec.{eqb, ltb}
-use lib.ListN.{length, replicate}
+use lib.ListN.{length, take, replicate}
 use Rattle.lists.specs.Lists.{Bytes, over}
 use Rattle.refusal.specs.Verdict.{Verdict, NoValue, passed, refused, _>>=_, _>>_, given}
 use Rattle.descriptor.specs.Edition.{Edition, editionOf}
@@ -138,3 +138,17 @@ cleared o = record { bytes = zeros (o .bytes); lens = zeros (o .lens); times = z
 unfoldable pub outputsAfter : Verdict Accepted → Outputs → Outputs
 outputsAfter (passed a) o = holding (a .units) o
 outputsAfter (refused number place) o = cleared o
+
+-- ---- the packets that began the units
+-- 2026-09: "units (first packet, ..)"
+abbrev pub firstPackets : List AccessUnit → List ℕ
+firstPackets units = map (λ u. u .first) units
+
+-- those of these units over the front of a list, as many as there is room for: 8 does not look at this list
+abbrev pub holdingFirsts : List AccessUnit → List ℕ → List ℕ
+holdingFirsts units o = over (take (length o) (firstPackets units)) o
+
+-- the list after the check
+unfoldable pub firstsAfter : Verdict Accepted → List ℕ → List ℕ
+firstsAfter (passed a) o = holdingFirsts (a .units) o
+firstsAfter (refused number place) o = zeros o

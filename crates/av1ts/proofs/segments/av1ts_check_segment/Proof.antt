@@ -5,6 +5,9 @@ use Rattle.av1ts.specs.Answers.{segmentAnswer}
 use Rattle.av1ts.proofs.segments.av1ts_check_segment.Statement.{statement}
 use Rattle.av1ts.proofs.segments.av1ts_check_segment.Tie as tie
 
+slice-aggregate-check : tie.Need-slice-aggregate-check
+slice-aggregate-check c = search needs
+
 check-requires : tie.Need-check-requires
 check-requires c κs = search needs
 
@@ -22,13 +25,14 @@ same-length-3 c = search needs
 
 returns : tie.Need-returns
 returns c =
-    let e = c .before .before .before .before .before .before .before .check .ensures in
-    (c .segment-answer .ensures ∙ ap segmentAnswer (e .0), e .1 .1)
+    let e = c .before .before .before .before .before .before .before .before .check .ensures in
+    (c .segment-answer .ensures ∙ ap segmentAnswer (e .0), e .1 .1 .0)
 
 pub av1ts-check-segment-spec : {M : Type 1} → statement M
 av1ts-check-segment-spec =
     tie.close
     (tie.spec
+    slice-aggregate-check
     check-requires
     segment-answer-requires
     same-length

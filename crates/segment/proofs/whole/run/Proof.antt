@@ -4,22 +4,25 @@ use native.Mathlib.Omega.{arith}
 use Prim.Native.Nat.{_-_}
 use mathlib.Core.Path.{refl, subst, _∙_}
 use Rattle.descriptor.specs.Naming.{editionSays}
-use Rattle.segment_rules.specs.Check.{outputsOf}
+use Rattle.segment_rules.specs.Check.{outputsOf, roomsOf}
 use Rattle.tables.specs.declared.state.Outcome.the-variants.{Passed}
 use Rattle.tables.specs.declared.tables.Tables.{Tables}
 use Rattle.segment.specs.declared.whole.Ran.{Ran}
-use Rattle.segment.specs.Parts.{RunTurn}
+use Rattle.segment.specs.Parts.{RunTurn, RunFirsts}
 use Rattle.segment.proofs.Holding.{same-bytes, same-lens, same-times, stands-fits}
-use Rattle.segment.proofs.Looping.{count-within, Running, begins, goes-on, stops-there, comes-to-end}
+use Rattle.segment.proofs.Firsts.{firsts-length}
+use Rattle.segment.proofs.Looping.{count-within, Running, begins, goes-on, stops-there, none-noted, comes-to-end, all-noted}
 use Rattle.segment.proofs.whole.run.Statement.{statement}
 use Rattle.segment.proofs.whole.run.Tie as tie
 
 abbrev Inv-loop : tie.InvT-loop
-Inv-loop segment out₀ lens₀ times₀ count tables₀ extraction₀ totals₀ index₀ out lens times tables extraction totals index =
-    Running (editionSays (tables₀ .edition)) segment (outputsOf out₀ lens₀ times₀) (outputsOf out lens times) tables extraction totals index
+Inv-loop segment out₀ lens₀ times₀ firsts₀ count tables₀ extraction₀ totals₀ index₀ out lens times firsts tables extraction totals index =
+    Running (editionSays (tables₀ .edition)) segment (outputsOf out₀ lens₀ times₀) (outputsOf out lens times) firsts₀ firsts tables
+    extraction totals index
 
 abbrev μ-loop : tie.MeasureT-loop
-μ-loop segment out₀ lens₀ times₀ count tables₀ extraction₀ totals₀ index₀ out lens times tables extraction totals index = count - index
+μ-loop segment out₀ lens₀ times₀ firsts₀ count tables₀ extraction₀ totals₀ index₀ out lens times firsts tables extraction totals index =
+    count - index
 
 fresh-tables-requires : tie.Need-fresh-tables-requires Inv-loop μ-loop
 fresh-tables-requires c κs = search needs
@@ -32,14 +35,16 @@ none-yet-requires c κs = search needs
 
 loop-holds : tie.Need-loop-holds Inv-loop μ-loop
 loop-holds c =
-    let a = c .before .before .before .before .before .before .before .args in
-    begins _ (a .segment .now) (outputsOf (a .out .now) (a .lens .now) (a .times .now)) _ _ _
+    let a = c .before .before .before .before .before .before .before .before .args in
+    begins _ (a .segment .now) (outputsOf (a .out .now) (a .lens .now) (a .times .now)) (a .firsts .now) _ _ _
     (c .before .before .fresh-tables .ensures) (c .before .fresh-extraction .ensures) (c .none-yet .ensures)
 
 step-requires : tie.Need-step-requires Inv-loop μ-loop
-step-requires c κs =
-    let l = c .before .before .before .before .loop in
-    (omega (arith, c .before .before .before .loop-test .taken), stands-fits (l .inv .stands .extraction))
+step-requires c κs = (
+  omega (arith, c .before .before .before .loop-test .taken),
+  stands-fits (c .before .before .before .before .loop .inv .stands
+      .extraction),
+)
 
 enum-told : tie.Need-enum-told Inv-loop μ-loop
 enum-told c = search needs
@@ -49,56 +54,78 @@ enum-told-2 c = search needs
 
 same-length : tie.Need-same-length Inv-loop μ-loop
 same-length c =
-    c .before .before .before .before .before .before .before .before .step .kept .1 .1 .1 .1 .0 ∙ same-bytes
-    (c .before .before .before .before .before .before .before .before .before .before .before .before .before .loop .inv .stands
-    .extraction)
+    c .before .before .before .before .before .before .before .before .step .kept .1 .1 .1 .1 .0 ∙ same-bytes (c .before .before .before
+    .before .before .before .before .before .before .before .before .before .before .loop .inv .stands .extraction)
 
 same-length-2 : tie.Need-same-length-2 Inv-loop μ-loop
 same-length-2 c =
-    c .before .before .before .before .before .before .before .before .step .kept .1 .1 .1 .1 .1 .0 ∙ same-lens
-    (c .before .before .before .before .before .before .before .before .before .before .before .before .before .loop .inv .stands
-    .extraction)
+    c .before .before .before .before .before .before .before .before .step .kept .1 .1 .1 .1 .1 .0 ∙ same-lens (c .before .before
+    .before .before .before .before .before .before .before .before .before .before .before .loop .inv .stands .extraction)
 
 same-length-3 : tie.Need-same-length-3 Inv-loop μ-loop
 same-length-3 c =
-    c .before .before .before .before .before .before .before .before .step .kept .1 .1 .1 .1 .1 .1 .0 ∙ same-times
-    (c .before .before .before .before .before .before .before .before .before .before .before .before .before .loop .inv .stands
-    .extraction)
+    c .before .before .before .before .before .before .before .before .step .kept .1 .1 .1 .1 .1 .1 .0 ∙ same-times (c .before .before
+    .before .before .before .before .before .before .before .before .before .before .before .loop .inv .stands .extraction)
+
+same-length-4 : tie.Need-same-length-4 Inv-loop μ-loop
+same-length-4 c =
+    let a = c .before .before .before .before .before .before .before .before .before .before .before .before .before .before .before
+    .before .before .before .before .before .before .before .args in
+    let l = c .before .before .before .before .before .before .before .before .before .before .before .before .before .loop in
+    firsts-length (a .firsts .now) (l .firsts) (l .inv .state .extraction .units) (l .inv .noted)
 
 returns : tie.Need-returns Inv-loop μ-loop
 returns c =
-    let a = c .before .before .before .before .before .before .before .before .before .before .before .before .before .before .before .before .before .before .before .before .before .args in
+    let a = c .before .before .before .before .before .before .before .before .before .before .before .before .before .before .before
+    .before .before .before .before .before .before .before .args in
     let l = c .before .before .before .before .before .before .before .before .before .before .before .before .before .loop in
     let done = c .before .before .before .before .before .before .before .before .step in
     let before = outputsOf (a .out .now) (a .lens .now) (a .times .now) in
+    let here = outputsOf (l .out) (l .lens) (l .times) in
     let last = outputsOf (done .last .1 .1 .1 .1 .0) (done .last .1 .1 .1 .1 .1 .0) (done .last .1 .1 .1 .1 .1 .1 .0) in
     let ran : Ran = record { tables = l .tables; extraction = l .extraction; totals = l .totals; outcome = done .result .outcome } in
-    subst (λ (x : Tables). RunTurn (editionSays (x .edition)) (a .segment .now) before ran last) (c .before .before .before .before .before .before .before .before .before .before .before .before .before .before .before .before .fresh-tables .ensures)
-    (stops-there _ (a .segment .now) before (outputsOf (l .out) (l .lens) (l .times)) (l .tables) (l .extraction) (l .totals)
-    (l .index) (l .inv) (c .before .before .before .before .before .before .before .before .before .before .before .before .loop-test .taken) (done .result) last (done .ensures _) _ (c .enum-told2 .given .1) ran last refl)
+    subst (λ (x : Tables). RunTurn (editionSays (x .edition)) (a .segment .now) before ran last
+    × RunFirsts (editionSays (x .edition)) (a .segment .now) (roomsOf before) (a .firsts .now) (l .firsts)) (c .before .before .before
+    .before .before .before .before .before .before .before .before .before .before .before .before .before .fresh-tables .ensures) (
+      stops-there _ (a .segment .now) before here (a .firsts .now) (l .firsts) (l .tables) (l .extraction) (l .totals) (l .index) (l .inv)
+          (c .before .before .before .before .before .before .before .before .before .before .before .before .loop-test .taken) (done
+          .result) last (done .ensures _) _
+          (c .enum-told2 .given .1) ran last refl,
+      none-noted _ (a .segment .now) before here (a .firsts .now) (l .firsts) (l .tables) (l .extraction) (l .totals) (l .index) (l .inv)
+          (c .before .before .before .before .before .before .before .before .before .before .before .before .loop-test .taken) (done
+          .result) last (done .ensures _) _
+          (c .enum-told2 .given .1) (l .firsts),
+    )
+
+note-first-requires : tie.Need-note-first-requires Inv-loop μ-loop
+note-first-requires c κs = search needs
 
 count-packet-requires : tie.Need-count-packet-requires Inv-loop μ-loop
 count-packet-requires c κs =
-    let begin = c .before .before .before .before .before .before .before .before .before .before .before .before .before .before .before
-    .before .before .before .before .before .before .before .before in
     omega (
       arith,
-      c .before .before .before .before .before .before .before .before .before .before .before .before .before .before .before
-          .loop .inv .counts,
-      c .before .before .before .before .before .before .before .before .before .before .before .before .before .before
-          .loop-test .taken,
-      count-within (begin .args .segment .now) (begin .pre),
+      c .before .before .before .before .before .before .before .before .before .before .before .before .before .before .before .before
+          .before .before .before .loop .inv .counts,
+      c .before .before .before .before .before .before .before .before .before .before .before .before .before .before .before .before
+          .before .before .loop-test .taken,
+      count-within (c .before .before .before .before .before .before .before .before .before .before .before .before .before .before
+          .before .before .before .before .before .before .before .before .before .before .before .before .before .before .args .segment
+          .now)
+          (c .before .before .before .before .before .before .before .before .before .before .before .before .before .before .before
+          .before .before .before .before .before .before .before .before .before .before .before .before .before .pre),
     )
 
 add-index : tie.Need-add-index Inv-loop μ-loop
 add-index c =
-    let begin = c .before .before .before .before .before .before .before .before .before .before .before .before .before .before .before
-    .before .before .before .before .before .before .before .before .before in
     omega (
       arith,
-      c .before .before .before .before .before .before .before .before .before .before .before .before .before .before .before
-          .loop-test .taken,
-      count-within (begin .args .segment .now) (begin .pre),
+      c .before .before .before .before .before .before .before .before .before .before .before .before .before .before .before .before
+          .before .before .before .loop-test .taken,
+      count-within (c .before .before .before .before .before .before .before .before .before .before .before .before .before .before
+          .before .before .before .before .before .before .before .before .before .before .before .before .before .before .before .args
+          .segment .now)
+          (c .before .before .before .before .before .before .before .before .before .before .before .before .before .before .before
+          .before .before .before .before .before .before .before .before .before .before .before .before .before .before .pre),
     )
 
 loop-less : tie.Need-loop-less Inv-loop μ-loop
@@ -107,35 +134,51 @@ loop-less c = search needs
 loop-again : tie.Need-loop-again Inv-loop μ-loop
 loop-again c =
     let a = c .before .before .before .before .before .before .before .before .before .before .before .before .before .before .before
-    .before .before .before .before .before .before .before .before .before .args in
+    .before .before .before .before .before .before .before .before .before .before .before .before .before .before .args in
     let l = c .before .before .before .before .before .before .before .before .before .before .before .before .before .before .before
-    .before .loop in
-    let done = c .before .before .before .before .before .before .before .before .before .before .before .step in
+    .before .before .before .before .before .loop in
+    let done = c .before .before .before .before .before .before .before .before .before .before .before .before .before .before .before
+    .step in
     let before = outputsOf (a .out .now) (a .lens .now) (a .times .now) in
-    goes-on _ (a .segment .now) before (outputsOf (l .out) (l .lens) (l .times)) (l .tables) (l .extraction) (l .totals) (l .index)
-    (l .inv) (c .before .before .before .before .before .before .before .before .before .before .before .before .before .before .before
-    .loop-test .taken) (done .result)
+    goes-on _ (a .segment .now) before (outputsOf (l .out) (l .lens) (l .times)) (a .firsts .now) (l .firsts) (l .tables) (l .extraction)
+    (l .totals) (l .index) (l .inv)
+    (c .before .before .before .before .before .before .before .before .before .before .before .before .before .before .before .before
+    .before .before .before .loop-test .taken) (done .result)
     (outputsOf (done .last .1 .1 .1 .1 .0) (done .last .1 .1 .1 .1 .1 .0) (done .last .1 .1 .1 .1 .1 .1 .0)) (done .ensures _)
-    (c .before .before .before .enum-told .given .1) _ (c .count-packet .ensures)
-
-same-length-4 : tie.Need-same-length-4 Inv-loop μ-loop
-same-length-4 c = same-bytes (c .before .loop .inv .stands .extraction)
+    (c .before .before .before .before .before .before .before .enum-told .given .1) _ (c .count-packet .ensures) _ (c .before .before
+    .before .before .note-first .ensures)
 
 same-length-5 : tie.Need-same-length-5 Inv-loop μ-loop
-same-length-5 c = same-lens (c .before .loop .inv .stands .extraction)
+same-length-5 c = same-bytes (c .before .loop .inv .stands .extraction)
 
 same-length-6 : tie.Need-same-length-6 Inv-loop μ-loop
-same-length-6 c = same-times (c .before .loop .inv .stands .extraction)
+same-length-6 c = same-lens (c .before .loop .inv .stands .extraction)
+
+same-length-7 : tie.Need-same-length-7 Inv-loop μ-loop
+same-length-7 c = same-times (c .before .loop .inv .stands .extraction)
+
+same-length-8 : tie.Need-same-length-8 Inv-loop μ-loop
+same-length-8 c =
+    let a = c .before .before .before .before .before .before .before .before .before .before .args in
+    let l = c .before .loop in
+    firsts-length (a .firsts .now) (l .firsts) (l .inv .state .extraction .units) (l .inv .noted)
 
 returns-2 : tie.Need-returns-2 Inv-loop μ-loop
 returns-2 c =
-    let a = c .before .before .before .before .before .before .before .before .before .args in
+    let a = c .before .before .before .before .before .before .before .before .before .before .args in
     let l = c .before .loop in
     let before = outputsOf (a .out .now) (a .lens .now) (a .times .now) in
     let last = outputsOf (l .out) (l .lens) (l .times) in
     let ran : Ran = record { tables = l .tables; extraction = l .extraction; totals = l .totals; outcome = Passed } in
-    subst (λ (x : Tables). RunTurn (editionSays (x .edition)) (a .segment .now) before ran last) (c .before .before .before .before .fresh-tables .ensures)
-    (comes-to-end _ (a .segment .now) before last (l .tables) (l .extraction) (l .totals) (l .index) (l .inv) (c .loop-test .left))
+    subst (λ (x : Tables). RunTurn (editionSays (x .edition)) (a .segment .now) before ran last
+    × RunFirsts (editionSays (x .edition)) (a .segment .now) (roomsOf before) (a .firsts .now) (l .firsts)) (c .before .before .before
+    .before .fresh-tables .ensures) (
+      comes-to-end _ (a .segment .now) before last (a .firsts .now) (l .firsts) (l .tables) (l .extraction) (l .totals) (l .index) (l
+          .inv)
+          (c .loop-test .left),
+      all-noted _ (a .segment .now) before last (a .firsts .now) (l .firsts) (l .tables) (l .extraction) (l .totals) (l .index) (l .inv)
+          (c .loop-test .left),
+    )
 
 pub run-spec : {M : Type 1} → statement M
 run-spec =
@@ -153,12 +196,15 @@ run-spec =
     same-length
     same-length-2
     same-length-3
+    same-length-4
     returns
+    note-first-requires
     count-packet-requires
     add-index
     loop-less
     loop-again
-    same-length-4
     same-length-5
     same-length-6
+    same-length-7
+    same-length-8
     returns-2)
