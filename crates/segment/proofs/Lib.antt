@@ -1,4 +1,3 @@
-pub mod Clearing
 pub mod Editions
 pub mod Ending
 pub mod Extracting

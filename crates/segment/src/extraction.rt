@@ -26,12 +26,12 @@ ghost use Rattle.segment.specs.Parts.{
   PayloadTurn,
 };
 use crate::outputs::Rooms;
-use crate::outputs::copy;
 use crate::outputs::put_unit;
 use crate::outputs::time_pair;
 use crate::state::PesFound;
 use crate::state::PesSeen;
 use descriptor::Edition;
+use lists::copy;
 use lists::part;
 use lists::rest;
 use pes::Header;

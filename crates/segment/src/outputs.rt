@@ -1,10 +1,12 @@
-// The three outputs: a payload's bytes, a unit's length and times, zeros.
+// The outputs: a unit's length and times, zeros.
 ghost use mathlib.Core.Path.{_≡_};
 ghost use mathlib.Core.List.{[], _∷_};
-ghost use Prim.Native.Nat.{_+_, _*_, _≤_, _<_};
+ghost use Prim.Native.Nat.{_+_, _*_, _<_};
 ghost use lib.ListN.{length, set};
-ghost use Rattle.lists.specs.Lists.{over};
-ghost use Rattle.segment_rules.specs.Check.{ptsAndDts, zeros};
+ghost use Rattle.lists.specs.Lists.{zeros};
+ghost use Rattle.segment_rules.specs.Check.{ptsAndDts};
+use lists::clear_lengths;
+use lists::clear_numbers;
 use pes::Times;
 
 // The number that stands for a time where a unit has none: 2^33, which no time of 33 bits equals.
@@ -39,18 +41,6 @@ pub(crate) fn time_pair(times: Times) -> TimePair
     }
 }
 
-// The bytes of a payload, over the front of what is left of the output.
-pub(crate) fn copy(payload: &[u8], out: &mut [u8])
-    requires { ⌜ length (now payload) ≤ length (now out) ⌝ }
-    ensures { λ _. ⌜ now (out .exit) ≡ over (now (payload .entry)) (now (out .entry)) ⌝ }
-{
-    let mut i: usize = 0;
-    while i < payload.len() {
-        out[i] = payload[i];
-        i += 1;
-    }
-}
-
 // A unit's length and its times, PTS first, in the unit's place.
 pub(crate) fn put_unit(
     unit: usize,
@@ -70,36 +60,6 @@ pub(crate) fn put_unit(
     times[at + 1] = pair.dts;
 }
 
-fn clear_bytes(out: &mut [u8])
-    ensures { λ _. ⌜ now (out .exit) ≡ zeros (now (out .entry)) ⌝ }
-{
-    let mut i: usize = 0;
-    while i < out.len() {
-        out[i] = 0;
-        i += 1;
-    }
-}
-
-fn clear_lens(lens: &mut [usize])
-    ensures { λ _. ⌜ now (lens .exit) ≡ zeros (now (lens .entry)) ⌝ }
-{
-    let mut i: usize = 0;
-    while i < lens.len() {
-        lens[i] = 0;
-        i += 1;
-    }
-}
-
-fn clear_times(times: &mut [u64])
-    ensures { λ _. ⌜ now (times .exit) ≡ zeros (now (times .entry)) ⌝ }
-{
-    let mut i: usize = 0;
-    while i < times.len() {
-        times[i] = 0;
-        i += 1;
-    }
-}
-
 // Zeros throughout the three outputs and the list of first packets.
 pub(crate) fn clear(out: &mut [u8], lens: &mut [usize], times: &mut [u64], firsts: &mut [usize])
     ensures { λ _. ⌜ now (out .exit) ≡ zeros (now (out .entry)) ⌝ }
@@ -107,8 +67,8 @@ pub(crate) fn clear(out: &mut [u8], lens: &mut [usize], times: &mut [u64], first
     ensures { λ _. ⌜ now (times .exit) ≡ zeros (now (times .entry)) ⌝ }
     ensures { λ _. ⌜ now (firsts .exit) ≡ zeros (now (firsts .entry)) ⌝ }
 {
-    clear_bytes(out);
-    clear_lens(lens);
-    clear_times(times);
-    clear_lens(firsts);
+    lists::clear(out);
+    clear_lengths(lens);
+    clear_numbers(times);
+    clear_lengths(firsts);
 }

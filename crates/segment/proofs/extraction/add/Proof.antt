@@ -4,7 +4,7 @@ use borrow.Author.Tests.{not-true, not-false}
 use native.Mathlib.Omega.{arith}
 use Prim.Native.Nat.{_+_}
 use mathlib.Core.Path.{sym, ap, _∙_}
-use Rattle.lists.proofs.Parts.{tail-placed}
+use Rattle.lists.proofs.Parts.{tail-prefix}
 use Rattle.tables.proofs.Turning.{turn-refused}
 use Rattle.segment.specs.declared.extraction.ExtractionTurn.{ExtractionTurn}
 use Rattle.segment.proofs.Extracting.{adds-closed, adds-unseen, adds-bytes, adds-right}
@@ -79,7 +79,7 @@ returns-4 c edition lens times before p st is k s =
     adds-right edition (a .arrival .index) p (a .payload .now) st is s _
     (c .before .before .before .before .before .before .before .before .before .before .pes .given .1)
     (k ∙ not-false _ (c .before .before .before .before .before .before .before .if1 .left)) (omega arith)
-    (tail-placed (e .start + e .bytes) (a .out .now) (a .payload .now) _ (begin .pre) (c .before .before .before .copy .ensures))
+    (tail-prefix (e .start + e .bytes) (a .out .now) (a .payload .now) _ (omega (arith, begin .pre)) (c .before .before .before .copy .ensures))
 
 pub add-spec : {M : Type 1} → statement M
 add-spec =

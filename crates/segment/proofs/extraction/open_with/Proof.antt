@@ -4,7 +4,7 @@ use native.Mathlib.Omega.{arith}
 use Prim.Native.Nat.{_+_}
 use mathlib.Core.Path.{refl, sym, ap, subst, _∙_}
 use lib.ListN.{length}
-use Rattle.lists.proofs.Parts.{tail-placed}
+use Rattle.lists.proofs.Parts.{tail-prefix}
 use Rattle.descriptor.specs.Naming.{editionSays}
 use Rattle.segment_rules.specs.Rules.{payloadRules}
 use Rattle.segment_rules.specs.Check.{outputsOf, roomsOf}
@@ -63,13 +63,7 @@ part-copy-end : tie.Need-part-copy-end
 part-copy-end c = search needs
 
 copy-requires : tie.Need-copy-requires
-copy-requires c κs =
-    let may = c .before .before .before .before in
-    omega (
-      arith,
-      may .may-open .ensures .1 (c .before .before .enum-told .given .1) .inBytes,
-      may .before .before .before .before .before .pre .1,
-    )
+copy-requires c κs = search needs
 
 same-length : tie.Need-same-length
 same-length c = search needs
@@ -87,7 +81,7 @@ returns-3 c w read lent before lens times p st r is k closed s =
     opens-right (editionSays (a .arrival .edition)) (a .arrival .index) p w st before is (a .header) read
     (sym (if .before .untimed .ensures) ∙ if .if1 .left) (may .result)
     (may .ensures .0 before (outputsOf (a .out .now) lens times) p w st r is (ap length lent) k s) s went (a .bytes .now) _ lent
-    (tail-placed (e .start + e .bytes) (a .out .now) (a .bytes .now) _ (begin .pre .0) (c .before .before .copy .ensures)) closed
+    (tail-prefix (e .start + e .bytes) (a .out .now) (a .bytes .now) _ (omega (arith, room .inBytes, begin .pre .1)) (c .before .before .copy .ensures)) closed
     (omega (arith, room .inBytes, r .bytes, same-bytes s)) (omega (arith, room .inLens, r .lens, same-lens s))
     (omega (arith, room .inTimes, r .times, same-times s))
 

@@ -3,17 +3,17 @@ use borrow.Author.Needs.{needs}
 use Rattle.segment.proofs.outputs.clear.Statement.{statement}
 use Rattle.segment.proofs.outputs.clear.Tie as tie
 
-clear-bytes-requires : tie.Need-clear-bytes-requires
-clear-bytes-requires c κs = search needs
+clear-requires : tie.Need-clear-requires
+clear-requires c κs = search needs
 
-clear-lens-requires : tie.Need-clear-lens-requires
-clear-lens-requires c κs = search needs
+clear-lengths-requires : tie.Need-clear-lengths-requires
+clear-lengths-requires c κs = search needs
 
-clear-times-requires : tie.Need-clear-times-requires
-clear-times-requires c κs = search needs
+clear-numbers-requires : tie.Need-clear-numbers-requires
+clear-numbers-requires c κs = search needs
 
-clear-lens-requires-2 : tie.Need-clear-lens-requires-2
-clear-lens-requires-2 c κs = search needs
+clear-lengths-requires-2 : tie.Need-clear-lengths-requires-2
+clear-lengths-requires-2 c κs = search needs
 
 same-length : tie.Need-same-length
 same-length c = search needs
@@ -29,14 +29,14 @@ same-length-4 c = search needs
 
 returns : tie.Need-returns
 returns c = (
-  c .before .before .before .before .before .before .before .before .before .before .before .before .before .before .clear-bytes
+  c .before .before .before .before .before .before .before .before .before .before .before .before .before .before .clear
       .ensures,
   (
-    c .before .before .before .before .before .before .before .before .before .before .clear-lens .ensures,
+    c .before .before .before .before .before .before .before .before .before .before .clear-lengths .ensures,
     (
       c .before .before
-          .before .before .before .before .clear-times .ensures,
-      c .before .before .clear-lens2 .ensures,
+          .before .before .before .before .clear-numbers .ensures,
+      c .before .before .clear-lengths2 .ensures,
     ),
   ),
 )
@@ -45,10 +45,10 @@ pub clear-spec : {M : Type 1} → statement M
 clear-spec =
     tie.close
     (tie.spec
-    clear-bytes-requires
-    clear-lens-requires
-    clear-times-requires
-    clear-lens-requires-2
+    clear-requires
+    clear-lengths-requires
+    clear-numbers-requires
+    clear-lengths-requires-2
     same-length
     same-length-2
     same-length-3
