@@ -9,7 +9,7 @@ INSTALLED := $(DESTDIR)$(PREFIX)
 EXAMPLES := $(patsubst examples/%.c,build/examples/%,$(wildcard examples/*.c))
 
 .DEFAULT_GOAL := help
-.PHONY: help run demo lib tool install uninstall dist quick test soak interop lesson bench fmt clean
+.PHONY: help run demo lib tool install uninstall dist quick test soak interop lesson bench bench-instructions fmt clean
 
 help:
 	@echo "make run              prove every crate, make the library, show what it does; what the prover says goes to build/log"
@@ -23,7 +23,8 @@ help:
 	@echo "make soak [SECONDS=n] hostile calls over guard pages, for so long (600)"
 	@echo "make interop          real AV1 by each encoder through library and tool, beside other programs; installs them from Debian's packages"
 	@echo "make lesson [NAME=n]  lists the lessons of docs/CLASSROOM.md, or shows one: an error in a copy, and the fact that the prover refuses"
-	@echo "make bench            speed beside plain C and memcpy"
+	@echo "make bench            speed beside plain C, libavcodec's way, a packet loop, SSE2 by hand and memcpy, as one table, and how cost grows"
+	@echo "make bench-instructions  instructions a byte of the same functions, by valgrind"
 	@echo "make fmt              lay out all files"
 	@echo "make clean            remove build/ and target/, what is proved too"
 
@@ -108,13 +109,21 @@ soak: $(LIB)/libav1ts.a
 	@tools/need gcc
 	@tests/boundary/run $(SECONDS)
 
-# libmeasured.a has inner functions with C names, for this measurement alone
-bench: lib
+# libmeasured.a has inner functions with C names, for these measurements alone
+build/bench/libmeasured.a: lib
 	@tools/need cargo rustc
 	@tools/staticlib measured
 	@mkdir -p build/bench
-	@cp target/staticlib/libmeasured.a build/bench/
+	@cp target/staticlib/libmeasured.a $@
+
+bench: build/bench/libmeasured.a
 	cargo run --quiet --release --package bench
+
+bench-instructions:
+	@tools/need valgrind python3
+	@$(MAKE) --no-print-directory build/bench/libmeasured.a
+	cargo build --quiet --release --package bench
+	@bench/instructions
 
 fmt:
 	@tools/need rt cargo

@@ -1,4 +1,4 @@
-//! Compiles the plain C loops in `c` with gcc and links them as the static library `plain`; links
+//! Compiles the C files in `c` with gcc and links them as the static library `peers`; links
 //! `measured` from `build/bench` at the workspace's root, where `make bench` puts it.
 
 use std::env;
@@ -6,16 +6,16 @@ use std::fs;
 use std::path::{Path, PathBuf};
 use std::process::{Command, exit};
 
-const FLAGS: [&str; 4] = ["-std=c11", "-O2", "-Wall", "-Wextra"];
+const FLAGS: [&str; 4] = ["-std=c11", "-O3", "-Wall", "-Wextra"];
 
 fn main() {
     println!("cargo:rerun-if-changed=build.rs");
     println!("cargo:rerun-if-changed=c");
     let out = PathBuf::from(env::var_os("OUT_DIR").expect("cargo sets OUT_DIR"));
     let objects: Vec<PathBuf> = sources().iter().map(|c| compile(c, &out)).collect();
-    archive(&objects, &out.join("libplain.a"));
+    archive(&objects, &out.join("libpeers.a"));
     println!("cargo:rustc-link-search=native={}", out.display());
-    println!("cargo:rustc-link-lib=static=plain");
+    println!("cargo:rustc-link-lib=static=peers");
     link_measured();
     println!("cargo:rustc-env=C_COMPILER={}", compiler());
 }
@@ -71,7 +71,7 @@ fn run(command: &mut Command) -> String {
     let program = command.get_program().to_string_lossy().into_owned();
     match command.output() {
         Err(e) => stop(&format!(
-            "cannot run {program}: {e}; the plain C loops need gcc and ar on the PATH"
+            "cannot run {program}: {e}; the C peers need gcc and ar on the PATH"
         )),
         Ok(output) if !output.status.success() => stop(&format!(
             "{program} failed ({}):\n{}",

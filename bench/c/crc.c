@@ -2,8 +2,6 @@
 
 #include "plain.h"
 
-#define POLYNOMIAL 0x04C11DB7
-
 static uint32_t table[256];
 
 static void fill_table(void)

@@ -74,7 +74,7 @@ plain_answer plain_escape(const uint8_t *obu, size_t len, uint8_t *out, size_t r
 plain_answer plain_unescape(const uint8_t *payload, size_t len, uint8_t *out, size_t room)
 {
     plain_answer a = {0, 0, 0, 0, 0};
-    size_t dropped, place;
+    size_t dropped = 0, place;
     if (len > MAX_PAYLOAD_BYTES)
         return plain_refused(2, 0);
     place = plain_judge(payload, len, &dropped);

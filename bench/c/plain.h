@@ -12,6 +12,7 @@
 #define MAX_PAYLOAD_BYTES 1572864
 #define MAX_UNIT_BYTES 1573056
 #define PACKET_BYTES 188
+#define POLYNOMIAL 0x04C11DB7
 
 typedef struct {
     uint64_t number, place, count, bytes, dropped;

@@ -1,7 +1,7 @@
 //! Access units to measure on: a temporal delimiter, a frame header and four tile groups.
 
-use crate::input::{Kind, Random};
-use crate::plain;
+use crate::input::{Clip, Kind, Source};
+use crate::peers::plain;
 
 const DELIMITER: u8 = 2;
 const FRAME_HEADER: u8 = 3;
@@ -17,25 +17,44 @@ pub struct ObuList {
     pub lengths: Vec<usize>,
 }
 
-/// A list of `len` bytes in all, whose OBUs' contents are of the given kind.
-pub fn obu_list(kind: Kind, len: usize, random: &mut Random) -> ObuList {
+/// Units of one size and kind.
+pub struct Units {
+    pub kind: Kind,
+    pub lists: Vec<ObuList>,
+    pub carried: Vec<Vec<u8>>,
+}
+
+impl Units {
+    pub fn new(count: usize, kind: Kind, len: usize, clip: &Clip) -> Units {
+        let mut source = Source::new(kind, clip);
+        let lists: Vec<ObuList> = (0..count).map(|_| obu_list(len, &mut source)).collect();
+        Units {
+            kind,
+            carried: lists.iter().map(carried).collect(),
+            lists,
+        }
+    }
+}
+
+/// A list of `len` bytes in all.
+fn obu_list(len: usize, source: &mut Source) -> ObuList {
     let mut list = ObuList {
         bytes: vec![DELIMITER << 3 | HAS_SIZE, 0],
         lengths: vec![2],
     };
     let header = list.bytes.len() + leading(FRAME_HEADER_BYTES);
-    add(&mut list, FRAME_HEADER, FRAME_HEADER_BYTES, kind, random);
+    add(&mut list, FRAME_HEADER, FRAME_HEADER_BYTES, source);
     // The first bit, show_existing_frame, is 0: tile groups follow.
     list.bytes[header] &= 0x7F;
     for left in (1..=TILE_GROUPS).rev() {
         let share = (len - list.bytes.len()) / left;
-        add(&mut list, TILE_GROUP, share, kind, random);
+        add(&mut list, TILE_GROUP, share, source);
     }
     list
 }
 
 /// The list as a carried unit, by the plain C writer.
-pub fn carried(list: &ObuList) -> Vec<u8> {
+fn carried(list: &ObuList) -> Vec<u8> {
     let mut unit = vec![0; list.bytes.len() / 2 * 3 + 3 * list.lengths.len()];
     let answer = plain::write_unit(&list.bytes, &list.lengths, &mut unit);
     assert_eq!(answer.number, 0, "the list is a legal one");
@@ -44,7 +63,7 @@ pub fn carried(list: &ObuList) -> Vec<u8> {
 }
 
 /// Adds an OBU of `len` bytes: header, size, content.
-fn add(list: &mut ObuList, obu_type: u8, len: usize, kind: Kind, random: &mut Random) {
+fn add(list: &mut ObuList, obu_type: u8, len: usize, source: &mut Source) {
     let width = leading(len) - 1;
     let size = len - 1 - width;
     list.bytes.push(obu_type << 3 | HAS_SIZE);
@@ -52,7 +71,7 @@ fn add(list: &mut ObuList, obu_type: u8, len: usize, kind: Kind, random: &mut Ra
         let more = if k + 1 < width { 0x80 } else { 0 };
         list.bytes.push((size >> (7 * k) & 0x7F) as u8 | more);
     }
-    list.bytes.extend(kind.bytes(size, random));
+    list.bytes.extend(source.bytes(size));
     list.lengths.push(len);
 }
 

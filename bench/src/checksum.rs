@@ -1,37 +1,46 @@
-//! The CRC of sections of 100 bytes and of 1 MiB.
+//! The CRC of sections, short and long.
 
-use crate::input::{Kind, Random};
-use crate::measure::{Case, Repeats, copy, touched};
-use crate::table::Row;
-use crate::{measured, plain};
+use crate::input::{Clip, Kind, SIZES, Size, Source};
+use crate::measure::{Case, Peer, Plan, Row, copy, touched};
+use crate::measured;
+use crate::peers::{lavc, plain};
 
-const BYTES: usize = 1_048_576;
+/// A PAT or a PMT of one program has some 20 bytes.
+const SHORTEST: Size = (20, "20 B");
 
-/// Lengths of one input, and their names.
-const SIZES: [(usize, &str); 2] = [(100, "100 bytes"), (BYTES, "1 MiB")];
-
-pub fn measure(repeats: Repeats, rows: &mut Vec<Row>) -> Result<(), String> {
-    let bytes = Kind::Random.bytes(BYTES, &mut Random::new(5));
-    for (len, size) in SIZES {
-        let inputs: Vec<&[u8]> = bytes.chunks_exact(len).collect();
-        rows.push(row(&inputs, size, repeats)?);
+pub fn measure(plan: &Plan, clip: &Clip, rows: &mut Vec<Row>) -> Result<(), String> {
+    let bytes = Source::new(Kind::Random, clip).bytes(SIZES[3].0);
+    for &size in [SHORTEST].iter().chain(plan.sizes) {
+        let inputs: Vec<&[u8]> = bytes
+            .chunks_exact(size.0)
+            .take(plan.inputs(size.0))
+            .collect();
+        rows.push(row(plan, size, &inputs)?);
     }
     Ok(())
 }
 
-fn row(inputs: &[&[u8]], size: &'static str, repeats: Repeats) -> Result<Row, String> {
+fn row(plan: &Plan, size: Size, inputs: &[&[u8]]) -> Result<Row, String> {
     let case = Case {
+        plan,
         function: "crc32",
         kind: Kind::Random.name(),
-        size,
+        size: size.1,
         inputs,
         amount: inputs.iter().map(|input| input.len()).sum(),
+        repeats: plan.rest,
     };
     case.compare(
-        repeats.rest,
-        &mut touched(inputs[0].len()),
-        |input, _| measured::crc32(input),
-        |input, _| plain::crc32(input),
-        |input, out| copy(input, out),
+        &mut touched(size.0),
+        &|input: &&[u8], _: &mut Vec<u8>| measured::crc32(input),
+        &[
+            (Peer::PlainC, &|input: &&[u8], _: &mut Vec<u8>| {
+                plain::crc32(input)
+            }),
+            (Peer::Lavc, &|input: &&[u8], _: &mut Vec<u8>| {
+                lavc::crc32(input)
+            }),
+        ],
+        &|input: &&[u8], out: &mut Vec<u8>| copy(input, out),
     )
 }

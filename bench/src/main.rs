@@ -1,72 +1,70 @@
-//! Measures the functions of libav1ts.a beside plain C loops and memcpy, in one run, and prints
-//! two tables. Run it by `make bench`, or once that has built the libraries by
-//! `cargo run --release -p bench`, with `-- --quick` for a short run.
+//! Measures the functions of libav1ts.a beside C in one run, and prints one table, and how cost
+//! grows. Run it by `make bench`, or once that has built the libraries by
+//! `cargo run --release -p bench`, with `-- --quick` for a short run. `bench/instructions` runs it
+//! with `--counted`.
 
 mod access_unit;
 mod checksum;
+mod growth;
 mod header;
 mod input;
 mod measure;
 mod measured;
 mod multiplex;
 mod payload;
-mod plain;
+mod peers;
 mod segment;
 mod sending;
 mod table;
 mod unit;
 
-use measure::Repeats;
+use input::Clip;
+use measure::{Plan, Row};
 use std::process::ExitCode;
-use table::{Row, Rows};
+use table::Tables;
 
-const USAGE: &str = "usage: bench [--quick]";
+const USAGE: &str = "usage: bench [--quick | --counted]";
 
 fn main() -> ExitCode {
     let arguments: Vec<String> = std::env::args().skip(1).collect();
-    let repeats = match arguments.iter().map(String::as_str).collect::<Vec<_>>()[..] {
-        [] => Repeats::FULL,
-        ["--quick"] => Repeats::QUICK,
+    let plan = match arguments.iter().map(String::as_str).collect::<Vec<_>>()[..] {
+        [] => Plan::FULL,
+        ["--quick"] => Plan::QUICK,
+        ["--counted"] => Plan::COUNTED,
         _ => return fail(USAGE),
     };
     if cfg!(debug_assertions) {
         return fail("times of a debug build say nothing: build with --release");
     }
-    match rows(repeats) {
-        Ok(rows) => {
-            table::print(repeats, &rows);
-            ExitCode::SUCCESS
-        }
+    match run(&plan) {
+        Ok(()) => ExitCode::SUCCESS,
         Err(message) => fail(&message),
     }
 }
 
-/// The best of all passes, or the first difference between the library and the plain C loops.
-fn rows(repeats: Repeats) -> Result<Rows, String> {
-    let mut best = pass(repeats)?;
-    for _ in 1..repeats.passes {
-        let rows = pass(repeats)?;
-        keep_best(&mut best.by_byte, rows.by_byte);
-        keep_best(&mut best.by_header, rows.by_header);
+/// Prints the tables, or gives the first difference between the library and a peer.
+fn run(plan: &Plan) -> Result<(), String> {
+    let clip = Clip::read()?;
+    if plan.counted {
+        return pass(plan, &clip).map(|_| ());
     }
-    Ok(best)
-}
-
-fn keep_best(best: &mut [Row], rows: Vec<Row>) {
-    for (best, row) in best.iter_mut().zip(rows) {
-        best.times = best.times.best(&row.times);
+    let mut tables = Tables::measure(plan, &clip)?;
+    for _ in 1..plan.passes {
+        tables.keep_best(&Tables::measure(plan, &clip)?);
     }
+    tables.print(plan);
+    Ok(())
 }
 
 /// All rows once.
-fn pass(repeats: Repeats) -> Result<Rows, String> {
-    let mut rows = Rows::default();
-    payload::measure(repeats, &mut rows.by_byte)?;
-    unit::measure(repeats, &mut rows.by_byte)?;
-    checksum::measure(repeats, &mut rows.by_byte)?;
-    segment::measure(repeats, &mut rows.by_byte)?;
-    sending::measure(repeats, &mut rows.by_byte)?;
-    header::measure(repeats, &mut rows.by_header)?;
+pub fn pass(plan: &Plan, clip: &Clip) -> Result<Vec<Row>, String> {
+    let mut rows = Vec::new();
+    payload::measure(plan, clip, &mut rows)?;
+    unit::measure(plan, clip, &mut rows)?;
+    checksum::measure(plan, clip, &mut rows)?;
+    header::measure(plan, clip, &mut rows)?;
+    segment::measure(plan, clip, &mut rows)?;
+    sending::measure(plan, clip, &mut rows)?;
     Ok(rows)
 }
 

@@ -1,33 +1,60 @@
-//! Timing: the candidates take turns on the same buffers, and the best turn of each counts.
+//! Timing: the library and its peers take turns on the same buffers, and the best turn of each counts.
 
-use crate::plain::cpu_nanoseconds;
-use crate::table::Row;
+use crate::input::{COUNTED_SIZES, SIZES, Size};
+use crate::peers::plain::cpu_nanoseconds;
 use av1ts::Answer;
 use std::arch::asm;
 use std::fmt::Debug;
 
-/// How often each candidate has a turn.
-#[derive(Clone, Copy)]
-pub struct Repeats {
+/// What is measured, and how often.
+pub struct Plan {
     /// Passes over the whole table, so that a row's turns are spread over the run.
     pub passes: usize,
     /// Turns in a pass, for segments.
     pub segment: usize,
     /// Turns in a pass, for all else.
     pub rest: usize,
+    /// The lengths of OBUs, payloads and units.
+    pub sizes: &'static [Size],
+    /// The inputs of one row have so many bytes together, or one of them has more.
+    pub all_bytes: usize,
+    /// Of a segment of 12 MB there is one of so many parts, and how long that is.
+    pub part: usize,
+    pub segment_size: &'static str,
+    /// Instructions are counted, by who runs this program, and no time is taken.
+    pub counted: bool,
 }
 
-impl Repeats {
-    pub const FULL: Repeats = Repeats {
+impl Plan {
+    /// 1 MiB of different inputs is too much for a processor to learn their branches by heart.
+    pub const FULL: Plan = Plan {
         passes: 4,
         segment: 2,
         rest: 4,
+        sizes: &SIZES,
+        all_bytes: 1_048_576,
+        part: 1,
+        segment_size: "12 MB",
+        counted: false,
     };
-    pub const QUICK: Repeats = Repeats {
+    pub const QUICK: Plan = Plan {
         passes: 1,
-        segment: 2,
-        rest: 4,
+        ..Plan::FULL
     };
+    pub const COUNTED: Plan = Plan {
+        passes: 1,
+        sizes: &COUNTED_SIZES,
+        all_bytes: 65_536,
+        part: 12,
+        segment_size: "1 MB",
+        counted: true,
+        ..Plan::FULL
+    };
+
+    /// How many inputs of a length there are.
+    pub fn inputs(&self, len: usize) -> usize {
+        (self.all_bytes / len).max(1)
+    }
 }
 
 /// Turns that are taken first in a pass and not counted.
@@ -36,19 +63,33 @@ const WARM_UP: usize = 1;
 /// A turn goes over the inputs again and again until it has lasted 2 ms.
 const TURN_NANOSECONDS: u64 = 2_000_000;
 
-/// Nanoseconds of CPU time per byte of the input, or per packet header.
-pub struct Times {
-    pub library: f64,
-    pub plain_c: f64,
-    pub memcpy: f64,
+/// What the library is measured beside, in the order of the table's columns.
+#[derive(Clone, Copy)]
+pub enum Peer {
+    PlainC,
+    Lavc,
+    PacketLoop,
+    Sse2,
+    Memcpy,
 }
 
-impl Times {
-    pub fn best(&self, other: &Times) -> Times {
-        Times {
-            library: self.library.min(other.library),
-            plain_c: self.plain_c.min(other.plain_c),
-            memcpy: self.memcpy.min(other.memcpy),
+pub const PEERS: usize = 5;
+
+/// A line of the table: nanoseconds of CPU time per byte of the input, or per packet header.
+pub struct Row {
+    pub function: &'static str,
+    pub kind: &'static str,
+    pub size: &'static str,
+    pub library: f64,
+    pub peers: [Option<f64>; PEERS],
+}
+
+impl Row {
+    /// Keeps the better of each time.
+    pub fn keep_best(&mut self, other: &Row) {
+        self.library = self.library.min(other.library);
+        for (best, time) in self.peers.iter_mut().zip(other.peers) {
+            *best = best.zip(time).map(|(a, b)| a.min(b));
         }
     }
 }
@@ -60,15 +101,26 @@ fn opaque<T>(value: T) -> T {
     value
 }
 
-/// What is measured: a function on some inputs, which are handled one after the other.
-pub struct Case<'a, I> {
-    pub function: &'static str,
-    pub kind: &'static str,
-    pub size: &'static str,
-    pub inputs: &'a [I],
-    /// Bytes of the inputs together, or packet headers.
-    pub amount: usize,
+/// A way to do a function's job.
+pub trait Way<I, O, A> {
+    fn once(&self, input: &I, outputs: &mut O) -> A;
+    fn over(&self, inputs: &[I], outputs: &mut O);
 }
+
+impl<I, O, A, F: Fn(&I, &mut O) -> A> Way<I, O, A> for F {
+    fn once(&self, input: &I, outputs: &mut O) -> A {
+        self(input, outputs)
+    }
+
+    fn over(&self, inputs: &[I], outputs: &mut O) {
+        for input in inputs {
+            opaque(self(opaque(input), opaque(&mut *outputs)));
+        }
+    }
+}
+
+/// A way over all the inputs of a case.
+pub type Run<'a, O> = Box<dyn Fn(&mut O) + 'a>;
 
 /// What a function gives.
 pub trait Outcome: Debug + PartialEq {
@@ -88,81 +140,126 @@ impl Outcome for u64 {
     }
 }
 
+/// What is measured: a function on some inputs, which are handled one after the other.
+pub struct Case<'a, I> {
+    pub plan: &'a Plan,
+    pub function: &'static str,
+    pub kind: &'static str,
+    pub size: &'static str,
+    pub inputs: &'a [I],
+    /// Bytes of the inputs together, or packet headers.
+    pub amount: usize,
+    pub repeats: usize,
+}
+
 impl<I> Case<'_, I> {
-    /// Checks that library and plain C give the same answer and leave the same outputs, then times
-    /// them and memcpy.
+    /// The row of a function whose peers give the same answers and leave the same outputs, which is
+    /// found first.
     pub fn compare<O: Clone + PartialEq, A: Outcome>(
         &self,
-        repeats: usize,
         outputs: &mut O,
-        library: impl Fn(&I, &mut O) -> A,
-        plain_c: impl Fn(&I, &mut O) -> A,
-        memcpy: impl Fn(&I, &mut O),
+        library: &dyn Way<I, O, A>,
+        peers: &[(Peer, &dyn Way<I, O, A>)],
+        memcpy: &dyn Way<I, O, ()>,
     ) -> Result<Row, String> {
-        let mut expected_outputs = outputs.clone();
-        for input in self.inputs {
-            let expected = plain_c(input, &mut expected_outputs);
-            let answer = library(input, outputs);
-            if answer.is_refusal() || answer != expected || *outputs != expected_outputs {
-                return Err(self.difference(answer, expected));
-            }
+        let mut runs = Vec::new();
+        for &(peer, way) in peers {
+            self.same(outputs, library, way)?;
+            runs.push((peer, self.run(way)));
         }
-        Ok(self.measure(repeats, outputs, library, plain_c, memcpy))
+        runs.push((Peer::Memcpy, self.run(memcpy)));
+        Ok(self.row(outputs, self.run(library), runs))
     }
 
-    /// The best turn of each candidate; which one goes first changes from round to round.
-    pub fn measure<O, A, B>(
+    fn same<O: Clone + PartialEq, A: Outcome>(
         &self,
-        repeats: usize,
-        outputs: &mut O,
-        library: impl Fn(&I, &mut O) -> A,
-        plain_c: impl Fn(&I, &mut O) -> B,
-        memcpy: impl Fn(&I, &mut O),
-    ) -> Row {
-        let mut best = [f64::INFINITY; 3];
-        for round in 0..WARM_UP + repeats {
-            for turn in 0..3 {
-                let candidate = (round + turn) % 3;
-                let time = match candidate {
-                    0 => self.turn(outputs, &library),
-                    1 => self.turn(outputs, &plain_c),
-                    _ => self.turn(outputs, &memcpy),
-                };
-                if round >= WARM_UP {
-                    best[candidate] = best[candidate].min(time);
-                }
+        outputs: &O,
+        library: &dyn Way<I, O, A>,
+        peer: &dyn Way<I, O, A>,
+    ) -> Result<(), String> {
+        let (mut by_library, mut by_peer) = (outputs.clone(), outputs.clone());
+        for input in self.inputs {
+            let answer = library.once(input, &mut by_library);
+            let expected = peer.once(input, &mut by_peer);
+            if answer.is_refusal() || answer != expected || by_library != by_peer {
+                return Err(self.difference(&answer, &expected));
             }
         }
-        let [library, plain_c, memcpy] = best;
-        Row {
+        Ok(())
+    }
+
+    pub fn run<'b, O, A>(&'b self, way: &'b dyn Way<I, O, A>) -> Run<'b, O> {
+        Box::new(move |outputs| way.over(self.inputs, outputs))
+    }
+
+    pub fn row<O>(&self, outputs: &mut O, library: Run<O>, peers: Vec<(Peer, Run<O>)>) -> Row {
+        let (names, mut runs): (Vec<Peer>, Vec<Run<O>>) = peers.into_iter().unzip();
+        runs.insert(0, library);
+        let times = if self.plan.counted {
+            self.count(outputs, &names, &runs)
+        } else {
+            self.best_turns(outputs, &runs)
+        };
+        let mut row = Row {
             function: self.function,
             kind: self.kind,
             size: self.size,
-            times: Times {
-                library,
-                plain_c,
-                memcpy,
-            },
+            library: times[0],
+            peers: [None; PEERS],
+        };
+        for (&peer, &time) in names.iter().zip(&times[1..]) {
+            row.peers[peer as usize] = Some(time);
         }
+        row
+    }
+
+    /// Each run once, counted, after one that is not; says what was run. There are no times.
+    fn count<O>(&self, outputs: &mut O, names: &[Peer], runs: &[Run<O>]) -> Vec<f64> {
+        let columns = [0]
+            .into_iter()
+            .chain(names.iter().map(|&name| 1 + name as usize));
+        for (column, run) in columns.zip(runs) {
+            run(outputs);
+            bench_counted(&mut || run(outputs));
+            println!(
+                "{}|{}|{}|{column}|{}",
+                self.function, self.kind, self.size, self.amount
+            );
+        }
+        vec![0.0; runs.len()]
+    }
+
+    /// The best turn of the library and of each peer; which one goes first changes from round to
+    /// round.
+    fn best_turns<O>(&self, outputs: &mut O, runs: &[Run<O>]) -> Vec<f64> {
+        let mut best = vec![f64::INFINITY; runs.len()];
+        for round in 0..WARM_UP + self.repeats {
+            for turn in 0..runs.len() {
+                let k = (round + turn) % runs.len();
+                let time = self.turn(outputs, &runs[k]);
+                if round >= WARM_UP {
+                    best[k] = best[k].min(time);
+                }
+            }
+        }
+        best
     }
 
     /// One turn: nanoseconds per byte or header, over all its calls.
-    fn turn<O, A>(&self, outputs: &mut O, candidate: &impl Fn(&I, &mut O) -> A) -> f64 {
+    fn turn<O>(&self, outputs: &mut O, run: &Run<O>) -> f64 {
         let mut amount = 0;
         let mut elapsed = 0;
         let start = cpu_nanoseconds();
         while elapsed < TURN_NANOSECONDS {
-            for input in self.inputs {
-                opaque(candidate(opaque(input), opaque(&mut *outputs)));
-            }
+            run(outputs);
             amount += self.amount;
             elapsed = cpu_nanoseconds() - start;
         }
         elapsed as f64 / amount as f64
     }
 
-    /// The message where the library's answer or outputs are not the expected ones.
-    pub fn difference<A: Debug + PartialEq>(&self, answer: A, expected: A) -> String {
+    /// The message where the library and a peer differ.
+    pub fn difference<A: Debug + PartialEq>(&self, answer: &A, expected: &A) -> String {
         let what = if answer == expected {
             "the outputs differ, or it is refused"
         } else {
@@ -173,6 +270,13 @@ impl<I> Case<'_, I> {
             self.function, self.kind, self.size
         )
     }
+}
+
+/// What is counted where instructions are: `bench/instructions` knows it by its name.
+#[no_mangle]
+#[inline(never)]
+pub fn bench_counted(work: &mut dyn FnMut()) {
+    work();
 }
 
 /// memcpy of the input to the front of the output.

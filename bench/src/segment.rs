@@ -1,15 +1,14 @@
-//! Checking a segment of 12 MB.
+//! Checking a segment.
 
-use crate::input::Kind;
-use crate::measure::{Case, Repeats, copy, touched};
-use crate::multiplex::{AV1_PID, Multiplex, PACKET_BYTES, PACKETS, segment_of};
-use crate::plain;
-use crate::table::Row;
+use crate::input::{Clip, Kind, Size};
+use crate::measure::{Case, Peer, Plan, Row, copy, touched};
+use crate::multiplex::{
+    AV1_PID, MAX_UNITS, Multiplex, PACKETS, long_units, nulls, of_packets, small_units,
+};
+use crate::peers::{Job, Packets, packets, plain, sse2};
 use av1ts::segment::{Segment, check_segment};
 
-const MAX_UNITS: usize = 1_024;
-
-/// Room for any segment of that length.
+/// Room for any segment of a length.
 #[derive(PartialEq)]
 struct Outputs {
     bytes: Vec<u8>,
@@ -18,17 +17,17 @@ struct Outputs {
 }
 
 impl Outputs {
-    fn touched() -> Outputs {
+    fn touched(len: usize) -> Outputs {
         Outputs {
-            bytes: touched(PACKETS * PACKET_BYTES),
+            bytes: touched(len),
             lengths: vec![usize::MAX; MAX_UNITS],
             times: vec![u64::MAX; 2 * MAX_UNITS],
         }
     }
 
-    /// What the check of a multiplexed segment has to leave in them.
+    /// What the check of a segment has to leave in them.
     fn expected(multiplex: &Multiplex) -> Outputs {
-        let mut out = Outputs::touched();
+        let mut out = Outputs::touched(multiplex.segment.len());
         out.bytes[..multiplex.units.len()].copy_from_slice(&multiplex.units);
         out.lengths[..multiplex.lengths.len()].copy_from_slice(&multiplex.lengths);
         out.times[..multiplex.times.len()].copy_from_slice(&multiplex.times);
@@ -36,58 +35,120 @@ impl Outputs {
     }
 }
 
-pub fn measure(repeats: Repeats, rows: &mut Vec<Row>) -> Result<(), String> {
-    for kind in [Kind::Random, Kind::ZeroToThree] {
-        rows.push(row(kind, segment_of(kind), repeats)?);
+pub fn measure(plan: &Plan, clip: &Clip, rows: &mut Vec<Row>) -> Result<(), String> {
+    for kind in Kind::ALL {
+        let segment = long_units(kind, plan.part, clip);
+        rows.push(row(plan, kind.name(), plan.segment_size, segment)?);
     }
+    rows.push(row(
+        plan,
+        Kind::RealAv1.name(),
+        "1,024 small units",
+        small_units(clip),
+    )?);
+    let nulls = nulls(PACKETS / plan.part, clip);
+    rows.push(row(plan, "null packets", plan.segment_size, nulls)?);
     Ok(())
 }
 
-fn row(kind: Kind, multiplex: Multiplex, repeats: Repeats) -> Result<Row, String> {
+/// The rows of numbers of packets doubled.
+pub fn growth(plan: &Plan, sizes: &[Size], clip: &Clip) -> Result<Vec<Row>, String> {
+    let kind = Kind::RealAv1;
+    let of = |&(count, size): &Size| row(plan, kind.name(), size, of_packets(count, kind, clip));
+    sizes.iter().map(of).collect()
+}
+
+fn row(
+    plan: &Plan,
+    kind: &'static str,
+    size: &'static str,
+    segment: Multiplex,
+) -> Result<Row, String> {
     let case = Case {
+        plan,
         function: "check_segment",
-        kind: kind.name(),
-        size: "12 MB",
-        amount: multiplex.segment.len(),
-        inputs: &[multiplex],
+        kind,
+        size,
+        amount: segment.segment.len(),
+        inputs: &[segment],
+        repeats: plan.segment,
     };
-    let mut outputs = Outputs::touched();
-    compare(&case, &mut outputs)?;
-    Ok(case.measure(
-        repeats.segment,
-        &mut outputs,
-        check,
-        copy_payloads,
-        |m, out| copy(&m.segment, &mut out.bytes),
-    ))
+    for segment in case.inputs {
+        same(&case, segment)?;
+    }
+    let peers = vec![
+        (Peer::PlainC, case.run(&copy_payloads)),
+        (Peer::PacketLoop, case.run(&read_packets)),
+        (Peer::Sse2, case.run(&check_by_hand)),
+        (Peer::Memcpy, case.run(&copy_segment)),
+    ];
+    Ok(case.row(&mut Outputs::touched(case.amount), case.run(&check), peers))
 }
 
-/// Checks that the library gives what was multiplexed, and that plain C copies those bytes.
-fn compare(case: &Case<Multiplex>, outputs: &mut Outputs) -> Result<(), String> {
-    for multiplex in case.inputs {
-        let expected = Outputs::expected(multiplex);
-        let answer = check(multiplex, outputs);
-        if answer != multiplex.figures || *outputs != expected {
-            return Err(case.difference(answer, multiplex.figures));
-        }
-        let mut copied = Outputs::touched();
-        copy_payloads(multiplex, &mut copied);
-        if copied.bytes != expected.bytes {
-            return Err("plain C copies other bytes than were multiplexed".to_string());
+/// Checks that the library gives what was multiplexed, and each peer as much of it as it gives.
+fn same(case: &Case<Multiplex>, multiplex: &Multiplex) -> Result<(), String> {
+    let expected = Outputs::expected(multiplex);
+    let mut out = Outputs::touched(multiplex.segment.len());
+    let answer = check(multiplex, &mut out);
+    if answer != multiplex.figures || out != expected {
+        return Err(case.difference(&answer, &multiplex.figures));
+    }
+    for read in [read_packets, check_by_hand] {
+        let mut out = Outputs::touched(multiplex.segment.len());
+        let found = read(multiplex, &mut out);
+        if found != packets_of(multiplex) || out != expected {
+            return Err(case.difference(&found, &packets_of(multiplex)));
         }
     }
+    let mut out = Outputs::touched(multiplex.segment.len());
+    copy_payloads(multiplex, &mut out);
+    if out.bytes != expected.bytes {
+        return Err("plain C copies other bytes than were multiplexed".to_string());
+    }
     Ok(())
+}
+
+/// What a packet loop has to give.
+fn packets_of(multiplex: &Multiplex) -> Packets {
+    Packets {
+        number: 0,
+        units: multiplex.figures.units,
+        bytes: multiplex.units.len() as u64,
+        null_packets: multiplex.figures.null_packets,
+        av1: multiplex.figures.av1,
+    }
 }
 
 fn check(multiplex: &Multiplex, out: &mut Outputs) -> Segment {
+    check_segment(
+        &multiplex.segment,
+        &mut out.bytes,
+        &mut out.lengths,
+        &mut out.times,
+    )
+}
+
+fn copy_payloads(multiplex: &Multiplex, out: &mut Outputs) -> usize {
+    plain::copy_payloads(&multiplex.segment, AV1_PID, &mut out.bytes)
+}
+
+fn read_packets(multiplex: &Multiplex, out: &mut Outputs) -> Packets {
+    packets::read(&job(multiplex, out))
+}
+
+fn check_by_hand(multiplex: &Multiplex, out: &mut Outputs) -> Packets {
+    sse2::check_segment(&job(multiplex, out))
+}
+
+fn job<'a>(multiplex: &'a Multiplex, out: &'a mut Outputs) -> Job<'a> {
     let Outputs {
         bytes,
         lengths,
         times,
     } = out;
-    check_segment(&multiplex.segment, bytes, lengths, times)
+    Job::new(&multiplex.segment, AV1_PID, bytes, lengths, times)
 }
 
-fn copy_payloads(multiplex: &Multiplex, out: &mut Outputs) -> usize {
-    plain::copy_payloads(&multiplex.segment, AV1_PID, &mut out.bytes)
+fn copy_segment(multiplex: &Multiplex, out: &mut Outputs) {
+    copy(&multiplex.segment, &mut out.bytes);
 }

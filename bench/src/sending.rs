@@ -1,14 +1,15 @@
 //! Sending eight units of 128 KiB.
 
-use crate::access_unit::{carried, obu_list};
-use crate::input::{Kind, Random};
-use crate::measure::{Case, Repeats, copy, touched};
-use crate::plain;
-use crate::table::Row;
+use crate::access_unit::Units;
+use crate::input::{Clip, Kind};
+use crate::measure::{Case, Peer, Plan, Row, copy, touched};
+use crate::multiplex::PACKET_BYTES;
+use crate::peers::plain;
 use av1ts::queue::{Channel, Queue, Sent, add, send};
 
 const UNITS: usize = 8;
 const UNIT_BYTES: usize = 128 * 1024;
+const ROOM: usize = 2 * UNITS * UNIT_BYTES;
 const DESCRIPTOR: [u8; 6] = [0x80, 0x04, 0x81, 0x08, 0x0C, 0xC0];
 
 /// A full queue with its store.
@@ -17,25 +18,26 @@ struct Full {
     store: Vec<u8>,
 }
 
-pub fn measure(repeats: Repeats, rows: &mut Vec<Row>) -> Result<(), String> {
-    rows.push(row(full(Kind::Random)?, repeats)?);
+/// Room for the packets.
+struct Room(Vec<u8>);
+
+pub fn measure(plan: &Plan, clip: &Clip, rows: &mut Vec<Row>) -> Result<(), String> {
+    for kind in [Kind::Random, Kind::RealAv1] {
+        rows.push(row(plan, kind, full(kind, clip)?)?);
+    }
     Ok(())
 }
 
-fn full(kind: Kind) -> Result<Full, String> {
-    let mut random = Random::new(5);
-    let mut store = touched(2 * UNITS * UNIT_BYTES);
+fn full(kind: Kind, clip: &Clip) -> Result<Full, String> {
+    let mut store = touched(ROOM);
     let mut queue = Queue::default();
-    for number in 0..UNITS as u64 {
-        let unit = carried(&obu_list(kind, UNIT_BYTES, &mut random));
-        let added = add(
-            queue,
-            &mut store,
-            &unit,
-            3_600 * number,
-            3_600 * number,
-            false,
-        );
+    for (unit, number) in Units::new(UNITS, kind, UNIT_BYTES, clip)
+        .carried
+        .iter()
+        .zip(0..)
+    {
+        let time = 3_600 * number;
+        let added = add(queue, &mut store, unit, time, time, false);
         if added.number != 0 {
             return Err(format!("add refuses by {}", added.number));
         }
@@ -45,41 +47,45 @@ fn full(kind: Kind) -> Result<Full, String> {
     Ok(Full { queue, store })
 }
 
-fn row(full: Full, repeats: Repeats) -> Result<Row, String> {
-    let amount = full.store.len();
-    let inputs = [full];
+fn row(plan: &Plan, kind: Kind, full: Full) -> Result<Row, String> {
     let case = Case {
+        plan,
         function: "queue_send",
-        kind: Kind::Random.name(),
+        kind: kind.name(),
         size: "8 units of 128 KiB",
-        amount,
-        inputs: &inputs,
+        amount: full.store.len(),
+        inputs: &[full],
+        repeats: plan.segment,
     };
-    let mut out = touched(2 * UNITS * UNIT_BYTES);
-    let sent = sent(&inputs[0], &mut out);
-    let packets = plain::copy_into_packets(&inputs[0].store, &mut out) / 188;
-    if sent.number != 0 || (sent.packets as usize) < packets {
-        return Err(format!("send gives {sent:?}, the loop {packets} packets"));
+    let mut out = Room(touched(ROOM));
+    for full in case.inputs {
+        let sent = sent(full, &mut out);
+        let packets = into_packets(full, &mut out) / PACKET_BYTES;
+        if sent.number != 0 || (sent.packets as usize) < packets {
+            return Err(format!("send gives {sent:?}, the loop {packets} packets"));
+        }
     }
-    Ok(case.measure(
-        repeats.segment,
-        &mut out,
-        sent_by_library,
-        |f, out| plain::copy_into_packets(&f.store, out),
-        |f, out| copy(&f.store, out),
-    ))
+    let peers = vec![
+        (Peer::PlainC, case.run(&into_packets)),
+        (Peer::Memcpy, case.run(&copy_store)),
+    ];
+    Ok(case.row(&mut out, case.run(&sent), peers))
 }
 
-fn sent_by_library(full: &Full, out: &mut Vec<u8>) -> Sent {
-    sent(full, out)
-}
-
-fn sent(full: &Full, out: &mut [u8]) -> Sent {
+fn sent(full: &Full, out: &mut Room) -> Sent {
     let channel = Channel {
         program: 1,
         map_pid: 0x0100,
         av1_pid: 0x0101,
         ..Channel::default()
     };
-    send(full.queue, &full.store, channel, &DESCRIPTOR, out)
+    send(full.queue, &full.store, channel, &DESCRIPTOR, &mut out.0)
+}
+
+fn into_packets(full: &Full, out: &mut Room) -> usize {
+    plain::copy_into_packets(&full.store, &mut out.0)
+}
+
+fn copy_store(full: &Full, out: &mut Room) {
+    copy(&full.store, &mut out.0);
 }

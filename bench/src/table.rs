@@ -1,114 +1,165 @@
-//! The output: how it was measured, and two Markdown tables.
+//! The output: how it was measured, and Markdown tables.
 
-use crate::measure::{Repeats, Times};
-use crate::multiplex::PACKETS;
+use crate::input::Clip;
+use crate::measure::{Plan, Row};
+use crate::{growth, pass};
 
-pub struct Row {
-    pub function: &'static str,
-    pub kind: &'static str,
-    pub size: &'static str,
-    pub times: Times,
+/// All that is printed.
+pub struct Tables {
+    rows: Vec<Row>,
+    /// How cost grows: of each function the rows of its sizes.
+    units: Vec<Vec<Row>>,
+    segments: Vec<Vec<Row>>,
 }
 
-#[derive(Default)]
-pub struct Rows {
-    /// Times per byte of the input.
-    pub by_byte: Vec<Row>,
-    /// Times per packet header.
-    pub by_header: Vec<Row>,
-}
+impl Tables {
+    pub fn measure(plan: &Plan, clip: &Clip) -> Result<Tables, String> {
+        Ok(Tables {
+            rows: pass(plan, clip)?,
+            units: growth::of_units(plan, clip)?,
+            segments: growth::of_segments(plan, clip)?,
+        })
+    }
 
-/// What a table's times are of, and a million of them a second.
-struct Table {
-    item: &'static str,
-    a_second: &'static str,
-}
-
-const BY_BYTE: Table = Table {
-    item: "byte",
-    a_second: "MB/s",
-};
-
-const BY_HEADER: Table = Table {
-    item: "header",
-    a_second: "million headers/s",
-};
-
-pub fn print(repeats: Repeats, rows: &Rows) {
-    print_head(repeats);
-    BY_BYTE.print(&rows.by_byte);
-    println!();
-    BY_HEADER.print(&rows.by_header);
-}
-
-fn print_head(repeats: Repeats) {
-    println!("Speed of libav1ts.a beside plain C loops and memcpy, on one core.");
-    println!();
-    println!("- Plain C: {}.", env!("C_COMPILER"));
-    println!("- memcpy: the C library's, of the function's input bytes.");
-    println!(
-        "- Times: CPU time, the best of {} repeats{}. Passes over the table: {}, each row warmed up \
-         first. In each repeat the three take turns of at least 2 ms, and which one begins changes.",
-        repeats.passes * repeats.rest,
-        format!(" (segments: {})", repeats.passes * repeats.segment),
-        repeats.passes,
-    );
-    println!(
-        "- Buffers: the three use the same ones; outputs are touched once before and not cleared \
-         between repeats."
-    );
-    println!(
-        "- Results: before timing, the library's are found equal to plain C's, the whole output \
-         buffers included."
-    );
-    println!(
-        "- Sizes: escape and unescape get 1,048,576 bytes. ns/byte and MB/s (1,000,000 bytes a \
-         second) are of the input's bytes."
-    );
-    println!(
-        "- Units: the size is that of the OBUs together. Of 1 KiB and 64 KiB there are 1,024 and 16 \
-         different units, handled in turn."
-    );
-    println!("- crc32: the sections of 100 bytes are 10,485 different ones, handled in turn.");
-    println!(
-        "- Headers: of the {PACKETS} packets of a multiplexed segment of 12 MB. read_header gives \
-         one packet's fields, a call a packet; count_headers counts in one call those that pass 21, \
-         22 and 23, and keeps no field. memcpy is of whole packets."
-    );
-    println!(
-        "- check_segment: plain C only copies the units' bytes out of the packets and checks \
-         nothing; the results are found equal to what was multiplexed."
-    );
-    println!();
-}
-
-impl Table {
-    fn print(&self, rows: &[Row]) {
-        let Table { item, a_second } = self;
-        println!(
-            "| Function | Input | Size | Library ns/{item} | Library {a_second} | Plain C ns/{item} | \
-             memcpy ns/{item} | Library / plain C | Library / memcpy |"
-        );
-        println!("|---|---|---|{}", "---:|".repeat(6));
-        for row in rows {
-            println!("{}", line(row));
+    pub fn keep_best(&mut self, other: &Tables) {
+        for (best, row) in self.all_mut().zip(other.all()) {
+            best.keep_best(row);
         }
+    }
+
+    fn all(&self) -> impl Iterator<Item = &Row> {
+        let growth = self.units.iter().chain(&self.segments);
+        self.rows.iter().chain(growth.flatten())
+    }
+
+    fn all_mut(&mut self) -> impl Iterator<Item = &mut Row> {
+        let growth = self.units.iter_mut().chain(&mut self.segments);
+        self.rows.iter_mut().chain(growth.flatten())
+    }
+
+    pub fn print(&self, plan: &Plan) {
+        print_head(plan);
+        print_rows(&self.rows);
+        println!("How cost grows: the library's ns/byte at sizes doubled.");
+        println!();
+        print_growth(&self.units);
+        print_growth(&self.segments);
     }
 }
 
+fn print_rows(rows: &[Row]) {
+    println!(
+        "| Function | Input | Size | Library ns/byte | / plain C | / libavcodec's way | / packet loop | \
+         / SSE2 | / memcpy |"
+    );
+    println!("|---|---|---|{}", "---:|".repeat(6));
+    for row in rows {
+        println!("{}", line(row));
+    }
+    println!();
+}
+
+fn print_head(plan: &Plan) {
+    println!("Speed of libav1ts.a beside C, on one core.");
+    println!();
+    println!("- C: {}.", env!("C_COMPILER"));
+    println!(
+        "- Times: CPU time, the best of {} turns (segments: {}) of at least 2 ms. Passes over the \
+         table: {}, each row warmed up first. The library and its peers take turns, and which one \
+         begins changes. A ratio is the library's time divided by the peer's.",
+        plan.passes * plan.rest,
+        plan.passes * plan.segment,
+        plan.passes,
+    );
+    println!(
+        "- Buffers: all use the same ones; outputs are touched once before and not cleared between \
+         turns."
+    );
+    println!(
+        "- Results: before timing, each peer's answers and whole output buffers are found equal to \
+         the library's, but where it is said here that it does less."
+    );
+    println!("- ns/byte are of the input's bytes; of headers, ns a header.");
+    print_peers();
+    print_inputs();
+    println!();
+}
+
+fn print_peers() {
+    println!(
+        "- Plain C: loops straight from the rules. On segments and in queue_send it copies only: the \
+         units' bytes out of packets, or into them."
+    );
+    println!(
+        "- libavcodec's way: looks at every second byte, then copies runs, in one pass; its CRC takes \
+         four bytes a turn. Where a payload is refused it has written before."
+    );
+    println!(
+        "- Packet loop: in the manner of biTStream, told the AV1 PID. It follows the counter and gives \
+         units, lengths and times; it reads no table and checks no unit."
+    );
+    println!(
+        "- SSE2: by hand, with the instruction set that the library is compiled for. On segments the \
+         packet loop with its copy and its check of every unit; it reads no table."
+    );
+    println!("- memcpy: the C library's, of the function's input bytes.");
+}
+
+fn print_inputs() {
+    println!(
+        "- Units: a temporal delimiter, a frame header and four tile groups; the size is that of the \
+         OBUs together. Of each size below 1 MiB there are different ones, 1 MiB together, handled \
+         in turn."
+    );
+    println!(
+        "- Real AV1: the OBUs that the library takes out of samples/clip.ts, one behind the other, \
+         again and again, as contents; the 1,024 small units are the clip's own."
+    );
+    println!(
+        "- Segments: 240 units of 40,000 bytes, with tables before every fourth, audio and null \
+         packets; null packets alone but for one small unit."
+    );
+    println!(
+        "- Headers: of the packets of 12 MB. read_header gives one packet's fields, a call a packet; \
+         count_headers counts in one call those that pass 21, 22 and 23, and keeps no field."
+    );
+}
+
 fn line(row: &Row) -> String {
-    let Times {
-        library,
-        plain_c,
-        memcpy,
-    } = row.times;
+    let ratios: Vec<String> = row
+        .peers
+        .iter()
+        .map(|peer| match peer {
+            Some(time) => format!("{:.2}", row.library / time),
+            None => "-".to_string(),
+        })
+        .collect();
     format!(
-        "| {} | {} | {} | {library:.3} | {:.0} | {plain_c:.3} | {memcpy:.3} | {:.2} | {:.2} |",
+        "| {} | {} | {} | {:.3} | {} |",
         row.function,
         row.kind,
         row.size,
-        1000.0 / library,
-        library / plain_c,
-        library / memcpy,
+        row.library,
+        ratios.join(" | ")
     )
+}
+
+/// A line for each function, a column for each size.
+fn print_growth(functions: &[Vec<Row>]) {
+    let sizes: Vec<&str> = functions[0].iter().map(|row| row.size).collect();
+    println!("| Function | Input | {} |", sizes.join(" | "));
+    println!("|---|---|{}", "---:|".repeat(sizes.len()));
+    for rows in functions {
+        let times: Vec<String> = rows
+            .iter()
+            .map(|row| format!("{:.3}", row.library))
+            .collect();
+        println!(
+            "| {} | {} | {} |",
+            rows[0].function,
+            rows[0].kind,
+            times.join(" | ")
+        );
+    }
+    println!();
 }

@@ -1,116 +1,133 @@
 //! Reading, checking and writing one access unit.
 
-use crate::access_unit::{ObuList, carried, obu_list};
-use crate::input::{Kind, Random};
-use crate::measure::{Case, Repeats, copy, touched};
-use crate::plain;
-use crate::table::Row;
+use crate::access_unit::{ObuList, Units};
+use crate::input::{Clip, Kind, Size};
+use crate::measure::{Case, Peer, Plan, Row, copy, touched};
+use crate::peers::{lavc, plain, sse2};
+use av1ts::Answer;
 use av1ts::unit::{check_unit, read_unit, write_unit};
 
-/// Bytes of a unit's OBUs together, and their name.
-const SIZES: [(usize, &str); 3] = [(1_024, "1 KiB"), (65_536, "64 KiB"), (1_048_576, "1 MiB")];
-
-/// Different units of one size have so many bytes together, too many for a processor to learn
-/// their branches by heart.
-const ALL_BYTES: usize = 1_048_576;
-
 const MAX_OBUS: usize = 64;
-const MAX_UNIT_BYTES: usize = 1_573_056;
 
-struct Units {
-    kind: &'static str,
-    size: &'static str,
-    lists: Vec<ObuList>,
-    carried: Vec<Vec<u8>>,
-}
-
-/// Room for any unit and its OBUs' lengths.
+/// Room for any unit of a size, and its OBUs' lengths.
 #[derive(Clone, PartialEq)]
-struct Outputs {
+pub struct Outputs {
     bytes: Vec<u8>,
     lengths: Vec<usize>,
 }
 
 impl Outputs {
-    fn touched() -> Outputs {
+    fn touched(size: Size) -> Outputs {
         Outputs {
-            bytes: touched(MAX_UNIT_BYTES),
+            bytes: touched(size.0 / 2 * 3 + 3 * MAX_OBUS),
             lengths: vec![usize::MAX; MAX_OBUS],
         }
     }
 }
 
-pub fn measure(repeats: Repeats, rows: &mut Vec<Row>) -> Result<(), String> {
-    let mut all = Vec::new();
-    for (len, size) in SIZES {
-        for kind in [Kind::Random, Kind::ZeroToThree] {
-            all.push(units(kind, len, size));
-        }
-    }
-    for function in [read_row, check_row, write_row] {
-        for units in &all {
-            rows.push(function(units, repeats.rest)?);
+pub fn measure(plan: &Plan, clip: &Clip, rows: &mut Vec<Row>) -> Result<(), String> {
+    for row in [read_row, check_row, write_row] {
+        for &size in plan.sizes {
+            for kind in Kind::ALL {
+                let units = Units::new(plan.inputs(size.0), kind, size.0, clip);
+                rows.push(row(plan, size, &units)?);
+            }
         }
     }
     Ok(())
 }
 
-fn units(kind: Kind, len: usize, size: &'static str) -> Units {
-    let mut random = Random::new(3);
-    let lists: Vec<ObuList> = (0..ALL_BYTES / len)
-        .map(|_| obu_list(kind, len, &mut random))
-        .collect();
-    Units {
-        kind: kind.name(),
-        size,
-        carried: lists.iter().map(carried).collect(),
-        lists,
-    }
+/// The rows of sizes doubled, for each function.
+pub fn growth(plan: &Plan, sizes: &[Size], clip: &Clip) -> Result<Vec<Vec<Row>>, String> {
+    let of = |row: fn(&Plan, Size, &Units) -> Result<Row, String>| {
+        let rows = sizes.iter().map(|&size| {
+            let units = Units::new(plan.inputs(size.0), Kind::RealAv1, size.0, clip);
+            row(plan, size, &units)
+        });
+        rows.collect()
+    };
+    [read_row, check_row, write_row]
+        .into_iter()
+        .map(of)
+        .collect()
 }
 
-fn read_row(units: &Units, repeats: usize) -> Result<Row, String> {
-    case_of_carried("read_unit", units).compare(
-        repeats,
-        &mut Outputs::touched(),
-        |unit, out| read_unit(unit, &mut out.bytes, &mut out.lengths),
-        |unit, out| plain::read_unit(unit, &mut out.bytes, &mut out.lengths),
-        |unit, out| copy(unit, &mut out.bytes),
+fn read_row(plan: &Plan, size: Size, units: &Units) -> Result<Row, String> {
+    carried_case(plan, "read_unit", size, units).compare(
+        &mut Outputs::touched(size),
+        &reading(read_unit),
+        &[
+            (Peer::PlainC, &reading(plain::read_unit)),
+            (Peer::Lavc, &reading(lavc::read_unit)),
+            (Peer::Sse2, &reading(sse2::read_unit)),
+        ],
+        &|unit: &Vec<u8>, out: &mut Outputs| copy(unit, &mut out.bytes),
     )
 }
 
-fn check_row(units: &Units, repeats: usize) -> Result<Row, String> {
-    case_of_carried("check_unit", units).compare(
-        repeats,
-        &mut Outputs::touched(),
-        |unit, _| check_unit(unit),
-        |unit, _| plain::check_unit(unit),
-        |unit, out| copy(unit, &mut out.bytes),
+fn check_row(plan: &Plan, size: Size, units: &Units) -> Result<Row, String> {
+    carried_case(plan, "check_unit", size, units).compare(
+        &mut Outputs::touched(size),
+        &checking(check_unit),
+        &[
+            (Peer::PlainC, &checking(plain::check_unit)),
+            (Peer::Lavc, &checking(lavc::check_unit)),
+            (Peer::Sse2, &checking(sse2::check_unit)),
+        ],
+        &|unit: &Vec<u8>, out: &mut Outputs| copy(unit, &mut out.bytes),
     )
 }
 
-fn write_row(units: &Units, repeats: usize) -> Result<Row, String> {
+fn write_row(plan: &Plan, size: Size, units: &Units) -> Result<Row, String> {
     let case = Case {
+        plan,
         function: "write_unit",
-        kind: units.kind,
-        size: units.size,
+        kind: units.kind.name(),
+        size: size.1,
         inputs: &units.lists,
         amount: units.lists.iter().map(|list| list.bytes.len()).sum(),
+        repeats: plan.rest,
     };
     case.compare(
-        repeats,
-        &mut Outputs::touched(),
-        |list, out| write_unit(&list.bytes, &list.lengths, &mut out.bytes),
-        |list, out| plain::write_unit(&list.bytes, &list.lengths, &mut out.bytes),
-        |list, out| copy(&list.bytes, &mut out.bytes),
+        &mut Outputs::touched(size),
+        &writing(write_unit),
+        &[
+            (Peer::PlainC, &writing(plain::write_unit)),
+            (Peer::Sse2, &writing(sse2::write_unit)),
+        ],
+        &|list: &ObuList, out: &mut Outputs| copy(&list.bytes, &mut out.bytes),
     )
 }
 
-fn case_of_carried<'a>(function: &'static str, units: &'a Units) -> Case<'a, Vec<u8>> {
+fn carried_case<'a>(
+    plan: &'a Plan,
+    function: &'static str,
+    size: Size,
+    units: &'a Units,
+) -> Case<'a, Vec<u8>> {
     Case {
+        plan,
         function,
-        kind: units.kind,
-        size: units.size,
+        kind: units.kind.name(),
+        size: size.1,
         inputs: &units.carried,
         amount: units.carried.iter().map(Vec::len).sum(),
+        repeats: plan.rest,
     }
+}
+
+fn reading(
+    f: impl Fn(&[u8], &mut [u8], &mut [usize]) -> Answer,
+) -> impl Fn(&Vec<u8>, &mut Outputs) -> Answer {
+    move |unit, out| f(unit, &mut out.bytes, &mut out.lengths)
+}
+
+fn checking(f: impl Fn(&[u8]) -> Answer) -> impl Fn(&Vec<u8>, &mut Outputs) -> Answer {
+    move |unit, _| f(unit)
+}
+
+fn writing(
+    f: impl Fn(&[u8], &[usize], &mut [u8]) -> Answer,
+) -> impl Fn(&ObuList, &mut Outputs) -> Answer {
+    move |list, out| f(&list.bytes, &list.lengths, &mut out.bytes)
 }
