@@ -39,13 +39,17 @@ unitAnswer (refused number place) = refusalAnswer number place
 -- «next_at»: the place of the first step
 abbrev pub startAnswer : Verdict ℕ → WalkStep
 startAnswer (passed at) = record { number = 0; place = 0; end = 0; start = 0; length = 0; «next_at» = at }
-startAnswer (refused number place) = record { number = number; place = place; end = 0; start = 0; length = 0; «next_at» = 0 }
+startAnswer (refused number place) =
+    record { number = number; place = place; end = 0; start = 0; length = 0; «next_at» = 0 }
 
--- a payload's start, length and the place of the next step; at the end, and where a step refused, the walk stays at its place
+-- a payload's start, length and the place of the next step; at the end, and where a step refused, the walk stays at its
+-- place
 abbrev pub stepAnswer : ℕ → Verdict Found → WalkStep
-stepAnswer at (passed (payload p)) = record { number = 0; place = 0; end = 0; start = p .start; length = p .bytes; «next_at» = p .next }
+stepAnswer at (passed (payload p)) =
+    record { number = 0; place = 0; end = 0; start = p .start; length = p .bytes; «next_at» = p .next }
 stepAnswer at (passed end) = record { number = 0; place = 0; end = 1; start = 0; length = 0; «next_at» = at }
-stepAnswer at (refused number place) = record { number = number; place = place; end = 0; start = 0; length = 0; «next_at» = at }
+stepAnswer at (refused number place) =
+    record { number = number; place = place; end = 0; start = 0; length = 0; «next_at» = at }
 
 -- ---- the video descriptor
 -- the ten fields, in descriptor order

@@ -13,7 +13,9 @@ use emulation::Unescaped;
 #[no_mangle]
 pub extern "C" fn av1ts_escape(obu: &[u8], out: &mut [u8]) -> Answer
     ensures { λ r. ⌜ r ≡ countAnswer (escaping (now (obu .entry)) (length (now (out .entry)))) ⌝ }
-    ensures { λ r. ⌜ now (out .exit) ≡ leaves (escaping (now (obu .entry)) (length (now (out .entry)))) (escape (now (obu .entry))) (now (out .entry)) ⌝ }
+    ensures { λ r. ⌜ now (out .exit)
+        ≡ leaves (escaping (now (obu .entry)) (length (now (out .entry)))) (escape (now (obu .entry)))
+        (now (out .entry)) ⌝ }
 {
     let answer = emulation::escape(obu, out);
     match answer {
@@ -31,7 +33,9 @@ pub extern "C" fn av1ts_escape(obu: &[u8], out: &mut [u8]) -> Answer
 #[no_mangle]
 pub extern "C" fn av1ts_unescape(payload: &[u8], out: &mut [u8]) -> Answer
     ensures { λ r. ⌜ r ≡ unescapeAnswer (unescaping (now (payload .entry)) (length (now (out .entry)))) ⌝ }
-    ensures { λ r. ⌜ now (out .exit) ≡ leaves (unescaping (now (payload .entry)) (length (now (out .entry)))) (unescape (now (payload .entry))) (now (out .entry)) ⌝ }
+    ensures { λ r. ⌜ now (out .exit)
+        ≡ leaves (unescaping (now (payload .entry)) (length (now (out .entry)))) (unescape (now (payload .entry)))
+        (now (out .entry)) ⌝ }
 {
     let answer = emulation::unescape(payload, out);
     match answer {

@@ -136,7 +136,9 @@ sound (illegal payload place) e = is-refused 10 place (unescaping payload (lengt
 
 -- the table passes, by computation
 tested : all test cases ≡ true
-unfolding all test same cases escapeAfter unescape dropped legal forbidden above3 firstForbidden unescaping atPlace isPassed isRefused isUnescaped isVideo numbers sameDelay reading wrong versionWrong zerosWrong fieldsOf delayOf judged headerOf sizedHeader sizeOf headerWith fixedBytes leb128 lebWithin lowFirst inRange given pick _>>_ _>>=_
+unfolding all test same cases escapeAfter unescape dropped legal forbidden above3 firstForbidden unescaping atPlace isPassed isRefused
+    isUnescaped isVideo numbers sameDelay reading wrong versionWrong zerosWrong fieldsOf delayOf judged headerOf sizedHeader sizeOf
+    headerWith fixedBytes leb128 lebWithin lowFirst inRange given pick _>>_ _>>=_
 tested = refl
 
 -- the one statement: every case of the table holds of the definitions

@@ -1,4 +1,5 @@
--- "Proved about the definitions, by a single statement over the table" (document 01): the table, and what each case says. Assumes nothing.
+-- "Proved about the definitions, by a single statement over the table" (document 01): the table, and what each case
+-- says. Assumes nothing.
 use Prim.Native.Nat.{ℕ}
 use mathlib.Core.Path.{_≡_}
 use mathlib.Core.List.{List, [], _∷_}

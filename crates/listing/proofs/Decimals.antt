@@ -20,14 +20,16 @@ unfolding placesFrom
 places-from zero k m n e one least holds = (one, subst (λ (j : ℕ). n < 10 ^ j) (let f : m ≡ k = omega arith in f) holds, least)
 places-from (suc turns) k m n e one least holds =
     case (ltb n (10 ^ k)) (λ t. rw (t, placesFrom) (one, ltb-true n (10 ^ k) t, least))
-    (λ t. rw (t, placesFrom) (places-from turns (suc k) m n (omega arith) (omega arith) (λ _. rw (sub-one-suc k) (ltb-false n (10 ^ k) t)) holds))
+    (λ t. rw (t, placesFrom) (places-from turns (suc k) m n (omega arith) (omega arith)
+    (λ _. rw (sub-one-suc k) (ltb-false n (10 ^ k) t)) holds))
 
 below-power : (n : ℕ) → n < 10 ^ n
 below-power zero = omega arith
 below-power (suc n) = rw (pow-succ' 10 n) (let h = below-power n in omega arith)
 
 pub places-fewest : (n : ℕ) → Fewest 10 1 n (places n)
-places-fewest n = places-from n 1 (1 + n) n refl (omega arith) (λ h. absurd (omega arith)) (le-trans (below-power n) (pow-le-pow-right (lit< tt) (omega arith)))
+places-fewest n = places-from n 1 (1 + n) n refl (omega arith) (λ h. absurd (omega arith))
+    (le-trans (below-power n) (pow-le-pow-right (lit< tt) (omega arith)))
 
 -- no more digits than some that hold the number
 fewest-le : (n k m : ℕ) → Fewest 10 1 n k → 1 ≤ m → n < 10 ^ m → k ≤ m

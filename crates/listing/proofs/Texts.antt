@@ -11,7 +11,8 @@ use Rattle.refusal.proofs.Verdicts.{refuse, pass-on, passed-after, passed-same,
 use Rattle.tsobu.specs.StartCodes.{payloads}
 use Rattle.unit.specs.Answer.{checking}
 use Rattle.unit.specs.declared.reading.Counts.{Counts}
-use Rattle.listing.specs.Listing.{refusalLine, headerLine, payloadLines, mostListed, judgingListed, textSaying, listText, listing, listedSays}
+use Rattle.listing.specs.Listing.{refusalLine, headerLine, payloadLines, mostListed, judgingListed, textSaying, listText, listing}
+use Rattle.listing.specs.Listing.{listedSays}
 use Rattle.listing.specs.declared.listed.Listed.{Listed}
 use Rattle.listing.specs.declared.listed.Listed.the-variants as listed
 use Rattle.listing.specs.Parts.{Puts}
@@ -34,7 +35,8 @@ module _ (unit : Bytes) where
     pub text-refused : (number place : ℕ) → refused number place ≡ checking unit → refusalLine number place ≡ listText unit
     text-refused number place e = text-saying (refused number place) (judged e)
 
-    pub text-passed : (counts : Counts) → passed counts ≡ checking unit → headerLine (counts .obus) (counts .dropped) ++ payloadLines 0 (payloads unit) ≡ listText unit
+    pub text-passed : (counts : Counts) → passed counts ≡ checking unit
+        → headerLine (counts .obus) (counts .dropped) ++ payloadLines 0 (payloads unit) ≡ listText unit
     text-passed counts e = text-saying (passed counts) (judged e)
 
   -- ---- listing

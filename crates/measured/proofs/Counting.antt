@@ -24,7 +24,8 @@ start s = record { sum = omega arith; within = omega arith; few = omega arith }
 abbrev packetAt : Bytes → ℕ → Bytes
 packetAt s at = take (at + packetLength - at) (drop at s)
 
-ahead : (s : Bytes) (at left : ℕ) → 0 < left → packetsOf left (drop at s) ≡ packetAt s at ∷ packetsOf (left - 1) (drop (at + packetLength) s)
+ahead : (s : Bytes) (at left : ℕ) → 0 < left → packetsOf left (drop at s)
+    ≡ packetAt s at ∷ packetsOf (left - 1) (drop (at + packetLength) s)
 unfolding packetsOf
 ahead s at zero h = absurd (omega arith)
 ahead s at (suc n) h =

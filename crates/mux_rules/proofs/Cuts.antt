@@ -14,7 +14,8 @@ use Rattle.packet.proofs.Writing.{flag-lt}
 use Rattle.pes.specs.Writing.{times}
 use Rattle.pes.proofs.Writing.{length-times, length-header}
 use Rattle.queue.specs.Queue.{TimedUnit}
-use Rattle.mux_rules.specs.Packets.{header, pes, firstMost, othersFor, firstPart, otherParts, framePlace, within, unitBytes, firstFlags}
+use Rattle.mux_rules.specs.Packets.{header, pes, firstMost, othersFor, firstPart, otherParts, framePlace, within, unitBytes}
+use Rattle.mux_rules.specs.Packets.{firstFlags}
 
 -- ---- the first packet
 pub first-most : (b : Bool) → (182 ≤ firstMost b) × (firstMost b ≤ 184)

@@ -35,8 +35,10 @@ use Rattle.mux_rules.specs.Packets.{packetsFor, unitPackets, unitsPacket
 use Rattle.mux_rules.specs.Sending.{mapPidWrong, av1PidWrong, programWrong, countersWrong, pcrWrong, channelWrong}
 use Rattle.mux_rules.specs.Claim.{accessUnits}
 use Rattle.mux_rules.proofs.Counts.{Whole, section-whole, units-whole}
-use Rattle.mux_rules.proofs.States.{firstPat, firstPmt, afterPat, afterPmt, inTables, kind-map, kind-av1, step-by, run-next, totalsAt}
-use Rattle.mux_rules.proofs.Tabling.{pat-reads, pmt-reads, clock-reads, pat-first, pmt-first, pcr-first, pat-again, pmt-again, pcr-again}
+use Rattle.mux_rules.proofs.States.{firstPat, firstPmt, afterPat, afterPmt, inTables, kind-map, kind-av1, step-by, run-next}
+use Rattle.mux_rules.proofs.States.{totalsAt}
+use Rattle.mux_rules.proofs.Tabling.{pat-reads, pmt-reads, clock-reads, pat-first, pmt-first, pcr-first, pat-again, pmt-again}
+use Rattle.mux_rules.proofs.Tabling.{pcr-again}
 use Rattle.mux_rules.proofs.Units.{extracted, going, openFor, unitAt, unit-run, unit-closes}
 
 -- ---- a unit that could be added

@@ -37,7 +37,8 @@ use Rattle.refusal.proofs.Verdicts.{All, go-on}
 use Rattle.segment_rules.proofs.ByKind.{counted, pat-packet, map-packet, av1-empty}
 use Rattle.mux_rules.specs.declared.Channel.{Channel}
 use Rattle.mux_rules.specs.Packets.{sectionPacket}
-use Rattle.mux_rules.proofs.States.{seen, firstPat, firstPmt, afterPat, afterPmt, inTables, first-check, next-check, checked-first, none-repeats}
+use Rattle.mux_rules.proofs.States.{seen, firstPat, firstPmt, afterPat, afterPmt, inTables, first-check, next-check, checked-first}
+use Rattle.mux_rules.proofs.States.{none-repeats}
 use Rattle.mux_rules.proofs.States.{checked-later, no-clock, uncounted, counted-by}
 
 -- ---- a section's packet

@@ -28,16 +28,19 @@ use Rattle.pes.proofs.Writing.{Opens, opens}
 use Rattle.unit.specs.Unit.{readUnit}
 use Rattle.queue.specs.Queue.{TimedUnit}
 use Rattle.segment_rules.specs.State.{OpenPes, AccessUnit, Extraction, State, Av1, kindOf, withExtraction, counting}
-use Rattle.segment_rules.specs.Rules.{Rooms, inSequence, onUnits, unlessRepeat, packetRules, pesRules, unitBytes, addedTo, closePes, closeIfOpen}
+use Rattle.segment_rules.specs.Rules.{Rooms, inSequence, onUnits, unlessRepeat, packetRules, pesRules, unitBytes, addedTo, closePes}
+use Rattle.segment_rules.specs.Rules.{closeIfOpen}
 use Rattle.segment_rules.specs.Rules.{closeOpen, lengthDiffers, carriedUnits}
 use Rattle.segment_rules.specs.Check.{Progress, run}
 use Rattle.segment_rules.proofs.ByKind.{counted, av1-packet}
 use Rattle.segment_rules.proofs.Sequence as sequence
 use Rattle.mux_rules.specs.declared.Channel.{Channel}
 use Rattle.mux_rules.specs.Packets.{header, othersFor, firstPart, otherParts, firstFlags, others, packetsFor, unitPackets}
-use Rattle.mux_rules.proofs.Cuts.{firstBytes, first-part, other-parts, first-short, first-some, first-steady, first-clockless, other-some}
+use Rattle.mux_rules.proofs.Cuts.{firstBytes, first-part, other-parts, first-short, first-some, first-steady, first-clockless}
+use Rattle.mux_rules.proofs.Cuts.{other-some}
 use Rattle.mux_rules.proofs.Cuts.{other-short, others-next, others-none}
-use Rattle.mux_rules.proofs.States.{seen, none-repeats, firstPmt, inTables, kind-av1, next-check, checked-first, checked-later, counted-by, step-by}
+use Rattle.mux_rules.proofs.States.{seen, none-repeats, firstPmt, inTables, kind-av1, next-check, checked-first, checked-later}
+use Rattle.mux_rules.proofs.States.{counted-by, step-by}
 use Rattle.mux_rules.proofs.States.{run-next, totalsAt}
 use Rattle.mux_rules.proofs.Tabling.{still, due-next}
 

@@ -1,4 +1,5 @@
-// The segment that send writes (document 02, request 2026-01), as definitions, and the theorems about them; no functions.
+// The segment that send writes (document 02, request 2026-01), as definitions, and the theorems about them; no
+// functions.
 use queue::Queue;
 use refusal::Refused;
 use ticks::Ticks27;

@@ -1,5 +1,5 @@
--- Of a packet that passed: its payload lies from the place told on (`payload-read`), which is before the packet's end (`place-within`), and its PID has 13 bits
--- (`pid-width`). The rule of the adaptation field's length, by the control bits. Assumes nothing.
+-- Of a packet that passed: its payload lies from the place told on (`payload-read`), which is before the packet's end (`place-within`), and
+-- its PID has 13 bits (`pid-width`). The rule of the adaptation field's length, by the control bits. Assumes nothing.
 use Prim.Native.Nat.{ℕ, _+_, _/_, _%_, _≤_, _<_}
 use mathlib.Core.Bool.{Bool, true, false, not, _&&_, _||_}
 use mathlib.Core.Path.{_≡_, refl, sym, ap, subst, _∙_}
@@ -44,7 +44,8 @@ fields-right : (p : Bytes) (h : Header) → headerOf p ≡ passed h → (h .pid 
 unfolding headerOf
 fields-right p h e n =
     let w = given-passed 23 _ (passed-after _ _ h (passed-after _ _ h (passed-after _ _ h e .1) .1) .0) in
-    and-second (not (eqb (pid p) nullPid)) (fieldsWrong p) (ap not (ne-eqb (pid p) nullPid (λ q. n (ap (λ (x : Header). x .pid) (passed-fields p h e) ∙ q)))) w
+    and-second (not (eqb (pid p) nullPid)) (fieldsWrong p)
+    (ap not (ne-eqb (pid p) nullPid (λ q. n (ap (λ (x : Header). x .pid) (passed-fields p h e) ∙ q)))) w
 
 length-right : (p : Bytes) → fieldsWrong p ≡ false → adaptationLengthWrong p ≡ false
 unfolding fieldsWrong
@@ -57,14 +58,16 @@ low-two : (n : ℕ) → n % 2 ≡ 1 → n / 2 % 2 ≡ 1 → n % 4 ≡ 3
 low-two n e f = omega arith
 
 -- the length of the adaptation field leaves room for payload where there is payload
-room-left : (p : Bytes) → adaptationLengthWrong p ≡ false → hasPayload p ≡ true → hasAdaptationField p ≡ true → adaptationFieldLength p ≤ 182
+room-left : (p : Bytes) → adaptationLengthWrong p ≡ false → hasPayload p ≡ true → hasAdaptationField p ≡ true
+    → adaptationFieldLength p ≤ 182
 room-left p e a b =
     let x = eqb-true (bits 4 4 (byte p 3)) 1 a in
     let y = eqb-true (bits 5 5 (byte p 3)) 1 b in
     let half : byte p 3 / 16 / 2 ≡ byte p 3 / 32 = omega arith in
     let three : adaptationFieldControl p ≡ 3 = low-two (byte p 3 / 16) x (ap (λ (n : ℕ). n % 2) half ∙ y) in
     let second = or-neither (eqb (adaptationFieldControl p) 2 && not (eqb (adaptationFieldLength p) 183)) _ e .1 in
-    ltb-false 182 (adaptationFieldLength p) (and-second (eqb (adaptationFieldControl p) 3) _ (eq-eqb (adaptationFieldControl p) 3 three) second)
+    ltb-false 182 (adaptationFieldLength p) (and-second (eqb (adaptationFieldControl p) 3) _
+    (eq-eqb (adaptationFieldControl p) 3 three) second)
 
 place-by : (a b : Bool) (n : ℕ) → (a ≡ true → b ≡ true → n ≤ 182) → pick a (pick b (5 + n) 4) 0 < packetLength
 unfolding pick

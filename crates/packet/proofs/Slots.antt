@@ -1,5 +1,5 @@
--- The lookup of a PID, one slot at a time; what its answer means (`look-up-at`, `look-up-none`); that a record put back in its slot changes no lookup
--- (`look-up-same`); what is listed after each operation (`none-listed`, `of-listed`, `put-listed`). Assumes nothing.
+-- The lookup of a PID, one slot at a time; what its answer means (`look-up-at`, `look-up-none`); that a record put back in its slot changes
+-- no lookup (`look-up-same`); what is listed after each operation (`none-listed`, `of-listed`, `put-listed`). Assumes nothing.
 use Prim.Native.Nat.{ℕ, zero, suc, _+_, _≤_, _<_}
 use mathlib.Core.Path.{_≡_, refl, sym, ap, subst, _∙_}
 use mathlib.Core.List.{List, [], _∷_, _++_, map, map-append}
@@ -109,7 +109,8 @@ look-up-means k pid (n ∷ l) =
     (λ t. let e = eqb-true n pid t in subst (Means k pid (n ∷ l)) (sym (first-has k pid n l e)) (means-here k pid n l e))
     (λ t.
     let w = eqb-false n pid t in
-    subst (Means k pid (n ∷ l)) (sym (first-has-not k pid n l w)) (means-later k pid n l w (lookUpFrom (suc k) pid l) (look-up-means (suc k) pid l)))
+    subst (Means k pid (n ∷ l)) (sym (first-has-not k pid n l w))
+    (means-later k pid n l w (lookUpFrom (suc k) pid l) (look-up-means (suc k) pid l)))
 
 pub look-up-at : (pid : ℕ) (l : List ℕ) (slot : ℕ) → lookUp pid l ≡ At slot → FirstAt pid l slot
 look-up-at pid l slot e =
@@ -155,7 +156,8 @@ abbrev pub with-records : ℕ → List Stream → Streams
 with-records count l = record { count = count; records = l }
 
 -- those of the PIDs, one more
-pub one-named : (pids : List ℕ) (records : List Stream) (i : ℕ) → i < length pids → i < length records → take i records ≡ map namedStream (take i pids)
+pub one-named : (pids : List ℕ) (records : List Stream) (i : ℕ) → i < length pids → i < length records
+    → take i records ≡ map namedStream (take i pids)
     → take (i + 1) (set records i (namedStream (getD pids i 0))) ≡ map namedStream (take (i + 1) pids)
 one-named pids records i h k e =
     rw add-one

@@ -2,7 +2,12 @@
 ghost use mathlib.Core.Path.{_≡_};
 ghost use Rattle.refusal.specs.Verdict.{refused};
 ghost use Rattle.refusal.specs.Number.{numberOf};
-ghost use Rattle.packet.specs.Header.{transportErrorIndicator, payloadUnitStartIndicator, pid, transportScramblingControl, adaptationFieldControl, continuityCounter, hasAdaptationField, hasPayload, adaptationFieldLength, adaptationFlags, discontinuityIndicator, pcrFlag, clockExtension, clockReference, pcr, headerLength, payloadPlace, adaptationLengthWrong, pcrCutShort, extensionWrong, fieldsWrong, headerWrong, fields, headerOf, packetSays};
+ghost use Rattle.packet.specs.Header.{transportErrorIndicator, payloadUnitStartIndicator, pid};
+ghost use Rattle.packet.specs.Header.{transportScramblingControl, adaptationFieldControl, continuityCounter};
+ghost use Rattle.packet.specs.Header.{hasAdaptationField, hasPayload, adaptationFieldLength, adaptationFlags};
+ghost use Rattle.packet.specs.Header.{discontinuityIndicator, pcrFlag, clockExtension, clockReference, pcr};
+ghost use Rattle.packet.specs.Header.{headerLength, payloadPlace, adaptationLengthWrong, pcrCutShort};
+ghost use Rattle.packet.specs.Header.{extensionWrong, fieldsWrong, headerWrong, fields, headerOf, packetSays};
 use lists::byte_at;
 use refusal::Refusal;
 use refusal::Refused;

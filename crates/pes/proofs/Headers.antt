@@ -1,6 +1,6 @@
--- What a caller may rely on where `reading` found a header: its fields are the definition's (`read-header`), it lies within the payload (`size-within`), its size is from
--- 9, or 14 with times, to 264 (`size-least`, `size-timed`, `size-most`), the bytes after it are `pesData` (`read-data`), and times are below 2 ^ 33 (`pts-width`,
--- `dts-width`). A refusal is 29 at place 0 (`reading-refused`). Assumes nothing.
+-- What a caller may rely on where `reading` found a header: its fields are the definition's (`read-header`), it lies within the payload
+-- (`size-within`), its size is from 9, or 14 with times, to 264 (`size-least`, `size-timed`, `size-most`), the bytes after it are `pesData`
+-- (`read-data`), and times are below 2 ^ 33 (`pts-width`, `dts-width`). A refusal is 29 at place 0 (`reading-refused`). Assumes nothing.
 use Prim.Native.Nat.{ℕ, _≤_, _<_, _^_}
 use mathlib.Core.Bool.{Bool, true, false}
 use mathlib.Core.Path.{_≡_, refl, sym, ap, subst, _∙_}
@@ -15,7 +15,8 @@ use Rattle.refusal.specs.Verdict.{passed, refused, given}
 use Rattle.refusal.proofs.Verdicts.{refuse, pass-on, never, passed-after, passed-same, given-passed, none-holds}
 use Rattle.ticks.specs.declared.Ticks90.{Ticks90}
 use Rattle.pes.specs.declared.header.Header.{Header}
-use Rattle.pes.specs.Pes.{ptsDtsFlags, lengthByte, pesData, noTimes, ptsAndDts, flagsWrong, notWhole, leastLengthByte, lengthByteShort, headerWrong, pts, dts, headerOf, reading}
+use Rattle.pes.specs.Pes.{ptsDtsFlags, lengthByte, pesData, noTimes, ptsAndDts, flagsWrong, notWhole, leastLengthByte}
+use Rattle.pes.specs.Pes.{lengthByteShort, headerWrong, pts, dts, headerOf, reading}
 
 -- ---- the three conditions that the laws use
 right-flags : (s : Bytes) → headerWrong s ≡ false → flagsWrong s ≡ false

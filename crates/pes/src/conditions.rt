@@ -1,6 +1,8 @@
 // What makes a PES header wrong (29).
 ghost use mathlib.Core.Path.{_≡_};
-ghost use Rattle.pes.specs.Pes.{startWrong, fixedBitsWrong, scrambled, notAligned, flagsWrong, notWhole, leastLengthByte, lengthByteShort, prefixWrong, markerWrong, timeStampWrong, ptsWrong, dtsWrong, bothWrong, timesWrong, headerWrong};
+ghost use Rattle.pes.specs.Pes.{startWrong, fixedBitsWrong, scrambled, notAligned, flagsWrong, notWhole};
+ghost use Rattle.pes.specs.Pes.{leastLengthByte, lengthByteShort, prefixWrong, markerWrong, timeStampWrong};
+ghost use Rattle.pes.specs.Pes.{ptsWrong, dtsWrong, bothWrong, timesWrong, headerWrong};
 use crate::fields::header_size;
 use crate::fields::pts_alone;
 use crate::fields::pts_and_dts;

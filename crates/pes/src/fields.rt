@@ -1,6 +1,7 @@
 // The fields of a PES header.
 ghost use mathlib.Core.Path.{_≡_};
-ghost use Rattle.pes.specs.Pes.{pesPacketLength, ptsDtsFlags, headerSize, noTimes, ptsAlone, ptsAndDts, pts, presentDts, dts};
+ghost use Rattle.pes.specs.Pes.{pesPacketLength, ptsDtsFlags, headerSize, noTimes, ptsAlone, ptsAndDts, pts};
+ghost use Rattle.pes.specs.Pes.{presentDts, dts};
 use lists::byte_at;
 use ticks::Ticks90;
 

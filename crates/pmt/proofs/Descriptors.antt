@@ -1,4 +1,5 @@
--- The descriptors of a loop, one at a time: what is found in those before a place, and those from there on, are what is found in all. Assumes nothing.
+-- The descriptors of a loop, one at a time: what is found in those before a place, and those from there on, are what is found in all.
+-- Assumes nothing.
 use Prim.Native.Nat.{ℕ, zero, suc, _+_, _-_, _≤_, _<_}
 use mathlib.Core.Bool.{Bool, true, false, _&&_, _||_}
 use mathlib.Core.Path.{_≡_, refl, sym, ap, ap₂, _∙_}
@@ -14,7 +15,8 @@ use Rattle.lists.proofs.Picks.{by-true, by-false, by-eq, by-ne}
 use Rattle.refusal.specs.Verdict.{Verdict, passed, refused, _>>=_, _>>_, given}
 use Rattle.descriptor.specs.Descriptor.{videoTag, wrong}
 use Rattle.descriptor.specs.Edition.{Edition}
-use Rattle.pmt.specs.Pmt.{descriptorSize, descriptorsWithin, descriptors, isVideo, videoDescriptors, videoWrong, isRegistration, registrationFirst, registrationLater}
+use Rattle.pmt.specs.Pmt.{descriptorSize, descriptorsWithin, descriptors, isVideo, videoDescriptors, videoWrong, isRegistration}
+use Rattle.pmt.specs.Pmt.{registrationFirst, registrationLater}
 use Rattle.pmt.specs.Answer.{videoOf}
 use Rattle.pmt.specs.Parts.{videosOf, anotherVideo, withVideo, foundIn, withDescriptor, loopFound}
 use Rattle.pmt.specs.declared.loops.Video.{Video}
@@ -61,13 +63,15 @@ abbrev having : Bool → Bool → Videos → Found
 having first later videos = record { first = first; later = later; videos = videos }
 
 pub as-first : (edition : Edition) (f : Found) (d : Bytes) (first registration : Bool) (v : Videos) → first ≡ true
-    → registration ≡ isRegistration edition d → v ≡ withVideo edition (f .videos) d → having registration (f .later) v ≡ withDescriptor edition f first d
+    → registration ≡ isRegistration edition d → v ≡ withVideo edition (f .videos) d
+    → having registration (f .later) v ≡ withDescriptor edition f first d
 unfolding withDescriptor
 as-first edition f d first registration v p q r =
     by-true _ p (ap₂ (λ (b : Bool) (x : Videos). having b (f .later) x) q r)
 
 pub as-later : (edition : Edition) (f : Found) (d : Bytes) (first later : Bool) (v : Videos) → first ≡ false
-    → later ≡ (f .later || isRegistration edition d) → v ≡ withVideo edition (f .videos) d → having (f .first) later v ≡ withDescriptor edition f first d
+    → later ≡ (f .later || isRegistration edition d) → v ≡ withVideo edition (f .videos) d
+    → having (f .first) later v ≡ withDescriptor edition f first d
 unfolding withDescriptor
 as-later edition f d first later v p q r = by-false _ p (ap₂ (having (f .first)) q r)
 
@@ -85,7 +89,8 @@ any-more f (b ∷ l) a = ap (λ (t : Bool). f b || t) (any-more f l a) ∙ sym (
     or-assoc true y z = refl
     or-assoc false y z = refl
 
-those-by : {A : Type 0} (t : Bool) (b : A) (l m : List A) → elim t [ true ↦ b ∷ (l ++ m) | false ↦ l ++ m ] ≡ elim t [ true ↦ b ∷ l | false ↦ l ] ++ m
+those-by : {A : Type 0} (t : Bool) (b : A) (l m : List A)
+    → elim t [ true ↦ b ∷ (l ++ m) | false ↦ l ++ m ] ≡ elim t [ true ↦ b ∷ l | false ↦ l ] ++ m
 those-by true b l m = refl
 those-by false b l m = refl
 
@@ -101,7 +106,8 @@ another [] d = refl
 another (e ∷ []) d = refl
 another (e ∷ e′ ∷ ds) d = refl
 
-videos-by : (t : Bool) (ds : List Bytes) (d : Bytes) → pick t (anotherVideo (videoOf ds) d) (videosOf ds) ≡ videosOf (ds ++ elim t [ true ↦ d ∷ [] | false ↦ [] ])
+videos-by : (t : Bool) (ds : List Bytes) (d : Bytes) → pick t (anotherVideo (videoOf ds) d) (videosOf ds)
+    ≡ videosOf (ds ++ elim t [ true ↦ d ∷ [] | false ↦ [] ])
 unfolding pick
 videos-by true ds d = another ds d
 videos-by false ds d = ap videosOf (sym (append-nil ds))
@@ -193,7 +199,8 @@ unfolding isEmpty
 not-empty [] d = refl
 not-empty (e ∷ ds) d = refl
 
-spared : {edition : Edition} {s : Bytes} {found : Found} {at : ℕ} (w : Walked edition s found at) → at < length s → (n : ℕ) × (w .spare ≡ suc n)
+spared : {edition : Edition} {s : Bytes} {found : Found} {at : ℕ} (w : Walked edition s found at) → at < length s
+    → (n : ℕ) × (w .spare ≡ suc n)
 spared {edition} {s} {found} {at} w h = go (w .spare) (w .enough)
   where
     go : (n : ℕ) → length s ≤ at + n → (m : ℕ) × (n ≡ suc m)
@@ -223,7 +230,8 @@ module _ {edition : Edition} {s : Bytes} {found : Found} {at : ℕ} (w : Walked 
       let f : descriptors s ≡ refused 26 0 =
       step
       ∙ ap
-      (λ (t : Bool). (given 26 t >> (descriptorsWithin (spared w h .0) (drop size (drop at s)) >>= λ rest. passed (take size (drop at s) ∷ rest))) >>= λ more. passed (w .before ++ more))
+      (λ (t : Bool). (given 26 t >> (descriptorsWithin (spared w h .0) (drop size (drop at s))
+      >>= λ rest. passed (take size (drop at s) ∷ rest))) >>= λ more. passed (w .before ++ more))
       (lt-ltb _ _ k) in
       rw f
 

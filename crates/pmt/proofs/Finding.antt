@@ -1,4 +1,5 @@
--- The entries' kinds, taken in one after the other, give the AV1 entry that the definition finds among all of them, or its 28. Assumes nothing.
+-- The entries' kinds, taken in one after the other, give the AV1 entry that the definition finds among all of them, or its 28. Assumes
+-- nothing.
 use Prim.Native.Nat.{ℕ, suc, _+_}
 use mathlib.Core.Bool.{Bool, true, false, not, _&&_, _||_}
 use mathlib.Core.Path.{_≡_, refl, sym, ap, ap₂, _∙_}
@@ -10,7 +11,8 @@ use Rattle.lists.proofs.Picks.{by-true}
 use Rattle.lists.proofs.Tests.{case}
 use Rattle.refusal.specs.Verdict.{Verdict, passed, refused, _>>=_, _>>_, given}
 use Rattle.descriptor.specs.Edition.{Edition}
-use Rattle.pmt.specs.Pmt.{MapEntry, videoDescriptors, videoWrong, registrationFirst, registrationLater, isAv1, strayRegistration, oneAv1, av1Entry}
+use Rattle.pmt.specs.Pmt.{MapEntry, videoDescriptors, videoWrong, registrationFirst, registrationLater, isAv1, strayRegistration}
+use Rattle.pmt.specs.Pmt.{oneAv1, av1Entry}
 use Rattle.pmt.specs.Answer.{firstOf, videoOf, mapOf}
 use Rattle.pmt.specs.Parts.{kindFrom, kindOf, withKind, withAll, listOf, mapFrom, listedMap}
 use Rattle.pmt.specs.declared.loops.Video.{Video}
@@ -71,7 +73,8 @@ module _ (edition : Edition) where
   ruled elsewhere first wrong v = pick elsewhere Stray (pick first (pick wrong Stray (Right v)) Other)
 
   tests : (later first six wrong : Bool) (v : Video)
-      → pick later Stray (pick (not first) Other (pick (not six) Stray (pick wrong Stray (Right v)))) ≡ ruled (later || (first && not six)) (six && first) wrong v
+      → pick later Stray (pick (not first) Other (pick (not six) Stray (pick wrong Stray (Right v))))
+      ≡ ruled (later || (first && not six)) (six && first) wrong v
   unfolding pick ruled
   tests true first six wrong v = refl
   tests false true true wrong v = refl
@@ -87,7 +90,9 @@ module _ (edition : Edition) where
 
   kind-ruled : (e : MapEntry) → kindOf edition e ≡ ruled (stray e) (av1 e) (videosWrong e) (videoIn e)
   unfolding kindFrom strayRegistration isAv1
-  kind-ruled e = tests (registrationLater edition (e .descriptors)) (registrationFirst edition (e .descriptors)) (eqb (e .streamType) 6) (videosWrong e) (videoIn e)
+  kind-ruled e =
+      tests (registrationLater edition (e .descriptors)) (registrationFirst edition (e .descriptors)) (eqb (e .streamType) 6)
+      (videosWrong e) (videoIn e)
 
   module _ (e : MapEntry) where
     kind-stray : stray e ≡ true → kindOf edition e ≡ Stray
@@ -140,7 +145,8 @@ module _ (edition : Edition) where
       (λ r. ap (λ (k : Kind). withKind k slot (One at v)) (kind-wrong e p q r))
       (λ r. ap (λ (k : Kind). withKind k slot (One at v)) (kind-right e p q r))
 
-  one-then : (es : List MapEntry) (slot at : ℕ) (v : Video) → withAll edition es slot (One at v) ≡ pick (strayIn es) Wrong (alone (av1In es) (One at v))
+  one-then : (es : List MapEntry) (slot at : ℕ) (v : Video)
+      → withAll edition es slot (One at v) ≡ pick (strayIn es) Wrong (alone (av1In es) (One at v))
   unfolding withAll any those alone pick
   one-then [] slot at v = refl
   one-then (e ∷ es) slot at v =
@@ -163,7 +169,8 @@ module _ (edition : Edition) where
     abbrev judged : Bool → List MapEntry → ℕ → Verdict ProgramMap
     judged astray those-av1 slot = (given 28 astray >> oneAv1 edition those-av1) >>= λ e. passed (mapWith slot (videoIn e))
 
-    never-right : (e : MapEntry) (astray : Bool) (others : List MapEntry) (slot : ℕ) → videosWrong e ≡ true → refused 28 0 ≡ judged astray (e ∷ others) slot
+    never-right : (e : MapEntry) (astray : Bool) (others : List MapEntry) (slot : ℕ) → videosWrong e ≡ true
+        → refused 28 0 ≡ judged astray (e ∷ others) slot
     unfolding _>>=_ _>>_ given pick oneAv1
     never-right e true others slot p = refl
     never-right e false [] slot p = rw p
@@ -196,7 +203,8 @@ module _ (edition : Edition) where
       passing : av1 e ≡ false → verdict es (suc slot) ≡ verdict (e ∷ es) slot
       passing q =
           let n : suc slot + firstOf av1 es ≡ slot + firstOf av1 (e ∷ es) = omega (arith, first-out av1 e es q) in
-          ap₂ (λ (b : Bool) (s : List MapEntry). judged b s (suc slot + firstOf av1 es)) (sym (any-out stray e es p)) (sym (those-out av1 e es q))
+          ap₂ (λ (b : Bool) (s : List MapEntry). judged b s (suc slot + firstOf av1 es)) (sym (any-out stray e es p))
+          (sym (those-out av1 e es q))
           ∙ ap (judged (strayIn (e ∷ es)) (av1In (e ∷ es))) n
 
       -- the entry is an AV1 entry
@@ -228,7 +236,8 @@ module _ (edition : Edition) where
 
   -- the map of the listed entries is the one that the definition has, or its 28
   pub listed-map : (pcrPid : ℕ) (es : List MapEntry)
-      → listedMap pcrPid (listOf edition es) ≡ (av1Entry edition es >>= λ e. passed (mapOf edition (record { pcrPid = pcrPid; entries = es; av1 = e })))
+      → listedMap pcrPid (listOf edition es) ≡ (av1Entry edition es
+      >>= λ e. passed (mapOf edition (record { pcrPid = pcrPid; entries = es; av1 = e })))
   unfolding av1Entry
   listed-map pcrPid es =
       let n : 0 + firstOf av1 es ≡ firstOf av1 es = omega arith in

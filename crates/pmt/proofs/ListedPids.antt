@@ -27,21 +27,24 @@ entry-listed mapPid earlier s e h =
     let q = passed-after _ _ e (k .2) in
     let wrong = given-passed 26 _ (q .0) in
     let behind = eqb (elementaryPid s) mapPid || any (eqb (elementaryPid s)) earlier in
-    let null = or-neither (eqb (elementaryPid s) nullPid) behind (or-neither (eqb (elementaryPid s) 0) (eqb (elementaryPid s) nullPid || behind) wrong .1) .0 in
+    let null = or-neither (eqb (elementaryPid s) nullPid) behind
+    (or-neither (eqb (elementaryPid s) 0) (eqb (elementaryPid s) nullPid || behind) wrong .1) .0 in
     ap (λ (x : MapEntry). eqb (x .pid) nullPid) (sym (passed-same _ e (q .1))) ∙ null
 
 and-one : (l : List MapEntry) (e : MapEntry) → All NotNull (pids l) → NotNull (e .pid) → All NotNull (pids (l ++ (e ∷ [])))
 and-one [] e h k = (k, tt)
 and-one (a ∷ l) e h k = (h .0, and-one l e (h .1) k)
 
-after-listed : (n mapPid : ℕ) (earlier es : List MapEntry) (s : Bytes) → entriesAfter n mapPid earlier s ≡ passed es → All NotNull (pids earlier) → All NotNull (pids es)
+after-listed : (n mapPid : ℕ) (earlier es : List MapEntry) (s : Bytes) → entriesAfter n mapPid earlier s ≡ passed es
+    → All NotNull (pids earlier) → All NotNull (pids es)
 unfolding entriesAfter
 after-listed zero mapPid earlier es [] e h = subst (λ (l : List MapEntry). All NotNull (pids l)) (passed-same earlier es e) h
 after-listed zero mapPid earlier es (b ∷ s) e h = never e
 after-listed (suc n) mapPid earlier es [] e h = subst (λ (l : List MapEntry). All NotNull (pids l)) (passed-same earlier es e) h
 after-listed (suc n) mapPid earlier es (b ∷ s) e h =
     let k = passed-then (entry mapPid (pids earlier) (b ∷ s)) _ es e in
-    after-listed n mapPid (earlier ++ (k .0 ∷ [])) es _ (k .2) (and-one earlier (k .0) h (entry-listed mapPid (pids earlier) (b ∷ s) (k .0) (k .1)))
+    after-listed n mapPid (earlier ++ (k .0 ∷ [])) es _ (k .2)
+    (and-one earlier (k .0) h (entry-listed mapPid (pids earlier) (b ∷ s) (k .0) (k .1)))
 
 pub listed-not-null : (edition : Edition) (program mapPid : ℕ) (s : Bytes) (m : MapContent) → readPmt edition program mapPid s ≡ passed m
     → All (λ n. eqb n nullPid ≡ false) (pids (m .entries))
@@ -49,4 +52,5 @@ unfolding readPmt
 listed-not-null edition program mapPid s m e =
     let k = passed-then _ _ m (passed-on _ _ m (passed-after _ _ m (passed-after _ _ m (passed-after _ _ m e .1) .1) .1)) in
     let q = passed-then _ _ m (k .2) in
-    subst (λ (x : MapContent). All NotNull (pids (x .entries))) (passed-same _ m (q .2)) (after-listed mostEntries mapPid [] (k .0) _ (k .1) tt)
+    subst (λ (x : MapContent). All NotNull (pids (x .entries))) (passed-same _ m (q .2))
+    (after-listed mostEntries mapPid [] (k .0) _ (k .1) tt)

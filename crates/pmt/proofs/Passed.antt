@@ -16,7 +16,8 @@ use Rattle.refusal.proofs.Verdicts.{passed-then, passed-after, passed-same, giv
 use Rattle.psi.specs.Section.{commonWrong, beforeCrc, upToCrc, tableIdExtension}
 use Rattle.descriptor.specs.Edition.{Edition}
 use Rattle.packet.specs.Header.{nullPid}
-use Rattle.pmt.specs.Pmt.{MapEntry, MapContent, elementaryPid, entrySize, pidWrong, entry, pids, mostEntries, entriesAfter, entries, isAv1, oneAv1, av1Entry, pcrPid, programInfoLength, entryBytes, readPmt}
+use Rattle.pmt.specs.Pmt.{MapEntry, MapContent, elementaryPid, entrySize, pidWrong, entry, pids, mostEntries, entriesAfter, entries}
+use Rattle.pmt.specs.Pmt.{isAv1, oneAv1, av1Entry, pcrPid, programInfoLength, entryBytes, readPmt}
 use Rattle.pmt.specs.Answer.{firstOf, mapOf, mapped}
 use Rattle.pmt.specs.declared.section.ProgramMap.{ProgramMap}
 use Rattle.pmt.proofs.Finding.{those-in, those-out, first-in, first-out}
@@ -72,7 +73,8 @@ pid-of mapPid earlier s e p =
 
 -- what holds of the PIDs so far holds with each entry that passes; Q holds of the bytes and of what is left of them
 kept : (P : List ℕ → Type 0) (Q : Bytes → Type 0) (mapPid : ℕ) → ((s : Bytes) (k : ℕ) → Q s → Q (drop k s))
-    → ((earlier : List ℕ) (s : Bytes) → P earlier → Q s → pidWrong mapPid earlier (elementaryPid s) ≡ false → P (earlier ++ (elementaryPid s ∷ [])))
+    → ((earlier : List ℕ) (s : Bytes) → P earlier → Q s → pidWrong mapPid earlier (elementaryPid s) ≡ false
+    → P (earlier ++ (elementaryPid s ∷ [])))
     → (n : ℕ) (before es : List MapEntry) (s : Bytes) → P (pids before) → Q s → entriesAfter n mapPid before s ≡ passed es → P (pids es)
 unfolding entriesAfter
 kept P Q mapPid rest step zero before es [] p q e = subst (λ (l : List MapEntry). P (pids l)) (passed-same before es e) p
@@ -82,11 +84,14 @@ kept P Q mapPid rest step (suc n) before es (b ∷ s) p q e =
     let x = passed-then (entry mapPid (pids before) (b ∷ s)) _ es e in
     let y = pid-of mapPid (pids before) (b ∷ s) (x .0) (x .1) in
     let after : P (pids (before ++ (x .0 ∷ []))) =
-    subst P (ap (λ (i : ℕ). pids before ++ (i ∷ [])) (sym (y .0)) ∙ sym (pids-more before (x .0))) (step (pids before) (b ∷ s) p q (y .1)) in
-    kept P Q mapPid rest step n (before ++ (x .0 ∷ [])) es (drop (entrySize (b ∷ s)) (b ∷ s)) after (rest (b ∷ s) (entrySize (b ∷ s)) q) (x .2)
+    subst P (ap (λ (i : ℕ). pids before ++ (i ∷ [])) (sym (y .0)) ∙ sym (pids-more before (x .0)))
+    (step (pids before) (b ∷ s) p q (y .1)) in
+    kept P Q mapPid rest step n (before ++ (x .0 ∷ [])) es (drop (entrySize (b ∷ s)) (b ∷ s)) after (rest (b ∷ s) (entrySize (b ∷ s)) q)
+    (x .2)
 
 -- "12 streams in a program map"
-counted : (n mapPid : ℕ) (before es : List MapEntry) (s : Bytes) → entriesAfter n mapPid before s ≡ passed es → length es ≤ length before + n
+counted : (n mapPid : ℕ) (before es : List MapEntry) (s : Bytes) → entriesAfter n mapPid before s ≡ passed es
+    → length es ≤ length before + n
 unfolding entriesAfter
 counted zero mapPid before es [] e = omega (arith, ap length (passed-same before es e))
 counted zero mapPid before es (b ∷ s) e = never e
@@ -108,8 +113,10 @@ fresh-more mapPid ps p f w j h =
     (λ t. let k = ltb-true j (length ps) t in
     ap₂ (pidWrong mapPid) (take-append-le j ps (p ∷ []) (omega arith)) (List·getD-append ps (p ∷ []) 0 j k) ∙ f j k)
     (λ t. let k : j ≡ length ps = omega (arith, ltb-false j (length ps) t, length-append ps (p ∷ [])) in
-    let z : getD (ps ++ (p ∷ [])) (length ps) 0 ≡ p = ap (λ (i : ℕ). getD (ps ++ (p ∷ [])) i 0) (let i : length ps ≡ length ps + 0 = omega arith in i) ∙ getD-append-add ps (p ∷ []) 0 0 in
-    ap₂ (pidWrong mapPid) (ap (λ (i : ℕ). take i (ps ++ (p ∷ []))) k ∙ take-append-seam ps (p ∷ [])) (ap (λ (i : ℕ). byte (ps ++ (p ∷ [])) i) k ∙ z) ∙ w)
+    let z : getD (ps ++ (p ∷ [])) (length ps) 0 ≡ p = ap (λ (i : ℕ). getD (ps ++ (p ∷ [])) i 0)
+    (let i : length ps ≡ length ps + 0 = omega arith in i) ∙ getD-append-add ps (p ∷ []) 0 0 in
+    ap₂ (pidWrong mapPid) (ap (λ (i : ℕ). take i (ps ++ (p ∷ []))) k ∙ take-append-seam ps (p ∷ []))
+    (ap (λ (i : ℕ). byte (ps ++ (p ∷ [])) i) k ∙ z) ∙ w)
 
 not-among : (p : ℕ) (l : List ℕ) → any (eqb p) l ≡ false → (i : ℕ) → i < length l → p ≡ byte l i → ⊥
 unfolding any
@@ -142,11 +149,13 @@ small-more (a ∷ ps) p f h (suc j) = small-more ps p (λ n. f (suc n)) h j
 module _ (mapPid : ℕ) (s : Bytes) (es : List MapEntry) (e : entries mapPid s ≡ passed es) where
   fresh : Fresh mapPid (pids es)
   fresh =
-      kept (Fresh mapPid) (λ (x : Bytes). Unit {0}) mapPid (λ x k u. tt) (λ ps x f u w. fresh-more mapPid ps (elementaryPid x) f w) mostEntries [] es s
+      kept (Fresh mapPid) (λ (x : Bytes). Unit {0}) mapPid (λ x k u. tt)
+      (λ ps x f u w. fresh-more mapPid ps (elementaryPid x) f w) mostEntries [] es s
       (λ j h. absurd (omega arith)) tt e
 
   module _ (j : ℕ) (h : j < length (pids es)) where
-    among : (i : ℕ) → i < length (0 ∷ nullPid ∷ mapPid ∷ take j (pids es)) → byte (pids es) j ≡ byte (0 ∷ nullPid ∷ mapPid ∷ take j (pids es)) i → ⊥
+    among : (i : ℕ) → i < length (0 ∷ nullPid ∷ mapPid ∷ take j (pids es))
+        → byte (pids es) j ≡ byte (0 ∷ nullPid ∷ mapPid ∷ take j (pids es)) i → ⊥
     unfolding pidWrong
     among i k q = not-among (byte (pids es) j) (0 ∷ nullPid ∷ mapPid ∷ take j (pids es)) (fresh j h) i k q
 

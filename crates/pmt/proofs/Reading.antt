@@ -14,7 +14,8 @@ use Rattle.refusal.specs.Verdict.{Verdict, passed, refused, _>>=_, _>>_, given}
 use Rattle.refusal.proofs.Verdicts.{refuse, pass-on, go-on, stops, stop, then-bind}
 use Rattle.psi.specs.Section.{commonWrong, beforeCrc, upToCrc, tableIdExtension}
 use Rattle.descriptor.specs.Edition.{Edition}
-use Rattle.pmt.specs.Pmt.{MapEntry, MapContent, descriptors, entries, av1Entry, pcrPid, programInfoLength, programInfo, entryBytes, readPmt}
+use Rattle.pmt.specs.Pmt.{MapEntry, MapContent, descriptors, entries, av1Entry, pcrPid, programInfoLength, programInfo, entryBytes}
+use Rattle.pmt.specs.Pmt.{readPmt}
 use Rattle.pmt.specs.Answer.{mapOf, mapped, pmtSays, noMap, mapBeside}
 use Rattle.pmt.specs.Parts.{loopFound, listOf, listRead, mapFrom, listedMap, bodyMap}
 use Rattle.pmt.specs.declared.loops.Video.{Video}
@@ -90,16 +91,19 @@ module _ (edition : Edition) (mapPid : ℕ) (s : Bytes) (most : 16 ≤ length s)
       unfolding bodyMap
       body p = pass-on 26 info-fits (passes (info-filled .0) (info-filled .1) p)
 
-      pub entries-refused : (number : ℕ) → listRead edition mapPid (take (length s - 4 - (12 + n)) (drop (12 + n) s)) ≡ refused number 0 → refused number 0 ≡ bodyMap edition mapPid s
+      pub entries-refused : (number : ℕ) → listRead edition mapPid (take (length s - 4 - (12 + n)) (drop (12 + n) s)) ≡ refused number 0
+          → refused number 0 ≡ bodyMap edition mapPid s
       entries-refused number p = body (stop number 0 _ (ap (listRead edition mapPid) (sym entries-lent) ∙ p))
 
-      pub entries-passed : (l : Listed) → listRead edition mapPid (take (length s - 4 - (12 + n)) (drop (12 + n) s)) ≡ passed l → (pcr : ℕ) → pcr ≡ pcrPid s
+      pub entries-passed : (l : Listed) → listRead edition mapPid (take (length s - 4 - (12 + n)) (drop (12 + n) s)) ≡ passed l → (pcr : ℕ)
+          → pcr ≡ pcrPid s
           → listedMap pcr l ≡ bodyMap edition mapPid s
       entries-passed l p pcr q =
           ap (λ (i : ℕ). listedMap i l) q ∙ body (go-on l _ (ap (listRead edition mapPid) (sym entries-lent) ∙ p) refl)
 
 -- ---- the whole section
-bind-bind : {A B C : Type 0} (v : Verdict A) (f : A → B) (g : B → C) → ((v >>= λ a. passed (f a)) >>= λ b. passed (g b)) ≡ (v >>= λ a. passed (g (f a)))
+bind-bind : {A B C : Type 0} (v : Verdict A) (f : A → B) (g : B → C)
+    → ((v >>= λ a. passed (f a)) >>= λ b. passed (g b)) ≡ (v >>= λ a. passed (g (f a)))
 unfolding _>>=_
 bind-bind (passed a) f g = refl
 bind-bind (refused number place) f g = refl
@@ -108,13 +112,15 @@ abbrev content : ℕ → List MapEntry → MapEntry → MapContent
 content pcr es e = record { pcrPid = pcr; entries = es; av1 = e }
 
 lists-map : (edition : Edition) (pcr : ℕ) (v : Verdict (List MapEntry))
-    → ((v >>= λ es. av1Entry edition es >>= λ e. passed (content pcr es e)) >>= λ m. passed (mapOf edition m)) ≡ ((v >>= λ es. passed (listOf edition es)) >>= listedMap pcr)
+    → ((v >>= λ es. av1Entry edition es >>= λ e. passed (content pcr es e)) >>= λ m. passed (mapOf edition m))
+    ≡ ((v >>= λ es. passed (listOf edition es)) >>= listedMap pcr)
 unfolding _>>=_
 lists-map edition pcr (passed es) = bind-bind (av1Entry edition es) (content pcr es) (mapOf edition) ∙ sym (listed-map edition pcr es)
 lists-map edition pcr (refused number place) = refl
 
 pub section-map : (edition : Edition) (program mapPid : ℕ) (s : Bytes)
-    → mapped edition (readPmt edition program mapPid s) ≡ (given 26 (commonWrong 2 16 s) >> (given 26 (not (eqb (tableIdExtension s) program)) >> bodyMap edition mapPid s))
+    → mapped edition (readPmt edition program mapPid s) ≡ (given 26 (commonWrong 2 16 s)
+    >> (given 26 (not (eqb (tableIdExtension s) program)) >> bodyMap edition mapPid s))
 unfolding mapped readPmt bodyMap listRead
 section-map edition program mapPid s =
     let g : MapContent → Verdict ProgramMap = λ m. passed (mapOf edition m) in

@@ -1,5 +1,5 @@
--- "27 is given where bytes remain after a twelfth that passed": a section that is right up to its entries, with twelve that pass and bytes behind them,
--- is answered by 27, whatever these bytes are (`thirteenth-refused`). Assumes nothing.
+-- "27 is given where bytes remain after a twelfth that passed": a section that is right up to its entries, with twelve that pass and bytes
+-- behind them, is answered by 27, whatever these bytes are (`thirteenth-refused`). Assumes nothing.
 use Prim.Native.Nat.{ℕ, zero, suc, _+_, _≤_, _<_}
 use mathlib.Core.Bool.{false, not}
 use mathlib.Core.Path.{_≡_, refl, sym, ap, _∙_}
@@ -16,7 +16,8 @@ use Rattle.refusal.specs.Verdict.{passed, refused}
 use Rattle.refusal.proofs.Verdicts.{pass-on, go-on, stop, passed-then, passed-after, passed-same, given-passed, never}
 use Rattle.descriptor.specs.Edition.{Edition}
 use Rattle.psi.specs.Section.{commonWrong, upToCrc, tableIdExtension}
-use Rattle.pmt.specs.Pmt.{MapEntry, descriptors, entrySize, entry, pids, mostEntries, entriesAfter, entries, programInfoLength, programInfo, entryBytes, readPmt}
+use Rattle.pmt.specs.Pmt.{MapEntry, descriptors, entrySize, entry, pids, mostEntries, entriesAfter, entries, programInfoLength}
+use Rattle.pmt.specs.Pmt.{programInfo, entryBytes, readPmt}
 use Rattle.pmt.proofs.Reading.{passes}
 
 -- ---- an entry that passed is decided by its own bytes
@@ -39,15 +40,26 @@ module _ (mapPid : ℕ) (earlier : List ℕ) (s more : Bytes) (e : MapEntry) (p 
       let f = fits in
       let n = length-append s more in
       let l : ltb (length (s ++ more)) 5 ≡ ltb (length s) 5 = le-ltb (length (s ++ more)) 5 (omega arith) ∙ sym (le-ltb _ _ (f .0)) in
-      let k : ltb (length (s ++ more)) (entrySize s) ≡ ltb (length s) (entrySize s) = le-ltb (length (s ++ more)) (entrySize s) (omega arith) ∙ sym (le-ltb _ _ (f .1)) in
+      let k : ltb (length (s ++ more)) (entrySize s) ≡ ltb (length s) (entrySize s) = le-ltb (length (s ++ more)) (entrySize s)
+      (omega arith) ∙ sym (le-ltb _ _ (f .1)) in
       let t : take (entrySize s) (s ++ more) ≡ take (entrySize s) s = take-append-le (entrySize s) s more (f .1) in
-      rw (same-byte 0 (omega arith), same-byte 1 (omega arith), same-byte 2 (omega arith), same-byte 3 (omega arith), same-byte 4 (omega arith), t, l, k) p
+      rw (
+        same-byte 0 (omega arith),
+        same-byte 1 (omega arith),
+        same-byte 2 (omega arith),
+        same-byte 3 (omega arith),
+        same-byte 4 (omega arith),
+        t,
+        l,
+        k,
+      ) p
 
   pub rest-alone : drop (entrySize (s ++ more)) (s ++ more) ≡ drop (entrySize s) s ++ more
   rest-alone = ap (λ (n : ℕ). drop n (s ++ more)) same-size ∙ drop-append-le (entrySize s) s more (fits .1)
 
 -- ---- as many entries as may come, and bytes behind them
-past : (n mapPid : ℕ) (before es : List MapEntry) (s : Bytes) (b : ℕ) (more : Bytes) → entriesAfter n mapPid before s ≡ passed es → length es ≡ length before + n
+past : (n mapPid : ℕ) (before es : List MapEntry) (s : Bytes) (b : ℕ) (more : Bytes) → entriesAfter n mapPid before s ≡ passed es
+    → length es ≡ length before + n
     → entriesAfter n mapPid before (s ++ (b ∷ more)) ≡ refused 27 0
 unfolding entriesAfter
 past zero mapPid before es [] b more p h = refl

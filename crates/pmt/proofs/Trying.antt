@@ -21,7 +21,8 @@ use Rattle.pmt.specs.declared.listing.Kind.{Kind}
 use Rattle.pmt.specs.declared.listing.Tried.{Tried}
 
 -- ---- what a loop's reading says of its descriptors
-pub refused-first : {A B : Type 0} (v : Verdict A) (f : A → B) (number place : ℕ) → (v >>= λ a. passed (f a)) ≡ refused number place → v ≡ refused number place
+pub refused-first : {A B : Type 0} (v : Verdict A) (f : A → B) (number place : ℕ) → (v >>= λ a. passed (f a)) ≡ refused number place
+    → v ≡ refused number place
 unfolding _>>=_
 refused-first (passed a) f number place e = never (sym e)
 refused-first (refused n p) f number place e = let g : n ≡ number = cc in let h : p ≡ place = cc in ap₂ refused g h

@@ -50,7 +50,8 @@ entry-within mapPid earlier s e p =
     let short = given-passed 26 _ (passed-after _ _ e p .0) in
     ltb-false _ _ (or-neither (ltb (length s) 5) (ltb (length s) (entrySize s)) short .1)
 
-with-one-more : (edition : Edition) (es : List MapEntry) (e : MapEntry) (slot : ℕ) (a : Av1) → withAll edition (es ++ (e ∷ [])) slot a ≡ withKind (kindOf edition e) (slot + length es) (withAll edition es slot a)
+with-one-more : (edition : Edition) (es : List MapEntry) (e : MapEntry) (slot : ℕ) (a : Av1)
+    → withAll edition (es ++ (e ∷ [])) slot a ≡ withKind (kindOf edition e) (slot + length es) (withAll edition es slot a)
 unfolding withAll
 with-one-more edition [] e slot a = let n : slot ≡ slot + 0 = omega arith in ap (λ (k : ℕ). withKind (kindOf edition e) k a) n
 with-one-more edition (x ∷ es) e slot a =
@@ -91,7 +92,8 @@ module _ {edition : Edition} {mapPid : ℕ} {s : Bytes} {entries : List Entry} {
   unfolding listRead _>>=_
   turn-end h =
       let e : pmt.entries mapPid s ≡ passed (t .before) =
-      t .rest ∙ ap (entriesAfter (mostEntries - count) mapPid (t .before)) (drop-of-length-le s {i = at} h) ∙ none-left _ mapPid (t .before) in
+      t .rest ∙ ap (entriesAfter (mostEntries - count) mapPid (t .before)) (drop-of-length-le s {i = at} h)
+      ∙ none-left _ mapPid (t .before) in
       rw e
       (ap₂ (λ (l : List Entry) (a : Av1). passed (list count l a)) (t .slotted) (t .known)
       ∙ ap (λ (n : ℕ). passed (list n (slots (t .before)) (withAll edition (t .before) 0 Missing))) (t .counted))
@@ -105,7 +107,8 @@ module _ {edition : Edition} {mapPid : ℕ} {s : Bytes} {entries : List Entry} {
     unfolding listRead
     turn-full k =
         let n : mostEntries - count ≡ 0 = omega arith in
-        stop 27 0 _ (t .rest ∙ ap (λ (m : ℕ). entriesAfter m mapPid (t .before) (drop at s)) n ∙ no-place mapPid (t .before) (drop at s) some)
+        stop 27 0 _ (t .rest ∙ ap (λ (m : ℕ). entriesAfter m mapPid (t .before) (drop at s)) n
+        ∙ no-place mapPid (t .before) (drop at s) some)
 
     module _ (k : count < 12) where
       -- the next entry is tried
@@ -118,13 +121,15 @@ module _ {edition : Edition} {mapPid : ℕ} {s : Bytes} {entries : List Entry} {
           ∙ one-more (mostEntries - (count + 1)) mapPid (t .before) (drop at s) some
 
       -- as it is lent
-      lent : triedEntry edition mapPid (pidsIn entries count) (take (length s - at) (drop at s)) ≡ triedEntry edition mapPid (pids (t .before)) (drop at s)
+      lent : triedEntry edition mapPid (pidsIn entries count) (take (length s - at) (drop at s))
+          ≡ triedEntry edition mapPid (pids (t .before)) (drop at s)
       lent =
           ap₂ (triedEntry edition mapPid)
           (ap₂ pidsIn (t .slotted) (t .counted) ∙ pids-in-slots (t .before))
           (to-end s at)
 
-      pub turn-refused : triedEntry edition mapPid (pidsIn entries count) (take (length s - at) (drop at s)) ≡ refused 26 0 → refused 26 0 ≡ listRead edition mapPid s
+      pub turn-refused : triedEntry edition mapPid (pidsIn entries count) (take (length s - at) (drop at s)) ≡ refused 26 0
+          → refused 26 0 ≡ listRead edition mapPid s
       unfolding listRead triedEntry
       turn-refused e =
           let r : entry mapPid (pids (t .before)) (drop at s) ≡ refused 26 0 = refused-first _ _ 26 0 (sym lent ∙ e) in
@@ -147,7 +152,8 @@ module _ {edition : Edition} {mapPid : ℕ} {s : Bytes} {entries : List Entry} {
         pub turn-further : 0 < x .size
         turn-further = omega (arith, size-is)
 
-        pub turn-next : (a : Av1) → a ≡ withKind (x .kind) count av1 → Turned edition mapPid s (set entries count (x .entry)) a (count + 1) (at + x .size)
+        pub turn-next : (a : Av1) → a ≡ withKind (x .kind) count av1
+            → Turned edition mapPid s (set entries count (x .entry)) a (count + 1) (at + x .size)
         turn-next a f =
             let e = next .0 in
             let z = size-is in
@@ -163,8 +169,10 @@ module _ {edition : Edition} {mapPid : ℕ} {s : Bytes} {entries : List Entry} {
                   ∙ ap (λ (i : ℕ). set (slots (t .before)) i (listed e)) (t .counted) ∙ slots-set (t .before) e (omega (arith, t .counted));
               known =
                   f ∙ ap₂ (λ (y : Tried) (b : Av1). withKind (y .kind) count b) (sym (next .2)) (t .known)
-                  ∙ ap (λ (i : ℕ). withKind (kindOf edition e) i (withAll edition (t .before) 0 Missing)) (sym n) ∙ sym (with-one-more edition (t .before) e 0 Missing);
+                  ∙ ap (λ (i : ℕ). withKind (kindOf edition e) i (withAll edition (t .before) 0 Missing)) (sym n)
+                  ∙ sym (with-one-more edition (t .before) e 0 Missing);
               rest =
                   turn ∙ sym (go-on e _ (next .1) refl)
-                  ∙ ap (entriesAfter (mostEntries - (count + 1)) mapPid (t .before ++ (e ∷ []))) (ap (λ (i : ℕ). drop i (drop at s)) (sym z) ∙ drop-drop (x .size) at s);
+                  ∙ ap (entriesAfter (mostEntries - (count + 1)) mapPid (t .before ++ (e ∷ [])))
+                  (ap (λ (i : ℕ). drop i (drop at s)) (sym z) ∙ drop-drop (x .size) at s);
             }

@@ -11,7 +11,9 @@ use Rattle.refusal.specs.Number.{numberOf}
 use Rattle.descriptor.specs.Descriptor.{wrong}
 use Rattle.descriptor.specs.Edition.{Edition}
 use Rattle.psi.specs.Section.{upToCrc}
-use Rattle.pmt.specs.Pmt.{MapEntry, descriptors, entrySize, entry, entries, isVideo, videoDescriptors, videoWrong, isRegistration, registrationFirst, registrationLater, pcrPid, programInfoLength, programInfo, entryBytes}
+use Rattle.pmt.specs.Pmt.{MapEntry, descriptors, entrySize, entry, entries, isVideo, videoDescriptors, videoWrong}
+use Rattle.pmt.specs.Pmt.{isRegistration, registrationFirst, registrationLater, pcrPid, programInfoLength}
+use Rattle.pmt.specs.Pmt.{programInfo, entryBytes}
 use Rattle.pmt.specs.Answer.{listed, slots, videoOf}
 use Rattle.pmt.specs.declared.loops.Video.{Video}
 use Rattle.pmt.specs.declared.loops.Video.the-variants.{Absent, Present}

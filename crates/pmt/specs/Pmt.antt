@@ -1,6 +1,7 @@
--- What a PMT section says. "PMT: table 2, the PAT's program number, descriptors and entries filling their lengths exactly, no PID twice, none equal to
--- 0, 0x1FFF or the map PID. After the CRC the entries are tried in order, each wholly for 26; 27 is given where bytes remain after a twelfth that
--- passed; 28 last." (document 01, "A segment"). Assumes nothing.
+-- What a PMT section says. "PMT: table 2, the PAT's program number, descriptors and entries filling their lengths
+-- exactly, no PID twice, none equal to 0, 0x1FFF or the map PID. After the CRC the entries are tried in order, each
+-- wholly for 26; 27 is given where bytes remain after a twelfth that passed; 28 last." (document 01, "A segment").
+-- Assumes nothing.
 use Prim.Native.Nat.{ℕ, zero, suc, _+_}
 use mathlib.Core.Bool.{Bool, true, false, not, _&&_, _||_}
 use mathlib.Core.List.{List, [], _∷_, _++_, map}
@@ -19,7 +20,8 @@ use Rattle.psi.specs.Section.{commonWrong, upToCrc, tableIdExtension}
 abbrev pub descriptorSize : Bytes → ℕ
 descriptorSize s = 2 + byte s 1
 
--- "descriptors .. filling their lengths exactly": the descriptors of a loop, or 26. A loop has no more descriptors than bytes
+-- "descriptors .. filling their lengths exactly": the descriptors of a loop, or 26. A loop has no more descriptors than
+-- bytes
 unfoldable pub descriptorsWithin : ℕ → Bytes → Verdict (List Bytes)
 descriptorsWithin zero [] = passed []
 descriptorsWithin zero (b ∷ s) = refused 26 0
@@ -78,7 +80,8 @@ entry mapPid earlier s = do
 abbrev pub pids : List MapEntry → List ℕ
 pids es = map (λ e. e .pid) es
 
--- "the entries are tried in order .. 27 is given where bytes remain after a twelfth that passed": so many may still come after the earlier ones
+-- "the entries are tried in order .. 27 is given where bytes remain after a twelfth that passed": so many may still
+-- come after the earlier ones
 unfoldable pub entriesAfter : ℕ → ℕ → List MapEntry → Bytes → Verdict (List MapEntry)
 entriesAfter zero mapPid earlier [] = passed earlier
 entriesAfter zero mapPid earlier (b ∷ s) = refused 27 0
@@ -130,7 +133,9 @@ module _ (edition : Edition) where
 
   -- 28 "the registration 'AV01' elsewhere in an entry's loop or with stream_type other than 0x06"
   unfoldable pub strayRegistration : MapEntry → Bool
-  strayRegistration e = registrationLater (e .descriptors) || (registrationFirst (e .descriptors) && not (eqb (e .streamType) 0x06))
+  strayRegistration e =
+      registrationLater (e .descriptors)
+      || (registrationFirst (e .descriptors) && not (eqb (e .streamType) 0x06))
 
   -- 28 "not exactly one AV1 entry"
   unfoldable pub oneAv1 : List MapEntry → Verdict MapEntry

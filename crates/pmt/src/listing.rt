@@ -45,7 +45,8 @@ enum TriedEntry {
     Wrong,
 }
 
-// What is known of the AV1 entry: none yet, the slot and the video descriptor of the only one, or that 28 is to be given.
+// What is known of the AV1 entry: none yet, the slot and the video descriptor of the only one, or that 28 is to be
+// given.
 pub(crate) enum Av1 {
     Missing,
     One(usize, Video),

@@ -23,7 +23,8 @@ use descriptor::Edition;
 use refusal::Refusal;
 use refusal::Refused;
 
-// What a PMT says: the PCR PID; how many entries, and the entries in the first slots; the AV1 entry's slot and its video descriptor.
+// What a PMT says: the PCR PID; how many entries, and the entries in the first slots; the AV1 entry's slot and its
+// video descriptor.
 pub struct ProgramMap {
     pub pcr_pid: u16,
     pub count: usize,

@@ -1,5 +1,5 @@
--- A section's tests, from their parts: one part that holds is enough, and where none of the others does the last one decides. Then the CRC that a
--- section carries, read at its place, and the bytes before it. Assumes nothing.
+-- A section's tests, from their parts: one part that holds is enough, and where none of the others does the last one decides. Then the CRC
+-- that a section carries, read at its place, and the bytes before it. Assumes nothing.
 use Prim.Native.Nat.{ℕ, _+_, _-_, _≤_}
 use mathlib.Core.Bool.{true, false, not, _||_, or-true}
 use mathlib.Core.Path.{_≡_, sym, ap, ap₂, _∙_}
@@ -13,7 +13,8 @@ use Rattle.lists.specs.Lists.{Bytes}
 use Rattle.lists.specs.Bytes.{byte, word}
 use Rattle.lists.proofs.Parts.{drop-take}
 use Rattle.lists.proofs.Tests.{or-neither}
-use Rattle.psi.specs.Section.{tableId, sectionSyntaxIndicator, currentNextIndicator, sectionNumber, lastSectionNumber, beforeCrc, crc32, upToCrc, fieldsWrong, crcWrong, commonWrong}
+use Rattle.psi.specs.Section.{tableId, sectionSyntaxIndicator, currentNextIndicator, sectionNumber, lastSectionNumber, beforeCrc}
+use Rattle.psi.specs.Section.{crc32, upToCrc, fieldsWrong, crcWrong, commonWrong}
 
 module _ (table : ℕ) (s : Bytes) where
   pub other-table : not (eqb (tableId s) table) ≡ true → fieldsWrong table s ≡ true
@@ -54,13 +55,16 @@ module _ (table : ℕ) (s : Bytes) where
     pub long-enough : commonWrong table least s ≡ false → least ≤ length s
     unfolding commonWrong
     long-enough e =
-        let shorter = or-neither (ltb (length s) least) (fieldsWrong table s) (or-neither (ltb (length s) least || fieldsWrong table s) (crcWrong s) e .0) .0 in
+        let shorter = or-neither (ltb (length s) least) (fieldsWrong table s)
+        (or-neither (ltb (length s) least || fieldsWrong table s) (crcWrong s) e .0) .0 in
         ltb-false (length s) least shorter
 
 -- ---- the CRC
-pub crc-at : (s : Bytes) (at : ℕ) → at ≡ length s - 4 → word (word (word (byte s at) (byte s (at + 1))) (byte s (at + 2))) (byte s (at + 3)) ≡ crc32 s
+pub crc-at : (s : Bytes) (at : ℕ) → at ≡ length s - 4 → word (word (word (byte s at) (byte s (at + 1))) (byte s (at + 2))) (byte s (at + 3))
+    ≡ crc32 s
 crc-at s at e =
-    let from : (k : ℕ) → byte s (at + k) ≡ byte (drop (length s - 4) s) k = λ k. ap (λ (n : ℕ). byte s (n + k)) e ∙ sym (getD-drop (length s - 4) s k 0) in
+    let from : (k : ℕ) → byte s (at + k) ≡ byte (drop (length s - 4) s) k = λ k. ap (λ (n : ℕ). byte s (n + k)) e
+    ∙ sym (getD-drop (length s - 4) s k 0) in
     let first : byte s at ≡ byte s (at + 0) = ap (byte s) (sym (add-zero at)) in
     ap₂ word (ap₂ word (ap₂ word (first ∙ from 0) (from 1)) (from 2)) (from 3)
 

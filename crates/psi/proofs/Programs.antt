@@ -1,5 +1,5 @@
--- The programs of a PAT, entry by entry. `Seen s found i` says: of the programs not 0, those before place i are `found`, or none where its number
--- is 0.
+-- The programs of a PAT, entry by entry. `Seen s found i` says: of the programs not 0, those before place i are `found`, or none where its
+-- number is 0.
 --     start      nothing is looked at
 --     skip       the next entry is of program 0
 --     keep       the next entry is the first that is not
@@ -74,7 +74,8 @@ module _ {s : Bytes} {found : Program} {i : ℕ} (seen : Seen s found i) where
           within = h;
           whole =
               seen .whole
-              ∙ ap (λ (l : List Program). those notZero (found ∷ []) ++ l) (ap (those notZero) nextIs ∙ skipped p (programs (drop (i + 4) s)) k);
+              ∙ ap (λ (l : List Program). those notZero (found ∷ []) ++ l)
+              (ap (those notZero) nextIs ∙ skipped p (programs (drop (i + 4) s)) k);
         }
 
     pub keep : found .number ≡ 0 → (p .number ≡ 0 → ⊥) → Seen s p (i + 4)

@@ -1,5 +1,5 @@
--- A section in its payload: the parts that the code is lent are those of the definition, and a section that was found is what `section` hands
--- out. Assumes nothing.
+-- A section in its payload: the parts that the code is lent are those of the definition, and a section that was found is what `section`
+-- hands out. Assumes nothing.
 use Prim.Native.Nat.{ℕ, _+_, _-_, _≤_, _<_}
 use mathlib.Core.Bool.{Bool, true, false, not, _||_, or-true}
 use mathlib.Core.Path.{_≡_, sym, ap, _∙_}
@@ -17,7 +17,8 @@ use Rattle.psi.specs.declared.placing.Found.the-variants.{Section, Mispl
 use Rattle.psi.specs.Section.{behindPointer, sectionSize, misplaced, sectionOf, foundIn}
 
 -- the size n that `&payload[1..]` tells
-pub size-behind : (payload : Bytes) (n : ℕ) → n ≡ sectionSize (take (length payload - 1) (drop 1 payload)) → n ≡ sectionSize (behindPointer payload)
+pub size-behind : (payload : Bytes) (n : ℕ) → n ≡ sectionSize (take (length payload - 1) (drop 1 payload))
+    → n ≡ sectionSize (behindPointer payload)
 size-behind payload n e = e ∙ ap sectionSize (to-end payload 1)
 
 -- the rest behind it, `&payload[1 + n..]`
@@ -25,7 +26,8 @@ pub fill-behind : (payload : Bytes) (n : ℕ) (r : Bool) → n ≡ sectionSize (
     → r ≡ all (eqb 0xFF) (take (length payload - (1 + n)) (drop (1 + n) payload))
     → r ≡ all (eqb 0xFF) (drop (sectionSize (behindPointer payload)) (behindPointer payload))
 fill-behind payload n r e f =
-    f ∙ ap (all (eqb 0xFF)) (to-end payload (1 + n) ∙ sym (drop-drop n 1 payload) ∙ ap (λ (k : ℕ). drop k (drop 1 payload)) (size-behind payload n e))
+    f ∙ ap (all (eqb 0xFF)) (to-end payload (1 + n) ∙ sym (drop-drop n 1 payload)
+    ∙ ap (λ (k : ℕ). drop k (drop 1 payload)) (size-behind payload n e))
 
 -- ---- the parts of `misplaced`: one that holds is enough
 module _ (start : Bool) (payload : Bytes) where
@@ -41,16 +43,20 @@ module _ (start : Bool) (payload : Bytes) where
   unfolding foundIn misplaced pick
   cut-off h = rw (lt-ltb _ _ h, or-true)
 
-  pub not-filled : not (all (eqb 0xFF) (drop (sectionSize (behindPointer payload)) (behindPointer payload))) ≡ true → foundIn start payload ≡ Misplaced
+  pub not-filled : not (all (eqb 0xFF) (drop (sectionSize (behindPointer payload)) (behindPointer payload))) ≡ true
+      → foundIn start payload ≡ Misplaced
   unfolding foundIn misplaced pick
   not-filled e = rw (e, or-true)
 
   -- where none does, the section is found
   pub all-right : (n : ℕ) → n ≡ sectionSize (behindPointer payload) → not start ≡ false → byte payload 0 ≡ 0
       → sectionSize (behindPointer payload) ≤ length (behindPointer payload)
-      → not (all (eqb 0xFF) (drop (sectionSize (behindPointer payload)) (behindPointer payload))) ≡ false → Section n ≡ foundIn start payload
+      → not (all (eqb 0xFF) (drop (sectionSize (behindPointer payload)) (behindPointer payload))) ≡ false
+      → Section n ≡ foundIn start payload
   unfolding foundIn misplaced pick
-  all-right n e a b c d = rw (a, eq-eqb (byte payload 0) 0 b, le-ltb (length (behindPointer payload)) (sectionSize (behindPointer payload)) c, d) (ap Section e)
+  all-right n e a b c d =
+      let fits = le-ltb (length (behindPointer payload)) (sectionSize (behindPointer payload)) c in
+      rw (a, eq-eqb (byte payload 0) 0 b, fits, d) (ap Section e)
 
 -- ---- a section that was found
 not-both : {P : Type 0} {n : ℕ} → Misplaced ≡ Section n → P
@@ -72,10 +78,12 @@ module _ (start : Bool) (payload : Bytes) where
   fits e =
       let size = ltb (length (behindPointer payload)) (sectionSize (behindPointer payload)) in
       let head = not start || not (eqb (byte payload 0) 0) in
-      ltb-false (length (behindPointer payload)) (sectionSize (behindPointer payload)) (or-neither head size (or-neither (head || size) _ e .0) .1)
+      ltb-false (length (behindPointer payload)) (sectionSize (behindPointer payload))
+      (or-neither head size (or-neither (head || size) _ e .0) .1)
 
   -- what was found, by the value of the test
-  at : (f : Found) → foundIn start payload ≡ f → (t : Bool) → misplaced start payload ≡ t → pick t Misplaced (Section (sectionSize (behindPointer payload))) ≡ f
+  at : (f : Found) → foundIn start payload ≡ f → (t : Bool) → misplaced start payload ≡ t
+      → pick t Misplaced (Section (sectionSize (behindPointer payload))) ≡ f
   unfolding foundIn
   at f e t m = ap (λ (x : Bool). pick x Misplaced (Section (sectionSize (behindPointer payload)))) (sym m) ∙ e
 

@@ -1,4 +1,5 @@
-// Sections of program-specific information: how one lies in a packet, what PAT and PMT have in common, and the PAT (document 01, "A segment").
+// Sections of program-specific information: how one lies in a packet, what PAT and PMT have in common, and the PAT
+// (document 01, "A segment").
 mod common;
 mod pat;
 mod placing;

@@ -34,7 +34,8 @@ fn filled(rest: &[u8]) -> bool
     true
 }
 
-// The size of the section in the payload of a packet with this payload start, from table_id to the CRC; or that it is misplaced.
+// The size of the section in the payload of a packet with this payload start, from table_id to the CRC; or that it is
+// misplaced.
 pub fn find_section(payload: &[u8], start: bool) -> Found
     ensures { λ r. ⌜ r ≡ foundIn start (now (payload .entry)) ⌝ }
 {

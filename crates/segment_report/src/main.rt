@@ -1,5 +1,5 @@
-// Checks a segment from standard input and prints what it carries, or the refusal. An input of more than 16,384 packets is not checked, and the program
-// says so: its buffers stand on the stack.
+// Checks a segment from standard input and prints what it carries, or the refusal. An input of more than 16,384 packets
+// is not checked, and the program says so: its buffers stand on the stack.
 ghost use mathlib.Core.Path.{_≡_};
 ghost use lib.ListN.{length};
 use libc::STDIN_FILENO;

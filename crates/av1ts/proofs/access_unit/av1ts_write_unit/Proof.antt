@@ -32,8 +32,10 @@ same-length-2 c = search needs
 
 returns-2 : tie.Need-returns-2
 returns-2 c =
-    let e = c .before .before .before .before .before .before .write .ensures in
-    (c .refusal .ensures ∙ ap countAnswer (sym (ap writtenSays (c .before .before .answer2 .given .1)) ∙ e .0), e .1 .0 ∙ leaves-as _ _ (e .0))
+    let e = c .before .before .before .before .before .before .write .ensures in (
+      c .refusal .ensures ∙ ap countAnswer (sym (ap writtenSays (c .before .before .answer2 .given .1)) ∙ e .0),
+      e .1 .0 ∙ leaves-as _ _ (e .0),
+    )
 
 pub av1ts-write-unit-spec : {M : Type 1} → statement M
 av1ts-write-unit-spec =

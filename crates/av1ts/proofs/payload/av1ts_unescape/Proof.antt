@@ -28,8 +28,10 @@ returns : tie.Need-returns
 returns c =
     let start = c .before .before .before .before .before .before .before .before .before in
     let e = c .before .before .before .before .before .unescape .ensures in
-    let k = ap unescapedSays (c .before .answer .given .1) in
-    (ap unescapeAnswer (sym k ∙ e .0), e .1 ∙ ap (λ (v : Verdict Counts). leaves v (unescape (start .args .payload .now)) (start .args .out .now)) (e .0))
+    let k = ap unescapedSays (c .before .answer .given .1) in (
+      ap unescapeAnswer (sym k ∙ e .0),
+      e .1 ∙ ap (λ (v : Verdict Counts). leaves v (unescape (start .args .payload .now)) (start .args .out .now)) (e .0),
+    )
 
 same-length-2 : tie.Need-same-length-2
 same-length-2 c = search needs

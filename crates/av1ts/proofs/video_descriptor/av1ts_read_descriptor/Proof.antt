@@ -28,11 +28,13 @@ cast-t10 c = search needs
 
 returns : tie.Need-returns
 returns c = c .video-answer .ensures
-    ∙ ap descriptorAnswer (sym (ap readSays (c .before .before .before .read2 .given .1)) ∙ c .before .before .before .before .before .read .ensures)
+    ∙ ap descriptorAnswer (sym (ap readSays (c .before .before .before .read2 .given .1))
+    ∙ c .before .before .before .before .before .read .ensures)
 
 returns-2 : tie.Need-returns-2
 returns-2 c = ap (λ (n : ℕ). descriptorAnswer (refused n (c .before .before .before .read3 .given .0 .0 .place))) (c .number .ensures)
-    ∙ ap descriptorAnswer (sym (ap readSays (c .before .before .before .read3 .given .1)) ∙ c .before .before .before .before .before .read .ensures)
+    ∙ ap descriptorAnswer (sym (ap readSays (c .before .before .before .read3 .given .1))
+    ∙ c .before .before .before .before .before .read .ensures)
 
 pub av1ts-read-descriptor-spec : {M : Type 1} → statement M
 av1ts-read-descriptor-spec =

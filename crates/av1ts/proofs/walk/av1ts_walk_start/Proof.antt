@@ -29,7 +29,8 @@ returns c = ap startAnswer (sym (ap startedSays (c .before .started .given .1)) 
 returns-2 : tie.Need-returns-2
 returns-2 c =
     ap (λ (n : ℕ). startAnswer (refused n (c .before .before .before .started2 .given .0 .0 .place))) (c .number .ensures)
-    ∙ ap startAnswer (sym (ap startedSays (c .before .before .before .started2 .given .1)) ∙ c .before .before .before .before .before .start .ensures)
+    ∙ ap startAnswer (sym (ap startedSays (c .before .before .before .started2 .given .1))
+    ∙ c .before .before .before .before .before .start .ensures)
 
 pub av1ts-walk-start-spec : {M : Type 1} → statement M
 av1ts-walk-start-spec =

@@ -27,16 +27,19 @@ cast-t13 : tie.Need-cast-t13
 cast-t13 c = search needs
 
 returns : tie.Need-returns
-returns c = ap (stepAnswer (c .before .before .before .before .before .args .at)) (sym (ap stepSays (c .before .step .given .1)) ∙ c .before .before .before .step-at .ensures)
+returns c = ap (stepAnswer (c .before .before .before .before .before .args .at))
+    (sym (ap stepSays (c .before .step .given .1)) ∙ c .before .before .before .step-at .ensures)
 
 returns-2 : tie.Need-returns-2
-returns-2 c = ap (stepAnswer (c .before .before .before .before .args .at)) (sym (ap stepSays (c .enum-told .given .1)) ∙ c .before .before .step-at .ensures)
+returns-2 c = ap (stepAnswer (c .before .before .before .before .args .at))
+    (sym (ap stepSays (c .enum-told .given .1)) ∙ c .before .before .step-at .ensures)
 
 returns-3 : tie.Need-returns-3
 returns-3 c =
     let at = c .before .before .before .before .before .before .before .args .at in
     ap (λ (n : ℕ). stepAnswer at (refused n (c .before .before .before .step2 .given .0 .0 .place))) (c .number .ensures)
-    ∙ ap (stepAnswer at) (sym (ap stepSays (c .before .before .before .step2 .given .1)) ∙ c .before .before .before .before .before .step-at .ensures)
+    ∙ ap (stepAnswer at) (sym (ap stepSays (c .before .before .before .step2 .given .1))
+    ∙ c .before .before .before .before .before .step-at .ensures)
 
 pub av1ts-walk-step-spec : {M : Type 1} → statement M
 av1ts-walk-step-spec =

@@ -39,13 +39,15 @@ same-length c = search needs
 returns : tie.Need-returns
 unfolding refusalLine
 returns c =
-    let start = c .before .before .before .before .before .before .before .before .before .before .before .before .before .before .before .before .before .before in
+    let told = c .before .before .before .before .before .before .before .before .before .before .before .before .before .before .before in
+    let start = told .before .before .before in
     let first = c .before .before .before .before .before .before .before .before .before .before .before .before .put-named .ensures .0 in
     let second = c .before .before .before .before .before .before .before .put-named2 .ensures .0 in
     let last = c .before .before .put-word .ensures in
-    let number = c .before .before .before .before .before .before .before .before .before .before .before .before .before .before .before .number .ensures in (
+    let number = told .number .ensures in (
       puts-as
-          ((let line : _ ≡ refusalLine _ _ = simp append-assoc in line) ∙ ap (λ (n : ℕ). refusalLine n (start .args .refused .place)) number)
+          ((let line : _ ≡ refusalLine _ _ = simp append-assoc in line)
+          ∙ ap (λ (n : ℕ). refusalLine n (start .args .refused .place)) number)
           (puts-then (omega arith) (puts-then (omega arith) first second) last),
       omega (arith, last .ends),
     )

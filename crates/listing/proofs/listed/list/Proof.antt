@@ -18,8 +18,10 @@ returns : tie.Need-returns
 unfolding leaves
 returns c =
     let start = c .before .before .before .before .before .before in
-    let put = c .before .before .put-text .ensures .0 in
-    (list-short (start .args .unit .now) _ _ (puts-end put) (c .if1 .taken), (refl, omega (arith, puts-end put, c .before .before .put-text .ensures .1)))
+    let put = c .before .before .put-text .ensures .0 in (
+      list-short (start .args .unit .now) _ _ (puts-end put) (c .if1 .taken),
+      (refl, omega (arith, puts-end put, c .before .before .put-text .ensures .1)),
+    )
 
 array-share-prefix-text : tie.Need-array-share-prefix-text
 array-share-prefix-text c = search needs
@@ -37,8 +39,13 @@ returns-2 : tie.Need-returns-2
 unfolding leaves
 returns-2 c =
     let start = c .before .before .before .before .before .before .before .before .before .before .before in
-    let put = c .before .before .before .before .before .before .before .put-text .ensures .0 in
-    (list-fits (start .args .unit .now) _ _ (puts-end put) (c .before .before .before .before .before .if1 .left), (puts-as (puts-front put) (c .before .before .put-word .ensures) .stands, omega (arith, puts-end put, c .before .before .before .before .before .before .before .put-text .ensures .1)))
+    let put = c .before .before .before .before .before .before .before .put-text .ensures .0 in (
+      list-fits (start .args .unit .now) _ _ (puts-end put) (c .before .before .before .before .before .if1 .left),
+      (
+        puts-as (puts-front put) (c .before .before .put-word .ensures) .stands,
+        omega (arith, puts-end put, c .before .before .before .before .before .before .before .put-text .ensures .1),
+      ),
+    )
 
 pub list-spec : {M : Type 1} → statement M
 list-spec =

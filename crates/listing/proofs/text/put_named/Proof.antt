@@ -15,8 +15,11 @@ same-length : tie.Need-same-length
 same-length c = search needs
 
 returns : tie.Need-returns
-returns c =
-    (puts-then (omega arith) (c .before .before .before .before .before .before .put-word .ensures) (c .before .before .put-decimal .ensures .0), omega arith)
+returns c = (
+  puts-then (omega arith) (c .before .before .before .before .before .before .put-word .ensures)
+      (c .before .before .put-decimal .ensures .0),
+  omega arith,
+)
 
 pub put-named-spec : {M : Type 1} → statement M
 put-named-spec = tie.close (tie.spec put-word-requires put-decimal-requires same-length returns)

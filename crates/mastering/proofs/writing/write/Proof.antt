@@ -51,7 +51,8 @@ returns-3 c =
     let out = at .before .before .before .before .args .out .now in
     let content = made .content-of .ensures ∙ ap contentOf (made .before .numbers-from .ensures) in (
       pass-on 49 within (pass-on 8 (le-ltb _ _ (at .if2 .left)) refl),
-      c .before .before .copy .ensures ∙ ap (λ (l : List ℕ). over (take (length out) l) out) content ∙ fits out (contentOf _) (at .if2 .left),
+      c .before .before .copy .ensures ∙ ap (λ (l : List ℕ). over (take (length out) l) out) content
+          ∙ fits out (contentOf _) (at .if2 .left),
     )
 
 pub write-spec : {M : Type 1} → statement M

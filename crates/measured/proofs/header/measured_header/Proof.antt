@@ -34,7 +34,8 @@ returns c =
 returns-2 : tie.Need-returns-2
 returns-2 c =
     ap (λ (n : ℕ). headerAnswer (refused n (c .before .before .before .read3 .given .0 .0 .place))) (c .number .ensures)
-    ∙ ap headerAnswer (sym (ap packetSays (c .before .before .before .read3 .given .1)) ∙ c .before .before .before .before .before .read .ensures)
+    ∙ ap headerAnswer (sym (ap packetSays (c .before .before .before .read3 .given .1))
+    ∙ c .before .before .before .before .before .read .ensures)
 
 pub measured-header-spec : {M : Type 1} → statement M
 measured-header-spec =

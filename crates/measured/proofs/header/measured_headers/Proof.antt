@@ -1,4 +1,5 @@
--- The invariant is `Counted`: the packets that pass before `at`, and those that pass behind it, are all. The measure is how many packets are left.
+-- The invariant is `Counted`: the packets that pass before `at`, and those that pass behind it, are all. The measure is how many packets
+-- are left.
 use borrow.Author.Needs.{needs}
 use native.Mathlib.Omega.{arith}
 use mathlib.Core.Path.{sym, _∙_}

@@ -66,8 +66,12 @@ put-packet-requires : tie.Need-put-packet-requires Inv-loop μ-loop
 put-packet-requires c κs =
     let start = c .before .before .before .before .before .before .before in
     let at = c .before .before .before .before .loop in
-    let small : at .at + c .before .before .part-size .result - at .at ≤ 184 = omega (arith, size (c .before .before) .2) in
-    (start .pre .0, at .inv .low, part-short (start .args .bytes .now) _ (at .at) small, mid-room (at .out) (at .to) (room (c .before .before .before) .0))
+    let small : at .at + c .before .before .part-size .result - at .at ≤ 184 = omega (arith, size (c .before .before) .2) in (
+      start .pre .0,
+      at .inv .low,
+      part-short (start .args .bytes .now) _ (at .at) small,
+      mid-room (at .out) (at .to) (room (c .before .before .before) .0),
+    )
 
 add-to : tie.Need-add-to Inv-loop μ-loop
 add-to c = omega (arith, room (c .before .before .before .before .before .before) .1)
@@ -76,7 +80,11 @@ next-counter-requires : tie.Need-next-counter-requires Inv-loop μ-loop
 next-counter-requires c κs = c .before .before .before .before .before .before .before .loop .inv .low
 
 loop-less : tie.Need-loop-less Inv-loop μ-loop
-loop-less c = omega (arith, size (c .before .before .before .before .before .before) .0, size (c .before .before .before .before .before .before) .1)
+loop-less c = omega (
+  arith,
+  size (c .before .before .before .before .before .before) .0,
+  size (c .before .before .before .before .before .before) .1,
+)
 
 loop-again : tie.Need-loop-again Inv-loop μ-loop
 loop-again c =

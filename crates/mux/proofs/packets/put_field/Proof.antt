@@ -59,7 +59,8 @@ returns-3 c =
     let a = c .before .before .before .before .before .before .before .before .before .before .before .before .args in
     let l = length-stuffing (a .n - 2) in
     put-next ((a .n - 1) ∷ a .flags ∷ []) (stuffing (a .n - 2)) (a .out .now) _ _ 2 refl
-    (c .before .before .before .before .before .before .copy .ensures ∙ fits (a .out .now) _ (omega arith)) (omega arith) (c .before .before .fill .ensures)
+    (c .before .before .before .before .before .before .copy .ensures ∙ fits (a .out .now) _ (omega arith)) (omega arith)
+    (c .before .before .fill .ensures)
     ∙ ap (λ (w : Bytes). over w (a .out .now))
     (field-more (a .n) (a .flags) (c .before .before .before .before .before .before .before .before .before .before .if1 .left)
     (c .before .before .before .before .before .before .before .before .before .if2 .left))

@@ -48,7 +48,8 @@ slot c =
     let at = c .before .loop in
     let e : length (q .units) ≡ 8 = search (needs, unmapped) in
     let w = well q (length (a .store .now)) (start .pre .2) in
-    turn (a .pid) (a .counter) (filled q) (a .store .now) (a .out .now) (start .pre .3) (w .1) (at .inv .2) (getD (q .units) (at .i) noRecord)
+    turn (a .pid) (a .counter) (filled q) (a .store .now) (a .out .now) (start .pre .3) (w .1) (at .inv .2)
+    (getD (q .units) (at .i) noRecord)
     (slot-next (q .units) (q .count) (at .i) noRecord (omega arith) (omega arith))
 
 add-end : tie.Need-add-end Inv-loop μ-loop
@@ -97,10 +98,18 @@ mul-to : tie.Need-mul-to Inv-loop μ-loop
 mul-to c = omega (arith, c .slot-packets .ensures .1)
 
 add-to : tie.Need-add-to Inv-loop μ-loop
-add-to c = omega (arith, c .slot-packets .ensures .0, slot (c .before .before .before .before .before .before .before .before) .long, slot (c .before .before .before .before .before .before .before .before) .reaches)
+add-to c = omega (
+  arith,
+  c .slot-packets .ensures .0,
+  slot (c .before .before .before .before .before .before .before .before) .long,
+  slot (c .before .before .before .before .before .before .before .before) .reaches,
+)
 
 counter-after-requires : tie.Need-counter-after-requires Inv-loop μ-loop
-counter-after-requires c κs = (slot (c .before .before .before .before .before .before .before .before) .low, omega (arith, c .slot-packets .ensures .1))
+counter-after-requires c κs = (
+  slot (c .before .before .before .before .before .before .before .before) .low,
+  omega (arith, c .slot-packets .ensures .1),
+)
 
 add-i : tie.Need-add-i Inv-loop μ-loop
 add-i c = omega arith
@@ -116,7 +125,8 @@ loop-again c =
     let p = part-is (a .store .now) (at .at) (r .length) in (
       omega arith,
       at .inv .1,
-      slot (c .before .before .before .before .before .before .before .before .before) .filling _ _ _ (c .before .slot-packets .ensures .0) (c .counter-after .ensures)
+      slot (c .before .before .before .before .before .before .before .before .before) .filling _ _ _ (c .before .slot-packets .ensures .0)
+          (c .counter-after .ensures)
           (c .before .before .before .before .put-unit .ensures
           ∙ ap (λ (x : Bytes). over (flatten (unitPackets (a .pid) (at .next) (timed x (r .pts) (r .dts) (r .marked))))
           (midOf (at .to) (length (at .out) - at .to) (at .out))) p),

@@ -35,7 +35,8 @@ returns-3 : tie.Need-returns-3
 unfolding adaptationFlags
 returns-3 c =
     by-true _
-    (sym (and-by-true (sym (c .before .before .before .before .has-adaptation-field .ensures) ∙ not-false _ (c .before .before .before .if1 .left))
+    (sym (and-by-true (sym (c .before .before .before .before .has-adaptation-field .ensures)
+    ∙ not-false _ (c .before .before .before .if1 .left))
     (sym (lt-ltb 0 (adaptationFieldLength (c .before .before .before .before .before .before .args .packet .now))
     (omega (arith, c .before .before .adaptation-field-length .ensures))))))
     (c .byte-at .ensures)

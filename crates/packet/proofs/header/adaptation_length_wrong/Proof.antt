@@ -13,10 +13,12 @@ adaptation-field-length-requires : tie.Need-adaptation-field-length-requires
 adaptation-field-length-requires c κs = search needs
 
 returns : tie.Need-returns
-returns c = control-10 (sym (c .before .before .adaptation-field-control .ensures) ∙ c .if1 .taken) (c .before .adaptation-field-length .ensures)
+returns c = control-10 (sym (c .before .before .adaptation-field-control .ensures) ∙ c .if1 .taken)
+    (c .before .adaptation-field-length .ensures)
 
 returns-2 : tie.Need-returns-2
-returns-2 c = control-11 (sym (c .before .before .before .adaptation-field-control .ensures) ∙ c .if2 .taken) (c .before .before .adaptation-field-length .ensures)
+returns-2 c = control-11 (sym (c .before .before .before .adaptation-field-control .ensures) ∙ c .if2 .taken)
+    (c .before .before .adaptation-field-length .ensures)
 
 returns-3 : tie.Need-returns-3
 returns-3 c =

@@ -18,7 +18,8 @@ has-control : (c : tie.Else2) → eqb (adaptationFieldControl (c .before .before
 has-control c = ne-eqb _ _ (λ e. c .if2 .left (c .before .adaptation-field-control .ensures ∙ e))
 
 -- the adaptation length is right
-length-right : (c : tie.Else3) → adaptationLengthWrong (c .before .before .before .before .before .before .before .args .packet .now) ≡ false
+length-right : (c : tie.Else3) → adaptationLengthWrong (c .before .before .before .before .before .before .before .args .packet .now)
+    ≡ false
 length-right c = sym (c .before .adaptation-length-wrong .ensures) ∙ c .if3 .left
 
 transport-scrambling-control-requires : tie.Need-transport-scrambling-control-requires
@@ -33,7 +34,8 @@ adaptation-field-control-requires c κs = search needs
 
 returns-2 : tie.Need-returns-2
 unfolding fieldsWrong
-returns-2 c = or-by-false (not-scrambled (c .before .before)) (or-by-true _ (eq-eqb _ _ (sym (c .before .adaptation-field-control .ensures) ∙ c .if2 .taken)) refl)
+returns-2 c = or-by-false (not-scrambled (c .before .before))
+    (or-by-true _ (eq-eqb _ _ (sym (c .before .adaptation-field-control .ensures) ∙ c .if2 .taken)) refl)
 
 adaptation-length-wrong-requires : tie.Need-adaptation-length-wrong-requires
 adaptation-length-wrong-requires c κs = search needs

@@ -21,7 +21,8 @@ add-result c = search needs
 
 returns : tie.Need-returns
 unfolding headerLength
-returns c = by-true _ (sym (c .before .before .has-adaptation-field .ensures) ∙ c .before .if1 .taken) (ap (λ (n : ℕ). 5 + n) (c .adaptation-field-length .ensures))
+returns c = by-true _ (sym (c .before .before .has-adaptation-field .ensures) ∙ c .before .if1 .taken)
+    (ap (λ (n : ℕ). 5 + n) (c .adaptation-field-length .ensures))
 
 returns-2 : tie.Need-returns-2
 unfolding headerLength

@@ -17,7 +17,8 @@ fields-wrong-requires : tie.Need-fields-wrong-requires
 fields-wrong-requires c κs = search needs
 
 returns-2 : tie.Need-returns-2
-returns-2 c = and-by-true (ap not (ne-eqb _ _ (λ e. c .before .if1 .left (c .before .before .packet-pid .ensures ∙ e)))) (c .fields-wrong .ensures)
+returns-2 c = and-by-true (ap not (ne-eqb _ _ (λ e. c .before .if1 .left (c .before .before .packet-pid .ensures ∙ e))))
+    (c .fields-wrong .ensures)
 
 pub header-wrong-spec : {M : Type 1} → statement M
 header-wrong-spec =

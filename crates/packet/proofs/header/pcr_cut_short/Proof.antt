@@ -14,7 +14,8 @@ adaptation-field-length-requires : tie.Need-adaptation-field-length-requires
 adaptation-field-length-requires c κs = search needs
 
 returns : tie.Need-returns
-returns c = and-by-true (sym (c .before .before .pcr-flag .ensures) ∙ c .before .if1 .taken) (ap (λ (n : ℕ). ltb n 7) (c .adaptation-field-length .ensures))
+returns c = and-by-true (sym (c .before .before .pcr-flag .ensures) ∙ c .before .if1 .taken)
+    (ap (λ (n : ℕ). ltb n 7) (c .adaptation-field-length .ensures))
 
 returns-2 : tie.Need-returns-2
 returns-2 c = and-by-false _ (sym (c .before .pcr-flag .ensures) ∙ c .if1 .left) refl

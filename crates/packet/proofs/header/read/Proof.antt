@@ -38,7 +38,8 @@ returns-2 : tie.Need-returns-2
 unfolding headerOf
 returns-2 c =
     c .refuse2 .ensures
-    ∙ pass-on 21 (in-sync (c .before .before .before)) (refuse 22 _ (sym (c .before .before .transport-error-indicator .ensures) ∙ c .before .if2 .taken))
+    ∙ pass-on 21 (in-sync (c .before .before .before)) (refuse 22 _
+    (sym (c .before .before .transport-error-indicator .ensures) ∙ c .before .if2 .taken))
 
 header-wrong-requires : tie.Need-header-wrong-requires
 header-wrong-requires c κs = search needs
@@ -51,7 +52,8 @@ unfolding headerOf
 returns-3 c =
     c .refuse3 .ensures
     ∙ pass-on 21 (in-sync (c .before .before .before .before .before))
-    (pass-on 22 (no-error (c .before .before .before)) (refuse 23 _ (sym (c .before .before .header-wrong .ensures) ∙ c .before .if3 .taken)))
+    (pass-on 22 (no-error (c .before .before .before)) (refuse 23 _
+    (sym (c .before .before .header-wrong .ensures) ∙ c .before .if3 .taken)))
 
 header-fields-requires : tie.Need-header-fields-requires
 header-fields-requires c κs = search needs
@@ -61,7 +63,8 @@ unfolding headerOf
 returns-4 c =
     pass-on 21 (in-sync (c .before .before .before .before .before))
     (pass-on 22 (no-error (c .before .before .before))
-    (pass-on 23 (sym (c .before .before .header-wrong .ensures) ∙ c .before .if3 .left) (ap {B = Verdict Header} passed (c .header-fields .ensures))))
+    (pass-on 23 (sym (c .before .before .header-wrong .ensures) ∙ c .before .if3 .left)
+    (ap {B = Verdict Header} passed (c .header-fields .ensures))))
 
 pub read-spec : {M : Type 1} → statement M
 read-spec =

@@ -30,15 +30,19 @@ past-4 : (c : tie.Else4) → Past 4 (c .before .before .before .before .before .
 unfolding headerWrong
 past-4 c = any-later _ _ _ (sym (c .before .not-aligned .ensures) ∙ c .if4 .left) ∙ past-3 (c .before .before)
 
-past-5 : (c : tie.Else5) → Past 5 (c .before .before .before .before .before .before .before .before .before .before .before .args .payload .now)
+past-5 : (c : tie.Else5)
+    → Past 5 (c .before .before .before .before .before .before .before .before .before .before .before .args .payload .now)
 unfolding headerWrong
 past-5 c = any-later _ _ _ (sym (c .before .flags-wrong .ensures) ∙ c .if5 .left) ∙ past-4 (c .before .before)
 
-past-6 : (c : tie.Else6) → Past 6 (c .before .before .before .before .before .before .before .before .before .before .before .before .before .args .payload .now)
+past-6 : (c : tie.Else6)
+    → Past 6 (c .before .before .before .before .before .before .before .before .before .before .before .before .before .args .payload .now)
 unfolding headerWrong
 past-6 c = any-later _ _ _ (sym (c .before .not-whole .ensures) ∙ c .if6 .left) ∙ past-5 (c .before .before)
 
-past-7 : (c : tie.Else7) → Past 7 (c .before .before .before .before .before .before .before .before .before .before .before .before .before .before .before .args .payload .now)
+past-7 : (c : tie.Else7)
+    → let fifth = c .before .before .before .before in
+    Past 7 (fifth .before .before .before .before .before .before .before .before .before .before .before .args .payload .now)
 unfolding headerWrong
 past-7 c = any-later _ _ _ (sym (c .before .length-byte-short .ensures) ∙ c .if7 .left) ∙ past-6 (c .before .before)
 

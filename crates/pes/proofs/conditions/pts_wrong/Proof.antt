@@ -17,7 +17,8 @@ time-stamp-wrong-requires c κs = search needs
 
 returns : tie.Need-returns
 returns c =
-    rw (c .time-stamp-wrong .ensures, c .before .before .before .byte-at .ensures, c .before .before .byte-at2 .ensures, c .before .byte-at3 .ensures)
+    let first = c .before .before .before .byte-at .ensures in
+    rw (c .time-stamp-wrong .ensures, first, c .before .before .byte-at2 .ensures, c .before .byte-at3 .ensures)
 
 pub pts-wrong-spec : {M : Type 1} → statement M
 pts-wrong-spec =

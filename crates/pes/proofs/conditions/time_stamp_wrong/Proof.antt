@@ -38,7 +38,8 @@ marker-wrong-requires-3 c κs = search needs
 returns-4 : tie.Need-returns-4
 unfolding timeStampWrong
 returns-4 c =
-    or-by-false (sym (c .before .before .before .before .before .before .prefix-wrong .ensures) ∙ c .before .before .before .before .before .if1 .left)
+    or-by-false (sym (c .before .before .before .before .before .before .prefix-wrong .ensures)
+    ∙ c .before .before .before .before .before .if1 .left)
     (c .marker-wrong3 .ensures ∙ any-last _ _ ∙ any-later _ _ _ (cc) ∙ any-later _ _ _ (cc))
 
 pub time-stamp-wrong-spec : {M : Type 1} → statement M

@@ -21,7 +21,8 @@ header-of-requires c κs = search needs
 returns-2 : tie.Need-returns-2
 unfolding reading
 returns-2 c =
-    pass-on 29 (sym (c .before .before .header-wrong .ensures) ∙ c .before .if1 .left) (ap {B = Verdict Header} passed (c .header-of .ensures))
+    pass-on 29 (sym (c .before .before .header-wrong .ensures) ∙ c .before .if1 .left)
+    (ap {B = Verdict Header} passed (c .header-of .ensures))
 
 pub read-spec : {M : Type 1} → statement M
 read-spec = tie.close (tie.spec header-wrong-requires returns header-of-requires returns-2)

@@ -1,5 +1,5 @@
--- One entry a turn. Those that passed stand in the first slots with what is known of the AV1 entry; with the entries from here on they are the
--- entries of the whole. The measure is the number of bytes left.
+-- One entry a turn. Those that passed stand in the first slots with what is known of the AV1 entry; with the entries from here on they are
+-- the entries of the whole. The measure is the number of bytes left.
 use Prim.Native.Nat.{_-_}
 use mathlib.Core.Path.{sym, ap, _∙_}
 use native.Mathlib.Omega.{arith}
@@ -42,7 +42,8 @@ returns-2 : tie.Need-returns-2 Inv-loop μ-loop
 returns-2 c =
     let r = c .before .before in
     let i = r .before .before in
-    turn-refused (i .before .before .loop .inv) (i .before .loop-test .taken) (i .if1 .left) (sym (r .try-entry .ensures) ∙ ap triedSays (c .enum-told .given .1))
+    turn-refused (i .before .before .loop .inv) (i .before .loop-test .taken) (i .if1 .left)
+    (sym (r .try-entry .ensures) ∙ ap triedSays (c .enum-told .given .1))
 
 enum-known-read : tie.Need-enum-known-read Inv-loop μ-loop
 enum-known-read c = search needs
@@ -61,7 +62,11 @@ add-at c =
     let k = c .before .before .before .before in
     let r = k .before .before in
     let i = r .before .before in
-    omega (arith, turn-within (i .before .before .loop .inv) (i .before .loop-test .taken) (i .if1 .left) _ (sym (r .try-entry .ensures) ∙ ap triedSays (k .read .given .1)))
+    omega (
+      arith,
+      turn-within (i .before .before .loop .inv) (i .before .loop-test .taken) (i .if1 .left) _
+          (sym (r .try-entry .ensures) ∙ ap triedSays (k .read .given .1)),
+    )
 
 add-count : tie.Need-add-count Inv-loop μ-loop
 add-count c = search needs
@@ -73,14 +78,19 @@ loop-less c =
     let i = r .before .before in
     let p = sym (r .try-entry .ensures) ∙ ap triedSays (k .read .given .1) in
     let l = i .before .before .loop .inv in
-    omega (arith, turn-within l (i .before .loop-test .taken) (i .if1 .left) _ p, turn-further l (i .before .loop-test .taken) (i .if1 .left) _ p)
+    omega (
+      arith,
+      turn-within l (i .before .loop-test .taken) (i .if1 .left) _ p,
+      turn-further l (i .before .loop-test .taken) (i .if1 .left) _ p,
+    )
 
 loop-again : tie.Need-loop-again Inv-loop μ-loop
 loop-again c =
     let k = c .before .before .before .before in
     let r = k .before .before in
     let i = r .before .before in
-    turn-next (i .before .before .loop .inv) (i .before .loop-test .taken) (i .if1 .left) _ (sym (r .try-entry .ensures) ∙ ap triedSays (k .read .given .1)) _
+    turn-next (i .before .before .loop .inv) (i .before .loop-test .taken) (i .if1 .left) _
+    (sym (r .try-entry .ensures) ∙ ap triedSays (k .read .given .1)) _
     (c .before .with-kind .ensures)
 
 returns-3 : tie.Need-returns-3 Inv-loop μ-loop

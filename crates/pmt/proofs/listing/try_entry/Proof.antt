@@ -69,7 +69,8 @@ returns-4 c =
     let r = k .before .before in
     let i = r .before .before in
     pid-refused _ _ _ _ (i .before .before .before .before .if1 .left) _ (i .before .length-field .ensures) (i .if2 .left) _
-    (sym (r .read-loop .ensures) ∙ ap loopSays (k .read .given .1)) _ (p .pid-field .ensures) (sym (c .before .pid-wrong .ensures) ∙ c .if3 .taken)
+    (sym (r .read-loop .ensures) ∙ ap loopSays (k .read .given .1)) _ (p .pid-field .ensures)
+    (sym (c .before .pid-wrong .ensures) ∙ c .if3 .taken)
 
 shared-slice-read-stream-type : tie.Need-shared-slice-read-stream-type
 shared-slice-read-stream-type c = search needs
@@ -85,7 +86,8 @@ returns-5 c =
     let r = k .before .before in
     let i = r .before .before in
     entry-passed _ _ _ _ (i .before .before .before .before .if1 .left) _ (i .before .length-field .ensures) (i .if2 .left) _
-    (sym (r .read-loop .ensures) ∙ ap loopSays (k .read .given .1)) _ (p .pid-field .ensures) (sym (w .pid-wrong .ensures) ∙ c .before .before .if3 .left) _
+    (sym (r .read-loop .ensures) ∙ ap loopSays (k .read .given .1)) _ (p .pid-field .ensures)
+    (sym (w .pid-wrong .ensures) ∙ c .before .before .if3 .left) _
     (c .kind-from .ensures)
 
 pub try-entry-spec : {M : Type 1} → statement M

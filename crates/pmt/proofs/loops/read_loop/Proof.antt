@@ -1,5 +1,5 @@
--- One descriptor a turn. What is found in those so far, and the descriptors from here on, are what is found in the whole loop. The measure is the
--- number of bytes left.
+-- One descriptor a turn. What is found in those so far, and the descriptors from here on, are what is found in the whole loop. The measure
+-- is the number of bytes left.
 use Prim.Native.Nat.{ℕ, _+_, _-_}
 use mathlib.Core.Path.{ap}
 use borrow.Author.Needs.{needs}
@@ -34,7 +34,8 @@ sub-if1 : tie.Need-sub-if1 Inv-loop μ-loop
 sub-if1 c = search needs
 
 returns : tie.Need-returns Inv-loop μ-loop
-returns c = walk-short (c .before .before .before .loop .inv) (c .before .before .loop-test .taken) _ (ap (λ (n : ℕ). 2 + n) (c .before .byte-at .ensures)) (c .if1 .taken)
+returns c = walk-short (c .before .before .before .loop .inv) (c .before .before .loop-test .taken) _
+    (ap (λ (n : ℕ). 2 + n) (c .before .byte-at .ensures)) (c .if1 .taken)
 
 add-end : tie.Need-add-end Inv-loop μ-loop
 add-end c = search needs
@@ -57,7 +58,8 @@ loop-less c = search needs
 loop-again : tie.Need-loop-again Inv-loop μ-loop
 loop-again c =
     let b = c .before .before .before in
-    walk-next (b .before .before .loop .inv) (b .before .loop-test .taken) _ (ap (λ (n : ℕ). 2 + n) (b .byte-at .ensures)) (c .before .before .if1 .left) _ (c .with-descriptor .ensures)
+    walk-next (b .before .before .loop .inv) (b .before .loop-test .taken) _ (ap (λ (n : ℕ). 2 + n) (b .byte-at .ensures))
+    (c .before .before .if1 .left) _ (c .with-descriptor .ensures)
 
 returns-2 : tie.Need-returns-2 Inv-loop μ-loop
 returns-2 c = walk-end (c .before .loop .inv) (c .loop-test .left)

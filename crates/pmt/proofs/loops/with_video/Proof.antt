@@ -18,7 +18,8 @@ byte-at-requires c κs = search needs
 returns-2 : tie.Need-returns-2
 returns-2 c =
     let i = c .before .before in
-    no-video _ _ _ (sym (i .before .interprets-video .ensures) ∙ not-false _ (i .if1 .left)) (λ e. c .if2 .taken (c .before .byte-at .ensures ∙ e))
+    no-video _ _ _ (sym (i .before .interprets-video .ensures) ∙ not-false _ (i .if1 .left))
+    (λ e. c .if2 .taken (c .before .byte-at .ensures ∙ e))
 
 enum-told : tie.Need-enum-told
 enum-told c = search needs
@@ -45,7 +46,8 @@ returns-3 : tie.Need-returns-3
 returns-3 c =
     let t = c .before .before in
     let i = t .before .before in
-    video-again _ _ _ _ _ _ _ (sym (i .before .interprets-video .ensures) ∙ not-false _ (i .if1 .left)) (sym (t .before .byte-at .ensures) ∙ t .if2 .left)
+    video-again _ _ _ _ _ _ _ (sym (i .before .interprets-video .ensures) ∙ not-false _ (i .if1 .left))
+    (sym (t .before .byte-at .ensures) ∙ t .if2 .left)
     (c .enum-told .given .1)
 
 returns-4 : tie.Need-returns-4

@@ -22,12 +22,16 @@ enum-known-av1 : tie.Need-enum-known-av1
 enum-known-av1 c = search needs
 
 returns : tie.Need-returns
-returns c =
-    (c .refuse .ensures .0 ∙ missing-map _ _ (c .before .enum-told .given .1), refused-beside (c .refuse .result) _ (c .refuse .ensures .0) (c .refuse .ensures .1))
+returns c = (
+  c .refuse .ensures .0 ∙ missing-map _ _ (c .before .enum-told .given .1),
+  refused-beside (c .refuse .result) _ (c .refuse .ensures .0) (c .refuse .ensures .1),
+)
 
 returns-2 : tie.Need-returns-2
-returns-2 c =
-    (c .refuse2 .ensures .0 ∙ wrong-map _ _ (c .before .enum-told2 .given .1), refused-beside (c .refuse2 .result) _ (c .refuse2 .ensures .0) (c .refuse2 .ensures .1))
+returns-2 c = (
+  c .refuse2 .ensures .0 ∙ wrong-map _ _ (c .before .enum-told2 .given .1),
+  refused-beside (c .refuse2 .result) _ (c .refuse2 .ensures .0) (c .refuse2 .ensures .1),
+)
 
 returns-3 : tie.Need-returns-3
 unfolding mapBeside

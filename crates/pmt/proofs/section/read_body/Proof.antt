@@ -105,7 +105,8 @@ returns-3 c =
       c .refuse3 .ensures .0
           ∙ entries-refused _ _ _ (n .before .before .before .before .pre) _ (n .length-field .ensures) (i .if1 .left) _
           (sym (r .read-loop .ensures) ∙ ap loopSays (f .enum-told .given .1)) _
-          (sym (l .list-entries .ensures) ∙ ap (λ (a : ListAnswer). listAnswer a (l .list-entries .result)) (c .before .before .answer .given .1)),
+          (sym (l .list-entries .ensures) ∙ ap (λ (a : ListAnswer). listAnswer a (l .list-entries .result))
+          (c .before .before .answer .given .1)),
       refused-beside (c .refuse3 .result) _ (c .refuse3 .ensures .0) (c .refuse3 .ensures .1),
     )
 
@@ -120,7 +121,8 @@ returns-4 c =
       c .map-listed .ensures .0
           ∙ entries-passed _ _ _ (n .before .before .before .before .pre) _ (n .length-field .ensures) (i .if1 .left) _
           (sym (r .read-loop .ensures) ∙ ap loopSays (f .enum-told .given .1)) _
-          (sym (l .list-entries .ensures) ∙ ap (λ (a : ListAnswer). listAnswer a (l .list-entries .result)) (k .enum-told3 .given .1)) _ (c .before .pid-field .ensures),
+          (sym (l .list-entries .ensures) ∙ ap (λ (a : ListAnswer). listAnswer a (l .list-entries .result)) (k .enum-told3 .given .1)) _
+          (c .before .pid-field .ensures),
       c .map-listed .ensures .1,
     )
 

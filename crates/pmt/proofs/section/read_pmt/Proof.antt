@@ -58,7 +58,8 @@ returns-3 c =
     let i = c .before .before .before .before .before in
     let n = c .before .before in (
       pass-on 26 (sym (i .before .common-wrong .ensures) ∙ i .if1 .left)
-          (pass-on 26 (ap not (eq-eqb _ _ (sym (n .program-number .ensures) ∙ c .before .if2 .left))) (c .read-body .ensures .0)) ∙ sym (section-map _ _ _ _),
+          (pass-on 26 (ap not (eq-eqb _ _ (sym (n .program-number .ensures) ∙ c .before .if2 .left))) (c .read-body .ensures .0))
+          ∙ sym (section-map _ _ _ _),
       c .read-body .ensures .1,
     )
 

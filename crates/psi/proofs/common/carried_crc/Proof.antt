@@ -63,7 +63,8 @@ add-result-3 c = search needs
 returns : tie.Need-returns
 returns c =
     let b = c .before .before .before in
-    ap₂ word (ap₂ word (ap₂ word (b .byte-at .ensures) (c .before .before .byte-at2 .ensures)) (c .before .byte-at3 .ensures)) (c .byte-at4 .ensures)
+    ap₂ word (ap₂ word (ap₂ word (b .byte-at .ensures) (c .before .before .byte-at2 .ensures)) (c .before .byte-at3 .ensures))
+    (c .byte-at4 .ensures)
     ∙ crc-at (b .before .before .before .args .section .now) _ (b .before .crc-place .ensures)
 
 pub carried-crc-spec : {M : Type 1} → statement M

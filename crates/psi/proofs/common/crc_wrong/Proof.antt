@@ -29,7 +29,8 @@ unfolding crcWrong
 returns c =
     let b = c .before .before .before in
     let s = b .before .before .args .section .now in
-    ap₂ (λ (x y : ℕ). not (eqb x y)) (c .before .crc32 .ensures ∙ ap (λ (n : ℕ). crc (take n s)) (b .crc-place .ensures)) (c .carried-crc .ensures)
+    ap₂ (λ (x y : ℕ). not (eqb x y)) (c .before .crc32 .ensures ∙ ap (λ (n : ℕ). crc (take n s)) (b .crc-place .ensures))
+    (c .carried-crc .ensures)
 
 pub crc-wrong-spec : {M : Type 1} → statement M
 crc-wrong-spec =

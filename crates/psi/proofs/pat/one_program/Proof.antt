@@ -54,7 +54,8 @@ returns : tie.Need-returns Inv-loop μ-loop
 returns c =
     let at = c .before .before .before .before .before .before .before .before .before .before .before in
     let b = c .before .before .before in
-    c .refuse .ensures ∙ sym (second (at .loop .inv) _ (omega arith) (b .before .before .entry .ensures) (c .before .if2 .taken) (b .if1 .taken))
+    c .refuse .ensures ∙ sym (second (at .loop .inv) _ (omega arith) (b .before .before .entry .ensures) (c .before .if2 .taken)
+    (b .if1 .taken))
 
 loop-less : tie.Need-loop-less Inv-loop μ-loop
 loop-less c = omega arith

@@ -36,7 +36,8 @@ loop-less c = omega arith
 
 loop-again : tie.Need-loop-again Inv-loop μ-loop
 loop-again c =
-    c .before .before .before .loop .inv ∙ all-next _ _ _ (c .before .before .loop-test .taken) ∙ sym (and-by-true (eq-eqb _ _ (sym (c .if1 .left))) refl)
+    c .before .before .before .loop .inv ∙ all-next _ _ _ (c .before .before .loop-test .taken)
+    ∙ sym (and-by-true (eq-eqb _ _ (sym (c .if1 .left))) refl)
 
 returns-2 : tie.Need-returns-2 Inv-loop μ-loop
 returns-2 c = sym (c .before .loop .inv ∙ all-end _ _ _ (c .loop-test .left))

@@ -11,7 +11,8 @@ use Rattle.packet.proofs.streams.Streams.look_up.Statement.{statement}
 use Rattle.packet.proofs.streams.Streams.look_up.Tie as tie
 
 abbrev Inv-loop : tie.InvT-loop
-Inv-loop pid self count slot₀ slot = (slot ≤ 12) × (lookUp pid (pidsIn (listed self)) ≡ lookUpFrom slot pid (drop slot (pidsIn (listed self))))
+Inv-loop pid self count slot₀ slot = (slot ≤ 12) × (lookUp pid (pidsIn (listed self))
+    ≡ lookUpFrom slot pid (drop slot (pidsIn (listed self))))
 
 abbrev μ-loop : tie.MeasureT-loop
 μ-loop pid self count slot₀ slot = 12 - slot
@@ -37,8 +38,10 @@ loop-less c = search needs
 
 loop-again : tie.Need-loop-again Inv-loop μ-loop
 loop-again c =
-    let at = c .before .before .before in
-    (omega arith, at .loop .inv .1 ∙ slot-next (at .before .args .t1) _ _ _ (c .before .before .if1 .left) (omega (arith, twelve at)) (c .if3 .left))
+    let at = c .before .before .before in (
+      omega arith,
+      at .loop .inv .1 ∙ slot-next (at .before .args .t1) _ _ _ (c .before .before .if1 .left) (omega (arith, twelve at)) (c .if3 .left),
+    )
 
 returns : tie.Need-returns Inv-loop μ-loop
 returns c =
@@ -54,7 +57,8 @@ returns-2 c =
 returns-3 : tie.Need-returns-3 Inv-loop μ-loop
 returns-3 c =
     let at = c .before .before .before in
-    sym (at .loop .inv .1 ∙ slot-here (at .before .args .t1) _ _ _ (c .before .before .if1 .left) (omega (arith, twelve at)) (c .if3 .taken))
+    sym (at .loop .inv .1 ∙ slot-here (at .before .args .t1) _ _ _ (c .before .before .if1 .left) (omega (arith, twelve at))
+    (c .if3 .taken))
 
 pub look-up-spec : {M : Type 1} → statement M
 look-up-spec =

@@ -62,7 +62,8 @@ returns c =
     let i = c .before .loop .i in
     let as-many : length pids ≡ 12 = search needs in
     ap (with-records (c .before .before .before .args .count))
-    (sym (take-all i l (omega (arith, c .before .loop .inv .1))) ∙ c .before .loop .inv .2 ∙ ap (map namedStream) (take-all i pids (omega arith)))
+    (sym (take-all i l (omega (arith, c .before .loop .inv .1))) ∙ c .before .loop .inv .2
+    ∙ ap (map namedStream) (take-all i pids (omega arith)))
 
 pub of-spec : {M : Type 1} → statement M
 of-spec =
