@@ -1,18 +1,16 @@
 -- A pass that counts the bytes that escaping puts (`Inserts`). Assumes nothing.
 use Prim.Native.Nat.{ℕ, zero, suc, _+_, _-_, _≤_, _<_}
 use mathlib.Core.Bool.{Bool, true, false}
-use mathlib.Core.Path.{_≡_, sym, ap, subst₂, _∙_}
+use mathlib.Core.Path.{_≡_, ap, subst₂}
 use native.Mathlib.Omega.{arith}
 use lib.ListN.{length, drop, getD, length-drop}
 use Rattle.lists.specs.Lists.{Bytes}
 use Rattle.lists.proofs.Parts.{next}
 use Rattle.emulation.specs.Payload.{escape, inserted}
 use Rattle.emulation.specs.Parts.{critical, tripled, hits, block, clean, single, Inserts}
-use Rattle.emulation.proofs.Steps.{given-or-dropped}
-use Rattle.emulation.proofs.Theorems.{unescape-escape, escape-longer}
+use Rattle.emulation.proofs.Theorems.{escape-longer}
 use Rattle.emulation.proofs.Clean.{escape-one, is-single, escape-at-critical, escape-at-uncritical, critical-fits, clean-keeps, escape-keeps, last-passes}
 use Rattle.emulation.proofs.Hits.{one, hits-first, none-first}
-use Rattle.emulation.proofs.Judging.{undropped}
 
 pub inserts-start : (s : Bytes) (i : ℕ) → i ≤ length s → Inserts s i i 0
 inserts-start s i h = record { onward = omega arith; within = h; longer = omega arith }
@@ -82,9 +80,3 @@ inserts-end s j d a h = omega (arith, a .longer, a .within, ap length (last-pass
 -- the length of the escaped form
 pub escaped-length : (b : Bytes) → length b + inserted b ≡ length (escape b)
 escaped-length b = omega (arith, escape-longer b)
-
--- where the escaped form is no longer, it is the OBU
-pub uninserted : (b : Bytes) → length (escape b) ≡ length b → escape b ≡ b
-uninserted b e =
-    let u = unescape-escape b in
-    sym (undropped (escape b) (omega (arith, given-or-dropped (escape b), ap length u))) ∙ u

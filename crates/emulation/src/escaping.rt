@@ -1,6 +1,7 @@
 // Escaping one OBU.
 ghost use mathlib.Core.Path.{_≡_};
 ghost use Prim.Native.Nat.{_+_, _≤_, _<_};
+ghost use lib.Dec.{leb};
 ghost use lib.ListN.{length, take};
 ghost use Rattle.lists.specs.Lists.{over};
 ghost use Rattle.refusal.specs.Verdict.{leaves};
@@ -20,7 +21,6 @@ use crate::blocks::wide;
 use crate::writing::copy_clean;
 use crate::writing::copy_rest;
 use crate::writing::put;
-use lists::copy;
 use refusal::Refusal;
 use refusal::Refused;
 
@@ -151,16 +151,16 @@ pub fn escape_prefix(obu: &[u8], out: &mut [u8]) -> usize
     copy_rest(obu, i, out, n)
 }
 
-// The escaped form of obu, which has n bytes and room, over the front of out.
-fn escape_whole(obu: &[u8], n: usize, out: &mut [u8])
-    requires { ⌜ (n ≡ length (Payload·escape (now obu))) × (n ≤ length (now out)) ⌝ }
-    ensures { λ _. ⌜ now (out .exit) ≡ over (Payload·escape (now (obu .entry))) (now (out .entry)) ⌝ }
+// The escaped form of obu has at most so many bytes. Each 03 takes two zeros before it, so that with room for half as
+// many bytes more nothing has to be counted.
+fn has_room(obu: &[u8], room: usize) -> bool
+    requires { ⌜ length (now obu) ≤ mostEscaped ⌝ }
+    ensures { λ r. ⌜ r ≡ leb (length (Payload·escape (now (obu .entry)))) room ⌝ }
 {
-    if n == obu.len() {
-        copy(obu, out);
-        return;
+    if obu.len() + obu.len() / 2 <= room {
+        return true;
     }
-    escape_prefix(obu, out);
+    measure(obu) <= room
 }
 
 // The escaped form of obu over the front of out; 2, then 8.
@@ -174,13 +174,11 @@ pub fn escape(obu: &[u8], out: &mut [u8]) -> Escaped
             place: 0,
         });
     }
-    let n = measure(obu);
-    if out.len() < n {
+    if !has_room(obu, out.len()) {
         return Escaped::Refused(Refused {
             why: Refusal::NO_ROOM,
             place: 0,
         });
     }
-    escape_whole(obu, n, out);
-    Escaped::Bytes(n)
+    Escaped::Bytes(escape_prefix(obu, out))
 }

@@ -1,5 +1,5 @@
 -- The carried unit, tsOBU by tsOBU: its length, and its bytes in an output. Assumes nothing.
-use Prim.Native.Nat.{ℕ, _+_, _-_, _≤_, _<_}
+use Prim.Native.Nat.{ℕ, _+_, _-_, _*_, _/_, _≤_, _<_}
 use mathlib.Core.Path.{_≡_, refl, sym, ap, subst, subst₂, _∙_}
 use mathlib.Core.List.{List, [], _∷_, _++_}
 use native.Mathlib.Omega.{arith}
@@ -57,6 +57,13 @@ module _ (lens : List ℕ) (bytes : Bytes) (i at : ℕ) where
 pub carried-most : (lens : List ℕ) (bytes : Bytes) → length lens ≤ mostObus → length bytes ≤ mostObuBytes → sum lens ≡ length bytes
     → length (carried (obusOf lens bytes)) ≤ mostCarried
 carried-most lens bytes h k e =
+    let c = cut-lengths lens bytes e in
+    omega (arith, carried-length (obusOf lens bytes), length-map (obusOf lens bytes) length, ap length c, ap sum c)
+
+-- a bound on its length, by the lengths alone
+pub carried-bound : (lens : List ℕ) (bytes : Bytes) → sum lens ≡ length bytes
+    → length (carried (obusOf lens bytes)) ≤ 3 * length lens + length bytes + length bytes / 2
+carried-bound lens bytes e =
     let c = cut-lengths lens bytes e in
     omega (arith, carried-length (obusOf lens bytes), length-map (obusOf lens bytes) length, ap length c, ap sum c)
 
@@ -122,5 +129,7 @@ module _ (lens : List ℕ) (bytes out₀ : Bytes) where
         }
 
     -- all are written
-    pub writing-end : length lens ≤ i → out ≡ over (carried (obusOf lens bytes)) out₀
-    writing-end h = done (left-is (carried-end lens bytes i at h))
+    pub writing-end : length lens ≤ i → (n ≡ length (carried (obusOf lens bytes))) × (out ≡ over (carried (obusOf lens bytes)) out₀)
+    writing-end h =
+        let none = carried-end lens bytes i at h in
+        (omega (arith, counted (w .part), ap length none), done (left-is none))

@@ -2,7 +2,7 @@
 ghost use mathlib.Core.Path.{_≡_};
 ghost use Prim.Native.Nat.{_+_, _≤_};
 ghost use mathlib.Core.List.{_∷_};
-ghost use lib.Dec.{eqb};
+ghost use lib.Dec.{eqb, leb};
 ghost use lib.ListN.{length};
 ghost use Rattle.lists.specs.Lists.{over};
 ghost use Rattle.refusal.specs.Verdict.{refused, leaves};
@@ -113,6 +113,19 @@ fn carried_length(obus: &[u8], lens: &[usize]) -> usize
     n
 }
 
+// The carried unit has at most so many bytes. Each 03 takes two zeros before it, so that with room for half as many
+// bytes more nothing has to be counted.
+fn has_room(obus: &[u8], lens: &[usize], room: usize) -> bool
+    requires { ⌜ (length (now lens) ≤ mostObus) × (length (now obus) ≤ mostObuBytes)
+        × (sum (now lens) ≡ length (now obus)) ⌝ }
+    ensures { λ r. ⌜ r ≡ leb (length (carried (obusOf (now (lens .entry)) (now (obus .entry))))) room ⌝ }
+{
+    if 3 * lens.len() + obus.len() + obus.len() / 2 <= room {
+        return true;
+    }
+    carried_length(obus, lens) <= room
+}
+
 // A start code and the escaped OBU over the front of out; answers how many bytes that is.
 fn write_obu(obu: &[u8], out: &mut [u8]) -> usize
     requires { ⌜ 3 + length (escape (now obu)) ≤ length (now out) ⌝ }
@@ -125,10 +138,11 @@ fn write_obu(obu: &[u8], out: &mut [u8]) -> usize
     3 + escape_prefix(obu, &mut out[3..])
 }
 
-// The carried unit over the front of out.
-fn write_obus(obus: &[u8], lens: &[usize], out: &mut [u8])
+// The carried unit over the front of out; answers how many bytes that is.
+fn write_obus(obus: &[u8], lens: &[usize], out: &mut [u8]) -> usize
     requires { ⌜ (sum (now lens) ≡ length (now obus))
         × (length (carried (obusOf (now lens) (now obus))) ≤ length (now out)) ⌝ }
+    ensures { λ r. ⌜ r ≡ length (carried (obusOf (now (lens .entry)) (now (obus .entry)))) ⌝ }
     ensures { λ r. ⌜ now (out .exit)
         ≡ over (carried (obusOf (now (lens .entry)) (now (obus .entry)))) (now (out .entry)) ⌝ }
 {
@@ -141,6 +155,7 @@ fn write_obus(obus: &[u8], lens: &[usize], out: &mut [u8])
         at = end;
         i += 1;
     }
+    n
 }
 
 // The carried unit of the OBUs that stand back to back in obus, over the front of out; 1, 2, for each OBU 3, 4, 5, 6,
@@ -168,10 +183,8 @@ pub fn write(obus: &[u8], lens: &[usize], out: &mut [u8]) -> Written
     if let Ordered::Refused(refused) = judged {
         return Written::Refused(refused);
     }
-    let n = carried_length(obus, lens);
-    if out.len() < n {
+    if !has_room(obus, lens, out.len()) {
         return refuse(Refusal::NO_ROOM);
     }
-    write_obus(obus, lens, out);
-    Written::Bytes(n)
+    Written::Bytes(write_obus(obus, lens, out))
 }

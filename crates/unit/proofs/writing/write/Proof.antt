@@ -1,8 +1,11 @@
--- The tries are those of the definition, in its order; where none refuses and there is room, the carried unit is written whole. Demand 3 is then the
--- theorem about the definitions.
+-- The tries are those of the definition, in its order; where none refuses and there is room, the carried unit is written whole. Demand 3 is
+-- then the theorem about the definitions.
 use native.Mathlib.Omega.{arith}
 use borrow.Author.Needs.{needs}
-use borrow.Author.Tests.{eqb-true, not-true, not-false}
+use borrow.Author.Tests.{eqb-true, leb-true, leb-false, not-true, not-false}
+use Prim.Native.Nat.{_≤_}
+use lib.ListN.{length}
+use Rattle.unit.specs.Unit.{obusOf, carried}
 use mathlib.Core.Path.{refl, sym, ap, _∙_}
 use Rattle.obu.specs.Order.{orderedSays}
 use Rattle.unit.proofs.Tries.{no-obu, too-many, too-long, wrong-sum, refused-answer, no-room, all-written}
@@ -62,8 +65,8 @@ returns-5 c =
 enum-told : tie.Need-enum-told
 enum-told c = search needs
 
-carried-length-requires : tie.Need-carried-length-requires
-carried-length-requires c κs = let sized = judge-obus-requires (c .before .before .before) κs in (sized .1, sized .2, sized .3)
+has-room-requires : tie.Need-has-room-requires
+has-room-requires c κs = let sized = judge-obus-requires (c .before .before .before) κs in (sized .1, sized .2, sized .3)
 
 refuse-requires-5 : tie.Need-refuse-requires-5
 refuse-requires-5 c κs = search needs
@@ -71,23 +74,38 @@ refuse-requires-5 c κs = search needs
 returns-6 : tie.Need-returns-6
 returns-6 c =
     let start = c .before .before .before .before .before .before .before .before .before .before .before .before .before .before in
-    no-room (start .args .lens .now) (start .args .obus .now) (start .args .out .now) (c .refuse5 .ensures)
+    let whole = length (carried (obusOf (start .args .lens .now) (start .args .obus .now))) in
+    let out = start .args .out .now in
+    let short = leb-false whole (length out) (sym (c .before .before .has-room .ensures) ∙ not-true _ (c .before .if5 .taken)) in
+    no-room (start .args .lens .now) (start .args .obus .now) out (c .refuse5 .ensures)
     (sym (ap orderedSays (c .before .before .before .enum-told .given .1)) ∙ c .before .before .before .before .before .judge-obus .ensures)
-    (omega (arith, c .before .before .carried-length .ensures))
+    (omega (arith, short))
+
+-- the carried unit has room
+room : (c : tie.Else5)
+    → let start = c .before .before .before .before .before .before .before .before .before .before .before .before .before in
+    length (carried (obusOf (start .args .lens .now) (start .args .obus .now))) ≤ length (start .args .out .now)
+room c =
+    let start = c .before .before .before .before .before .before .before .before .before .before .before .before .before in
+    leb-true (length (carried (obusOf (start .args .lens .now) (start .args .obus .now)))) (length (start .args .out .now))
+    (sym (c .before .has-room .ensures) ∙ not-false _ (c .if5 .left))
 
 write-obus-requires : tie.Need-write-obus-requires
 write-obus-requires c κs =
-    (eqb-true _ _ (sym (c .before .before .before .before .before .before .before .adds-up .ensures) ∙ not-false _ (c .before .before .before .before .before .before .if4 .left)), omega (arith, c .before .before .carried-length .ensures))
+    let adds = c .before .before .before .before .before .before .before .adds-up .ensures in
+    (eqb-true _ _ (sym adds ∙ not-false _ (c .before .before .before .before .before .before .if4 .left)), room (c .before))
 
 same-length : tie.Need-same-length
 same-length c = search needs
 
 returns-7 : tie.Need-returns-7
 returns-7 c =
-    let start = c .before .before .before .before .before .before .before .before .before .before .before .before .before .before .before .before .before in
-    all-written (start .args .lens .now) (start .args .obus .now) (start .args .out .now) _ _ (c .before .before .before .before .before .carried-length .ensures)
-    (sym (ap orderedSays (c .before .before .before .before .before .before .enum-told .given .1)) ∙ c .before .before .before .before .before .before .before .before .judge-obus .ensures)
-    (omega arith) (c .before .before .write-obus .ensures)
+    let fit = c .before .before .before .before in
+    let start = fit .before .before .before .before .before .before .before .before .before .before .before .before .before in
+    let written = c .before .before .write-obus .ensures in
+    all-written (start .args .lens .now) (start .args .obus .now) (start .args .out .now) _ _ (written .0)
+    (sym (ap orderedSays (fit .before .before .enum-told .given .1)) ∙ fit .before .before .before .before .judge-obus .ensures)
+    (omega (arith, written .0, room fit)) (written .1)
 
 pub write-spec : {M : Type 1} → statement M
 write-spec =
@@ -106,7 +124,7 @@ write-spec =
     enum-known-judged
     returns-5
     enum-told
-    carried-length-requires
+    has-room-requires
     refuse-requires-5
     returns-6
     write-obus-requires
