@@ -4,7 +4,7 @@
 use Prim.Native.Nat.{ℕ, _+_, _≤_}
 use mathlib.Core.Bool.{false}
 use mathlib.Core.Path.{_≡_, refl, sym, ap, ap₂, subst, _∙_}
-use mathlib.Core.List.{List, [], _∷_, _++_, flatten, append-assoc}
+use mathlib.Core.List.{List, [], _∷_, _++_, map, flatten, append-assoc}
 use native.Mathlib.Omega.{arith}
 use borrow.Author.Tests.{ltb-false}
 use lib.Dec.{ltb}
@@ -23,7 +23,8 @@ use Rattle.queue.specs.Queue.{TimedUnit, queuedBytes, unitWrong, queueOf, Queue
 use Rattle.queue.proofs.Keeping.{empty-is, as-units}
 use Rattle.segment_rules.specs.Check.{Accepted, Outputs, Progress, roomsOf, lengths, ptsAndDts, timesInTurn, holding, outputsAfter}
 use Rattle.segment_rules.specs.Check.{checkSegment, start, run, ending}
-use Rattle.segment_rules.specs.Comparison.{firstFrom, comparedWith, compared, checkCompared}
+use Rattle.comparison.specs.Comparison.{firstFrom}
+use Rattle.segment_rules.specs.Comparison.{comparedWith, compared, checkCompared}
 use Rattle.segment_rules.specs.Rules.{Rooms, carriedUnits}
 use Rattle.segment_rules.proofs.Running.{run-append}
 use Rattle.mux_rules.specs.declared.Channel.{Channel}
@@ -116,7 +117,7 @@ one-video d fine = subst (λ (x : Bytes). videoDescriptors current (registration
 
 compared-as : (rooms : Rooms) (s d : Bytes) (a : Accepted) (pid : ℕ) → wrong d ≡ false → a .map ≡ mapFor pid d
     → checkSegment current rooms s ≡ passed a
-    → checkCompared 0 rooms s ≡ passed (record { accepted = a; disagreement = firstFrom 0 (fieldsOf d) (a .units) })
+    → checkCompared 0 rooms s ≡ passed (record { accepted = a; disagreement = firstFrom 0 (fieldsOf d) (map (λ u. u .carried) (a .units)) })
 unfolding checkCompared editionOf comparedWith _>>=_
 compared-as rooms s d a pid fine m v =
     ap (λ (x : Verdict Accepted). x >>= λ y. passed (record { accepted = y; disagreement = compared current (y .map) (y .units) })) v

@@ -11,6 +11,7 @@ use Rattle.lists.specs.Lists.{Bytes, over, all}
 use Rattle.refusal.specs.Verdict.{passed}
 use Rattle.descriptor.specs.Descriptor.{fieldsOf}
 use Rattle.descriptor.specs.Edition.{current}
+use Rattle.comparison.specs.Comparison.{firstFrom}
 use Rattle.ticks.specs.declared.Ticks27.{Ticks27}
 use Rattle.packet.specs.Writing.{most}
 use Rattle.pmt.specs.Writing.{mapFor}
@@ -20,7 +21,7 @@ use Rattle.queue.specs.Queue.{TimedUnit, queuedBytes, QueueIs}
 use Rattle.segment_rules.specs.State.{AccessUnit}
 use Rattle.segment_rules.specs.Rules.{Rooms}
 use Rattle.segment_rules.specs.Check.{Accepted, Outputs, roomsOf, outputsAfter, checkSegment}
-use Rattle.segment_rules.specs.Comparison.{Answered, firstFrom, checkCompared}
+use Rattle.segment_rules.specs.Comparison.{Answered, checkCompared}
 use Rattle.mux_rules.specs.declared.Channel.{Channel}
 use Rattle.mux_rules.specs.declared.Written.{Written}
 use Rattle.mux_rules.specs.Packets.{pes, firstMost, packetsFor, packetsForUnits, segment, nextChannel}
@@ -73,7 +74,7 @@ abbrev pub answeredAs : Channel → Bytes → List TimedUnit → Answered
 answeredAs c descriptor units =
     record {
       accepted = acceptedAs c descriptor units;
-      disagreement = firstFrom 0 (fieldsOf descriptor) (accessUnits 3 units);
+      disagreement = firstFrom 0 (fieldsOf descriptor) (map (λ u. u .carried) (accessUnits 3 units));
     }
 
 abbrev pub Claim : Type 0
@@ -122,7 +123,8 @@ answeredTwice c descriptor units more =
     record {
       accepted = acceptedTwice c descriptor units more;
       disagreement =
-          firstFrom 0 (fieldsOf descriptor) (accessUnits 3 units ++ accessUnits (6 + packetsForUnits units) more);
+          firstFrom 0 (fieldsOf descriptor)
+          (map (λ u. u .carried) (accessUnits 3 units ++ accessUnits (6 + packetsForUnits units) more));
     }
 
 -- they are accepted as one segment, where both together have no more packets than a segment may have

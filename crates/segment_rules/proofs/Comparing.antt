@@ -31,13 +31,13 @@ use Rattle.sequence.specs.declared.comparison.Difference.the-variants as differ
 use Rattle.sequence.specs.Bits.{Outcome, read, cutShort}
 use Rattle.sequence.specs.Header as sequence
 use Rattle.sequence.specs.Comparison.{ofHeader, ofDescriptor, firstDiffering, orCutShort, reading, comparing}
+use Rattle.comparison.specs.declared.Disagreement.{Disagreement}
+use Rattle.comparison.specs.Comparison.{sequenceHeaders, fieldOf, inUnit, orElse, firstOf, firstFrom}
 use Rattle.packet.proofs.Counters.{some-not-none, some-same}
 use Rattle.segment_rules.specs.State.{AccessUnit}
 use Rattle.segment_rules.specs.Rules.{Rooms}
 use Rattle.segment_rules.specs.Check.{checkSegment, checkIn}
-use Rattle.segment_rules.specs.Comparison.{sequenceHeaders, fieldOf, Disagreement, inUnit, orElse}
-use Rattle.segment_rules.specs.Comparison.{firstOf, firstFrom, comparedWith, compared}
-use Rattle.segment_rules.specs.Comparison.{checkCompared}
+use Rattle.segment_rules.specs.Comparison.{comparedWith, compared, checkCompared}
 use Rattle.segment_rules.proofs.Moving.{passed-so}
 use Rattle.segment_rules.proofs.Sequence.{bind-assoc, bind-same, bind-unit}
 
@@ -70,8 +70,8 @@ module _ (d : Fields) where
   abbrev pub Agrees : Bytes → Type 0
   Agrees content = fieldOf (comparing content d) ≡ none
 
-  abbrev pub UnitAgrees : AccessUnit → Type 0
-  UnitAgrees u = All Agrees (sequenceHeaders (u .carried))
+  abbrev pub UnitAgrees : Bytes → Type 0
+  UnitAgrees u = All Agrees (sequenceHeaders u)
 
   -- of the headers of a unit
   pub record HeaderFound (headers : List Bytes) (field : ℕ) : Type 0 where
@@ -119,39 +119,39 @@ module _ (d : Fields) where
       go (some m) k e more = record { front = []; header = h; back = headers; whole = refl; before = tt; differs = k ∙ e }
 
   -- of the units, of which the first has this index
-  pub record UnitFound (index : ℕ) (units : List AccessUnit) (found : Disagreement) : Type 0 where
-    pub front : List AccessUnit
-    pub unit : AccessUnit
-    pub back : List AccessUnit
+  pub record UnitFound (index : ℕ) (units : List Bytes) (found : Disagreement) : Type 0 where
+    pub front : List Bytes
+    pub unit : Bytes
+    pub back : List Bytes
     pub whole : units ≡ front ++ (unit ∷ back)
     pub before : All UnitAgrees front
     pub at : found .unit ≡ index + length front
-    pub header : HeaderFound (sequenceHeaders (unit .carried)) (found .field)
+    pub header : HeaderFound (sequenceHeaders unit) (found .field)
 
-  pub none-found : (index : ℕ) (units : List AccessUnit) → firstFrom index d units ≡ none → All UnitAgrees units
+  pub none-found : (index : ℕ) (units : List Bytes) → firstFrom index d units ≡ none → All UnitAgrees units
   unfolding firstFrom
   none-found index [] e = tt
-  none-found index (u ∷ units) e = go (firstOf d (sequenceHeaders (u .carried))) refl e (none-found (suc index) units)
+  none-found index (u ∷ units) e = go (firstOf d (sequenceHeaders u)) refl e (none-found (suc index) units)
     where
-      go : (o : Option ℕ) → firstOf d (sequenceHeaders (u .carried)) ≡ o → orElse (inUnit index o) (firstFrom (suc index) d units) ≡ none
+      go : (o : Option ℕ) → firstOf d (sequenceHeaders u) ≡ o → orElse (inUnit index o) (firstFrom (suc index) d units) ≡ none
           → (firstFrom (suc index) d units ≡ none → All UnitAgrees units) → All UnitAgrees (u ∷ units)
-      go none k e more = (header-none (sequenceHeaders (u .carried)) k, more e)
+      go none k e more = (header-none (sequenceHeaders u) k, more e)
       go (some n) k e more = absurd (some-not-none _ e)
 
-  pub all-agree : (index : ℕ) (units : List AccessUnit) → All UnitAgrees units → firstFrom index d units ≡ none
+  pub all-agree : (index : ℕ) (units : List Bytes) → All UnitAgrees units → firstFrom index d units ≡ none
   unfolding firstFrom
   all-agree index [] h = refl
   all-agree index (u ∷ units) h =
-      ap (λ (o : Option ℕ). orElse (inUnit index o) (firstFrom (suc index) d units)) (header-agree (sequenceHeaders (u .carried)) (h .0))
+      ap (λ (o : Option ℕ). orElse (inUnit index o) (firstFrom (suc index) d units)) (header-agree (sequenceHeaders u) (h .0))
       ∙ all-agree (suc index) units (h .1)
 
-  pub found-first : (index : ℕ) (units : List AccessUnit) (found : Disagreement) → firstFrom index d units ≡ some found
+  pub found-first : (index : ℕ) (units : List Bytes) (found : Disagreement) → firstFrom index d units ≡ some found
       → UnitFound index units found
   unfolding firstFrom
   found-first index [] found e = absurd (some-not-none found (sym e))
-  found-first index (u ∷ units) found e = go (firstOf d (sequenceHeaders (u .carried))) refl e (found-first (suc index) units found)
+  found-first index (u ∷ units) found e = go (firstOf d (sequenceHeaders u)) refl e (found-first (suc index) units found)
     where
-      go : (o : Option ℕ) → firstOf d (sequenceHeaders (u .carried)) ≡ o
+      go : (o : Option ℕ) → firstOf d (sequenceHeaders u) ≡ o
           → orElse (inUnit index o) (firstFrom (suc index) d units) ≡ some found
           → (firstFrom (suc index) d units ≡ some found → UnitFound (suc index) units found) → UnitFound index (u ∷ units) found
       go none k e more =
@@ -160,8 +160,8 @@ module _ (d : Fields) where
             front = u ∷ f .front;
             unit = f .unit;
             back = f .back;
-            whole = ap (λ (l : List AccessUnit). u ∷ l) (f .whole);
-            before = (header-none (sequenceHeaders (u .carried)) k, f .before);
+            whole = ap (λ (l : List Bytes). u ∷ l) (f .whole);
+            before = (header-none (sequenceHeaders u) k, f .before);
             at = omega (arith, f .at);
             header = f .header;
           }
@@ -175,8 +175,8 @@ module _ (d : Fields) where
             before = tt;
             at = ap (λ (x : Disagreement). x .unit) (sym same) ∙ omega arith;
             header =
-                subst (HeaderFound (sequenceHeaders (u .carried))) (ap (λ (x : Disagreement). x .field) same)
-                (header-found (sequenceHeaders (u .carried)) n k);
+                subst (HeaderFound (sequenceHeaders u)) (ap (λ (x : Disagreement). x .field) same)
+                (header-found (sequenceHeaders u) n k);
           }
 
 -- ---- the field

@@ -26,13 +26,15 @@ use Rattle.pes.specs.Pes as pes
 use Rattle.sequence.specs.Bits as bits
 use Rattle.sequence.specs.Header as sequence
 use Rattle.sequence.specs.Comparison as compare
+use Rattle.comparison.specs.declared.Disagreement.{Disagreement}
+use Rattle.comparison.specs.Comparison as comparison
 use Rattle.segment_rules.specs.State as state
 use Rattle.segment_rules.specs.Rules as rules
 use Rattle.segment_rules.specs.Rules.{Rooms}
 use Rattle.segment_rules.specs.Check as check
 use Rattle.segment_rules.specs.Check.{lengths, timesInTurn}
-use Rattle.segment_rules.specs.Comparison as comparison
-use Rattle.segment_rules.specs.Comparison.{Disagreement, Answered, checkCompared}
+use Rattle.segment_rules.specs.Comparison as compared
+use Rattle.segment_rules.specs.Comparison.{Answered, checkCompared}
 
 -- so many bytes of a number, the lowest last
 unfoldable pub bytesBefore : ℕ → ℕ → Bytes → Bytes
@@ -227,7 +229,7 @@ unfolding bytesBefore patPacket pmtPacket draftPacket longPacket clockPacket pes
     sequence.screenTools sequence.interTools sequence.describedColor sequence.colorDescription sequence.isSrgb sequence.codedSubsampling
     sequence.subsampling sequence.positioned sequence.grey sequence.otherColor sequence.chromaFormat sequence.nine sequence.colorConfig
     sequence.framesAndTools sequence.sequenceHeader compare.ofHeader compare.ofDescriptor compare.firstDiffering compare.reading
-    compare.comparing comparison.sequenceContent comparison.firstOf comparison.firstFrom comparison.comparedWith comparison.checkCompared
+    compare.comparing comparison.sequenceContent comparison.firstOf comparison.firstFrom compared.comparedWith compared.checkCompared
     descriptor.fieldsOf
 examples-checked =
     (refl, (refl, (refl, (refl, (refl, (refl, (refl, (refl, (refl, (refl, (refl, (refl, (refl, (refl, tt))))))))))))))

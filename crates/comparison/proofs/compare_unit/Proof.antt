@@ -1,0 +1,86 @@
+-- As long as nothing has been found, the tsOBUs from the place reached on give what the whole unit gives.
+use borrow.Author.Needs.{needs}
+use native.Mathlib.Omega.{arith}
+use Prim.Native.Nat.{_-_}
+use lib.ListN.{length}
+use Rattle.comparison.proofs.Loops.{Going, going-start, going-done, code-room, end-room, going-next, going-found}
+use Rattle.comparison.proofs.compare_unit.Statement.{statement}
+use Rattle.comparison.proofs.compare_unit.Tie as tie
+
+abbrev Inv-loop : tie.InvT-loop
+Inv-loop unit fields code₀ code = Going fields unit code
+
+abbrev μ-loop : tie.MeasureT-loop
+μ-loop unit fields code₀ code = length unit - code
+
+find-requires : tie.Need-find-requires Inv-loop μ-loop
+find-requires c κs = search needs
+
+loop-holds : tie.Need-loop-holds Inv-loop μ-loop
+loop-holds c = going-start _ _ _ (c .find .ensures)
+
+add-start : tie.Need-add-start Inv-loop μ-loop
+add-start c = omega (arith, code-room (c .before .loop .inv) (c .loop-test .taken))
+
+find-requires-2 : tie.Need-find-requires-2 Inv-loop μ-loop
+find-requires-2 c κs = search needs
+
+sub-compare-obu : tie.Need-sub-compare-obu Inv-loop μ-loop
+sub-compare-obu c = end-room (c .before .before .loop .inv) (c .before .loop-test .taken) _ (c .find2 .ensures) .0
+
+part-compare-obu-start : tie.Need-part-compare-obu-start Inv-loop μ-loop
+part-compare-obu-start c = end-room (c .before .before .loop .inv) (c .before .loop-test .taken) _ (c .find2 .ensures) .0
+
+part-compare-obu-end : tie.Need-part-compare-obu-end Inv-loop μ-loop
+part-compare-obu-end c = end-room (c .before .before .loop .inv) (c .before .loop-test .taken) _ (c .find2 .ensures) .1
+
+compare-obu-requires : tie.Need-compare-obu-requires Inv-loop μ-loop
+compare-obu-requires c κs = search needs
+
+enum-told : tie.Need-enum-told Inv-loop μ-loop
+enum-told c = search needs
+
+enum-told-2 : tie.Need-enum-told-2 Inv-loop μ-loop
+enum-told-2 c = search needs
+
+returns : tie.Need-returns Inv-loop μ-loop
+returns c =
+    let found = c .before .before .before .before in
+    going-found (found .before .before .loop .inv) (found .before .loop-test .taken) _ (found .find2 .ensures) _
+    (c .before .before .compare-obu .ensures) _ (c .enum-told2 .given .1)
+
+loop-less : tie.Need-loop-less Inv-loop μ-loop
+loop-less c =
+    let found = c .before .before .before .before in
+    let e = end-room (found .before .before .loop .inv) (found .before .loop-test .taken) _ (found .find2 .ensures) in
+    omega (arith, e .0, e .1, found .before .loop-test .taken)
+
+loop-again : tie.Need-loop-again Inv-loop μ-loop
+loop-again c =
+    let found = c .before .before .before .before in
+    going-next (found .before .before .loop .inv) (found .before .loop-test .taken) _ (found .find2 .ensures) _
+    (c .before .before .compare-obu .ensures) (c .enum-told .given .1)
+
+returns-2 : tie.Need-returns-2 Inv-loop μ-loop
+returns-2 c = going-done (c .before .loop .inv) (c .loop-test .left)
+
+pub compare-unit-spec : {M : Type 1} → statement M
+compare-unit-spec =
+    tie.close
+    (tie.spec
+    Inv-loop
+    μ-loop
+    find-requires
+    loop-holds
+    add-start
+    find-requires-2
+    sub-compare-obu
+    part-compare-obu-start
+    part-compare-obu-end
+    compare-obu-requires
+    enum-told
+    enum-told-2
+    returns
+    loop-less
+    loop-again
+    returns-2)
