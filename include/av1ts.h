@@ -15,7 +15,7 @@
 
 /* The version of this interface. It goes up by one where a function changes what it takes or a struct grows at its end: a program that was built with
  * another version of this header is to be built anew. CHANGELOG.md says what changed. */
-#define AV1TS_VERSION 3
+#define AV1TS_VERSION 4
 
 /* How it grows. A struct grows at its end and nowhere else: a field that is there keeps its name, its place and its meaning. A number keeps its meaning; new
  * ones come with new functions, or where CHANGELOG.md says so, so a caller handles a number that it does not know as a refusal.
@@ -58,6 +58,7 @@ enum {
     AV1TS_REFUSED_PES_LENGTH = 32,         /* PES length wrong */
     AV1TS_REFUSED_NO_TABLES = 33,          /* no PAT or no PMT */
     AV1TS_REFUSED_UNIT_COUNT = 34,         /* a 1,025th unit */
+    AV1TS_REFUSED_CUT_SHORT = 43,          /* in field of av1ts_segment: a sequence header is cut short */
     AV1TS_REFUSED_EDITION = 44,            /* an unknown edition */
 
     /* the transport buffer */
@@ -162,9 +163,13 @@ typedef struct {
  * Refuses: 40 as reading does; 8 the output is too short. */
 av1ts_rewritten av1ts_rewrite_descriptor(const uint8_t *bytes, size_t bytes_len, uint8_t *out, size_t out_len);
 
-/* What an accepted segment has: its program number, the PID of its AV1 stream, its access units, and its packets in five classes. */
+/* What an accepted segment has: its program number, the PID of its AV1 stream, its access units, and its packets in five classes. compared 1: a sequence header
+ * disagrees with the video descriptor or is cut short. unit is then the unit of the first such header in stream order, from 0, and field its first differing field
+ * in descriptor order, from 0 seq_profile to 8 chroma_sample_position; or 43 (AV1TS_REFUSED_CUT_SHORT) where that header ends before chroma_sample_position has been
+ * read or passed by, whatever differs before. compared 0, with unit and field 0: every sequence header agrees, or the AV1 entry has no video descriptor, or the
+ * edition is draft. The comparison refuses nothing and moves nothing else of the answer. */
 typedef struct {
-    uint64_t number, place, program, pid, units, null_packets, section, av1, other_listed, unlisted;
+    uint64_t number, place, program, pid, units, null_packets, section, av1, other_listed, unlisted, compared, unit, field;
 } av1ts_segment;
 
 /* The check of a segment of whole packets, and its AV1 access units: carried units back to back from the front of out, their lengths from the front of lengths, PTS

@@ -2,6 +2,7 @@
 //!
 //! Each function stands under the sentence it says. Nothing here uses the library or its binding.
 
+pub mod comparison;
 pub mod compose;
 pub mod crc;
 pub mod descriptor;
@@ -20,5 +21,6 @@ pub mod report;
 pub mod salvage;
 pub mod section;
 pub mod segment;
+pub mod sequence;
 pub mod unit;
 pub mod walk;

@@ -1,7 +1,7 @@
 //! Sections (13818-1, 2.4.4): the PAT, the PMT, and the refusals 25 to 28.
 
 use crate::crc::crc;
-use crate::descriptor::{self, VIDEO_TAG};
+use crate::descriptor::{self, VIDEO_TAG, Video};
 use crate::edition::Edition;
 use crate::packet::{NULL, Packet};
 use crate::refusal::Refusal;
@@ -133,6 +133,8 @@ pub struct Pmt {
     pub pcr_pid: u16,
     pub pids: Vec<u16>,
     pub av1_pid: u16,
+    /// The AV1 entry's video descriptor, where it has one.
+    pub video: Option<Video>,
 }
 
 /// Descriptors, where they fill the bytes exactly.
@@ -201,20 +203,26 @@ pub fn pmt(section: &[u8], pat: &Pat, edition: Edition, index: usize) -> Result<
         });
         rest = &rest[5 + length..];
     }
-    let av1_pid = av1_entry(&entries, edition, index)?;
+    let (av1_pid, video) = av1_entry(&entries, edition, index)?;
     let pids = entries.iter().map(|entry| entry.pid).collect();
     Ok(Pmt {
         pcr_pid,
         pids,
         av1_pid,
+        video,
     })
 }
 
 /// "28: not exactly one AV1 entry, the registration 'AV01' elsewhere in an entry's loop or with
 /// stream_type other than 0x06, or the AV1 entry has two video descriptors or one refused by 40."
 /// "The AV1 entry has stream_type 0x06 and the registration as its first descriptor." Under draft its
-/// own registration is "read for 'AV01' in 28", and "tag 0x80 is not interpreted".
-fn av1_entry(entries: &[Entry], edition: Edition, index: usize) -> Result<u16, Refusal> {
+/// own registration is "read for 'AV01' in 28", and "tag 0x80 is not interpreted". Answers the AV1
+/// entry's PID and its video descriptor.
+fn av1_entry(
+    entries: &[Entry],
+    edition: Edition,
+    index: usize,
+) -> Result<(u16, Option<Video>), Refusal> {
     let wrong = |condition| Err(Refusal::new(28, index, condition));
     let registration = edition.registration();
     for entry in entries {
@@ -238,8 +246,9 @@ fn av1_entry(entries: &[Entry], edition: Edition, index: usize) -> Result<u16, R
         [entry] => entry,
         _ => return wrong("28: two AV1 entries"),
     };
+    // "2026-04 answers none"
     if edition == Edition::Draft {
-        return Ok(entry.pid);
+        return Ok((entry.pid, None));
     }
     let mut videos = Vec::new();
     for descriptor in &entry.descriptors {
@@ -250,10 +259,14 @@ fn av1_entry(entries: &[Entry], edition: Edition, index: usize) -> Result<u16, R
     if videos.len() > 1 {
         return wrong("28: two video descriptors");
     }
-    if videos.iter().any(|video| descriptor::read(video).is_err()) {
-        return wrong("28: video descriptor refused by 40");
+    let bytes = match videos.first() {
+        Some(bytes) => bytes,
+        _ => return Ok((entry.pid, None)),
+    };
+    match descriptor::read(bytes) {
+        Err(_) => wrong("28: video descriptor refused by 40"),
+        Ok(video) => Ok((entry.pid, Some(video))),
     }
-    Ok(entry.pid)
 }
 
 /// "A later section not equal to the first is 25 or 26 and read no further."

@@ -1,5 +1,6 @@
 //! A segment: its packets in order, its program, and its AV1 access units.
 
+use crate::comparison::{self, Comparison};
 use crate::edition::Edition;
 use crate::packet::{self, NULL, Packet};
 use crate::refusal::Refusal;
@@ -58,13 +59,15 @@ pub struct Unit {
     pub dts: u64,
 }
 
-/// "Acceptance gives program number, AV1 PID, unit count and packet totals"
+/// "Acceptance gives program number, AV1 PID, unit count and packet totals"; "the answer gains the
+/// unit of the first header in stream order that disagrees or is cut short, .. or none".
 #[derive(Clone, Debug, PartialEq, Eq)]
 pub struct Accepted {
     pub program: u16,
     pub pid: u16,
     pub units: Vec<Unit>,
     pub totals: Totals,
+    pub comparison: Option<Comparison>,
 }
 
 /// The conditions of 24.
@@ -180,6 +183,7 @@ pub fn check_edition(edition: u64, segment: &[u8], rooms: Rooms) -> Result<Accep
         _ => return Err(Refusal::new(33, count, "33: no PMT")),
     };
     Ok(Accepted {
+        comparison: comparison::compare(pmt.video.as_ref(), &check.units),
         program: pat.program,
         pid: pmt.av1_pid,
         units: check.units,

@@ -130,6 +130,8 @@ void try_segment(void) {
     expect(a.number != 30 || edition == 0, "check_segment: a draft recording may have no times");
     expect(a.number == 0 || all_zero(&a.program, (sizeof a - offsetof(av1ts_segment, program)) / 8), "check_segment: a refusal says nothing else");
     expect(a.number == 0 || a.place <= packets, "check_segment: its place");
+    expect(a.compared <= 1 && (a.compared == 1 || (a.unit == 0 && a.field == 0)) && (a.field <= 8 || a.field == 43), "check_segment: its comparison");
+    expect(a.compared == 0 || (edition == 0 && a.unit < a.units), "check_segment: the unit compared");
     expect(a.number != 0 || a.null_packets + a.section + a.av1 + a.other_listed + a.unlisted == packets, "check_segment: its totals add up");
 }
 

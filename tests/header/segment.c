@@ -15,7 +15,7 @@ static void expect(const char *what, int holds) {
 
 static int refused(av1ts_segment s, uint64_t number, uint64_t place) {
     return s.number == number && s.place == place && s.program == 0 && s.pid == 0 && s.units == 0 && s.null_packets == 0 && s.section == 0 && s.av1 == 0 &&
-           s.other_listed == 0 && s.unlisted == 0;
+           s.other_listed == 0 && s.unlisted == 0 && s.compared == 0 && s.unit == 0 && s.field == 0;
 }
 
 /* A packet that begins with these bytes, filled with 0xFF. */
@@ -36,6 +36,7 @@ static void accepted(void) {
     static const uint8_t start[] = {0x47, 0x41, 0x01, 0x38, 159, 0x00};
     static const uint8_t pes[] = {0x00, 0x00, 0x01, 0xBD, 0x00, 0x12, 0x84, 0x80, 0x05, 0x21, 0x00, 0x01, 0x00, 0x03};
     static const uint8_t unit[] = {0x00, 0x00, 0x01, 0x12, 0x00, 0x00, 0x00, 0x01, 0x30, 0xAA};
+    static const uint8_t cut_short[] = {0x00, 0x00, 0x01, 0x08, 0x01, 0x00, 0x00, 0x01, 0x30, 0xAA};
     uint8_t packet[4 * 188], out[12];
     size_t lengths[2] = {7, 7};
     uint64_t times[3] = {7, 7, 7};
@@ -50,6 +51,7 @@ static void accepted(void) {
     memset(out, 0xEE, sizeof out);
     s = av1ts_check_segment(packet, 752, out, 12, lengths, 2, times, 3);
     expect("accepted", s.number == 0 && s.place == 0 && s.program == 1 && s.pid == 0x101 && s.units == 1);
+    expect("no sequence header to compare", s.compared == 0 && s.unit == 0 && s.field == 0);
     expect("packets by class", s.null_packets == 0 && s.section == 2 && s.av1 == 2 && s.other_listed == 0 && s.unlisted == 0);
     expect("the unit stands at the front, the rest is as it was", memcmp(out, unit, 10) == 0 && out[10] == 0xEE && out[11] == 0xEE);
     expect("its length", lengths[0] == 10 && lengths[1] == 7);
@@ -67,11 +69,21 @@ static void accepted(void) {
     expect("zeros there too", out[0] == 0 && out[11] == 0);
     expect("the greatest number", refused(av1ts_check_segment_edition(UINT64_MAX, packet, 752, out, 12, lengths, 2, times, 3), 44, 0));
 
+    memcpy(packet + 752 - sizeof unit, cut_short, sizeof cut_short);
+    s = av1ts_check_segment(packet, 752, out, 12, lengths, 2, times, 3);
+    expect("a sequence header that is cut short", s.number == 0 && s.units == 1 && s.compared == 1 && s.unit == 0 && s.field == AV1TS_REFUSED_CUT_SHORT);
+    expect("its unit is accepted all the same", memcmp(out, cut_short, 10) == 0 && lengths[0] == 10 && times[0] == 1);
+
     fill(packet + 188, draft, sizeof draft);
     packet[752 - sizeof unit - sizeof pes + 7] = 0;
     memset(out, 0xEE, sizeof out);
     times[0] = times[1] = times[2] = 7;
     expect("a draft recording as current", refused(av1ts_check_segment(packet, 752, out, 12, lengths, 2, times, 3), 28, 1));
+    memset(out, 0xEE, sizeof out);
+    times[2] = 7;
+    s = av1ts_check_segment_edition(1, packet, 752, out, 12, lengths, 2, times, 3);
+    expect("under draft nothing is compared", s.number == 0 && s.compared == 0 && s.unit == 0 && s.field == 0);
+    memcpy(packet + 752 - sizeof unit, unit, sizeof unit);
     memset(out, 0xEE, sizeof out);
     times[2] = 7;
     s = av1ts_check_segment_edition(1, packet, 752, out, 12, lengths, 2, times, 3);

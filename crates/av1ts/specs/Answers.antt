@@ -2,6 +2,7 @@
 -- place is 0, but that of a walk's step says that it stays. Assumes nothing.
 use Prim.Native.Nat.{ℕ}
 use mathlib.Core.List.{List, [], _∷_}
+use mathlib.Core.Option.{Option, none, some}
 use Rattle.lists.specs.Lists.{Bytes}
 use Rattle.lists.specs.Bytes.{byte}
 use Rattle.refusal.specs.Verdict.{Verdict, passed, refused}
@@ -12,8 +13,10 @@ use Rattle.descriptor.specs.declared.fields.Fields.{Fields}
 use Rattle.descriptor.specs.declared.fields.Delay.{Delay}
 use Rattle.descriptor.specs.declared.fields.Delay.the-variants.{Absent, Present}
 use Rattle.descriptor.specs.declared.fields.Video.{Video}
+use Rattle.comparison.specs.declared.Disagreement.{Disagreement}
 use Rattle.segment.specs.declared.whole.Summary.{Summary}
 use Rattle.av1ts.specs.declared.answer.Answer.{Answer}
+use Rattle.av1ts.specs.declared.segments.Comparison.{Comparison}
 use Rattle.av1ts.specs.declared.segments.SegmentAnswer.{SegmentAnswer}
 use Rattle.av1ts.specs.declared.video_descriptor.VideoDescriptor.{VideoDescriptor}
 use Rattle.av1ts.specs.declared.walk.WalkStep.{WalkStep}
@@ -100,9 +103,15 @@ fieldsFrom field =
     }
 
 -- ---- a segment
+-- 2026-04: "the answer gains the unit of the first header in stream order that disagrees or is cut short .., with its
+-- first differing field in descriptor order, or none", and "43 in place of the field": compared is 1 where there is one
+abbrev pub comparisonAnswer : Option Disagreement → Comparison
+comparisonAnswer none = record { compared = 0; unit = 0; field = 0 }
+comparisonAnswer (some d) = record { compared = 1; unit = d .unit; field = d .field }
+
 -- what acceptance gives
-abbrev pub acceptedAnswer : Summary → SegmentAnswer
-acceptedAnswer s =
+abbrev pub acceptedWith : Comparison → Summary → SegmentAnswer
+acceptedWith c s =
     record {
       number = 0;
       place = 0;
@@ -114,7 +123,13 @@ acceptedAnswer s =
       av1 = s .totals .av1;
       «other_listed» = s .totals .«other_listed»;
       unlisted = s .totals .unlisted;
+      compared = c .compared;
+      unit = c .unit;
+      field = c .field;
     }
+
+abbrev pub acceptedAnswer : Summary → Option Disagreement → SegmentAnswer
+acceptedAnswer s d = acceptedWith (comparisonAnswer d) s
 
 -- "A refused segment returns number and place, all else 0"
 abbrev pub refusedAnswer : ℕ → ℕ → SegmentAnswer
@@ -130,8 +145,11 @@ refusedAnswer number place =
       av1 = 0;
       «other_listed» = 0;
       unlisted = 0;
+      compared = 0;
+      unit = 0;
+      field = 0;
     }
 
-abbrev pub segmentAnswer : Verdict Summary → SegmentAnswer
-segmentAnswer (passed s) = acceptedAnswer s
-segmentAnswer (refused number place) = refusedAnswer number place
+abbrev pub segmentAnswer : Verdict Summary → Option Disagreement → SegmentAnswer
+segmentAnswer (passed s) d = acceptedAnswer s d
+segmentAnswer (refused number place) d = refusedAnswer number place

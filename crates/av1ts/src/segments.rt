@@ -2,13 +2,16 @@
 ghost use mathlib.Core.Path.{_≡_};
 ghost use Rattle.refusal.specs.Number.{numberOf};
 ghost use Rattle.segment_rules.specs.Check.{checkIn, outputsOf, roomsOf, outputsAfter};
-ghost use Rattle.segment.specs.Answer.{checking, checkSays};
-ghost use Rattle.av1ts.specs.Answers.{acceptedAnswer, refusedAnswer, segmentAnswer};
+ghost use Rattle.segment_rules.specs.Comparison.{checkCompared};
+ghost use Rattle.segment.specs.Answer.{checking, disagreementOf, checkSays};
+ghost use Rattle.comparison.specs.Comparison.{disagreedSays};
+ghost use Rattle.av1ts.specs.Answers.{comparisonAnswer, acceptedAnswer, refusedAnswer, segmentAnswer};
+use comparison::Disagreed;
 use refusal::Refused;
 use segment::SegmentCheck;
 use segment::Summary;
 
-// number 0: the segment is accepted.
+// number 0: the segment is accepted. compared 1: a sequence header disagrees with the video descriptor or is cut short.
 #[repr(C)]
 pub struct SegmentAnswer {
     pub number: u64,
@@ -21,12 +24,40 @@ pub struct SegmentAnswer {
     pub av1: u64,
     pub other_listed: u64,
     pub unlisted: u64,
+    pub compared: u64,
+    pub unit: u64,
+    pub field: u64,
 }
 
-fn accepted(summary: Summary) -> SegmentAnswer
-    ensures { λ r. ⌜ r ≡ acceptedAnswer summary ⌝ }
+// The last three fields of the answer.
+struct Comparison {
+    compared: u64,
+    unit: u64,
+    field: u64,
+}
+
+fn compared(disagreement: Disagreed) -> Comparison
+    ensures { λ r. ⌜ r ≡ comparisonAnswer (disagreedSays disagreement) ⌝ }
+{
+    match disagreement {
+        Disagreed::None => Comparison {
+            compared: 0,
+            unit: 0,
+            field: 0,
+        },
+        Disagreed::First(first) => Comparison {
+            compared: 1,
+            unit: first.unit as u64,
+            field: first.field as u64,
+        },
+    }
+}
+
+fn accepted(summary: Summary, disagreement: Disagreed) -> SegmentAnswer
+    ensures { λ r. ⌜ r ≡ acceptedAnswer summary (disagreedSays disagreement) ⌝ }
 {
     let totals = summary.totals;
+    let last = compared(disagreement);
     SegmentAnswer {
         number: 0,
         place: 0,
@@ -38,6 +69,9 @@ fn accepted(summary: Summary) -> SegmentAnswer
         av1: totals.av1 as u64,
         other_listed: totals.other_listed as u64,
         unlisted: totals.unlisted as u64,
+        compared: last.compared,
+        unit: last.unit,
+        field: last.field,
     }
 }
 
@@ -57,14 +91,17 @@ fn segment_refusal(r: Refused) -> SegmentAnswer
         av1: 0,
         other_listed: 0,
         unlisted: 0,
+        compared: 0,
+        unit: 0,
+        field: 0,
     }
 }
 
-fn segment_answer(checked: SegmentCheck) -> SegmentAnswer
-    ensures { λ r. ⌜ r ≡ segmentAnswer (checkSays checked) ⌝ }
+fn segment_answer(checked: SegmentCheck, disagreement: Disagreed) -> SegmentAnswer
+    ensures { λ r. ⌜ r ≡ segmentAnswer (checkSays checked) (disagreedSays disagreement) ⌝ }
 {
     match checked {
-        SegmentCheck::Accepted(summary) => accepted(summary),
+        SegmentCheck::Accepted(summary) => accepted(summary, disagreement),
         SegmentCheck::Refused(refused) => segment_refusal(refused),
     }
 }
@@ -78,16 +115,18 @@ pub extern "C" fn av1ts_check_segment(
     times: &mut [u64],
 ) -> SegmentAnswer
     ensures { λ r. ⌜ r ≡ segmentAnswer (checking 0
-        (roomsOf (outputsOf (now (out .entry)) (now (lengths .entry)) (now (times .entry)))) (now (segment .entry))) ⌝ }
+        (roomsOf (outputsOf (now (out .entry)) (now (lengths .entry)) (now (times .entry)))) (now (segment .entry)))
+        (disagreementOf (checkCompared 0
+        (roomsOf (outputsOf (now (out .entry)) (now (lengths .entry)) (now (times .entry)))) (now (segment .entry)))) ⌝ }
     ensures { λ _. ⌜ outputsOf (now (out .exit)) (now (lengths .exit)) (now (times .exit))
         ≡ outputsAfter (checkIn 0
         (roomsOf (outputsOf (now (out .entry)) (now (lengths .entry)) (now (times .entry)))) (now (segment .entry)))
         (outputsOf (now (out .entry)) (now (lengths .entry)) (now (times .entry))) ⌝ }
 {
-    let mut none: [usize; 0] = [];
-    let checked = segment::check(0, segment, out, lengths, times, &mut none);
+    let checked = segment::check_compared(0, segment, out, lengths, times);
     let answer = checked.answer;
-    segment_answer(answer)
+    let disagreement = checked.disagreement;
+    segment_answer(answer, disagreement)
 }
 
 // The check in the edition of this number: 0 current, 1 draft.
@@ -100,14 +139,16 @@ pub extern "C" fn av1ts_check_segment_edition(
     times: &mut [u64],
 ) -> SegmentAnswer
     ensures { λ r. ⌜ r ≡ segmentAnswer (checking edition
-        (roomsOf (outputsOf (now (out .entry)) (now (lengths .entry)) (now (times .entry)))) (now (segment .entry))) ⌝ }
+        (roomsOf (outputsOf (now (out .entry)) (now (lengths .entry)) (now (times .entry)))) (now (segment .entry)))
+        (disagreementOf (checkCompared edition
+        (roomsOf (outputsOf (now (out .entry)) (now (lengths .entry)) (now (times .entry)))) (now (segment .entry)))) ⌝ }
     ensures { λ _. ⌜ outputsOf (now (out .exit)) (now (lengths .exit)) (now (times .exit))
         ≡ outputsAfter (checkIn edition
         (roomsOf (outputsOf (now (out .entry)) (now (lengths .entry)) (now (times .entry)))) (now (segment .entry)))
         (outputsOf (now (out .entry)) (now (lengths .entry)) (now (times .entry))) ⌝ }
 {
-    let mut none: [usize; 0] = [];
-    let checked = segment::check(edition, segment, out, lengths, times, &mut none);
+    let checked = segment::check_compared(edition, segment, out, lengths, times);
     let answer = checked.answer;
-    segment_answer(answer)
+    let disagreement = checked.disagreement;
+    segment_answer(answer, disagreement)
 }

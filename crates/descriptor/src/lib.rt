@@ -12,6 +12,7 @@ pub use fields::Delay;
 pub use fields::Fields;
 pub use fields::Video;
 pub use reading::VideoRead;
+pub use reading::fields_of;
 pub use reading::read;
 pub use reading::wrong;
 pub use registration::is_registration;

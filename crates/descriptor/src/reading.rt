@@ -15,8 +15,8 @@ pub enum VideoRead {
     Refused(Refused),
 }
 
-// The ten fields.
-fn fields_of(bytes: &[u8]) -> Fields
+// The ten fields, whether or not the descriptor is refused.
+pub fn fields_of(bytes: &[u8]) -> Fields
     ensures { λ r. ⌜ r ≡ fieldsOf (now (bytes .entry)) ⌝ }
 {
     let b3 = byte_at(bytes, 3);

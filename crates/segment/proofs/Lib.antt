@@ -5,3 +5,4 @@ pub mod Firsts
 pub mod Holding
 pub mod Looping
 pub mod Stepping
+pub mod Disagreeing

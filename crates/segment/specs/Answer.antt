@@ -1,14 +1,17 @@
 -- What the check's answer says. Assumes nothing.
 use Prim.Native.Nat.{ℕ}
+use mathlib.Core.Option.{Option, none}
 use lib.ListN.{length}
 use Rattle.lists.specs.Lists.{Bytes}
 use Rattle.refusal.specs.Verdict.{Verdict, passed, refused, _>>=_}
 use Rattle.refusal.specs.Number.{refusedBy}
 use Rattle.descriptor.specs.Edition.{Edition, editionOf}
+use Rattle.comparison.specs.declared.Disagreement.{Disagreement}
 use Rattle.pmt.specs.Answer.{mapOf, noMap}
 use Rattle.pmt.specs.declared.section.ProgramMap.{ProgramMap}
 use Rattle.segment_rules.specs.Rules.{Rooms}
 use Rattle.segment_rules.specs.Check.{Accepted, checkSegment, checkIn}
+use Rattle.segment_rules.specs.Comparison.{Answered}
 use Rattle.segment.specs.declared.whole.Summary.{Summary}
 use Rattle.segment.specs.declared.whole.SegmentCheck.{SegmentCheck}
 use Rattle.segment.specs.declared.whole.SegmentCheck.the-variants as checked
@@ -38,6 +41,11 @@ mapIn (refused number place) rooms segment = noMap
 
 abbrev pub mapChecked : ℕ → Rooms → Bytes → ProgramMap
 mapChecked n rooms segment = mapIn (editionOf n) rooms segment
+
+-- the disagreement beside the answer: that of the accepted segment, or none
+abbrev pub disagreementOf : Verdict Answered → Option Disagreement
+disagreementOf (passed a) = a .disagreement
+disagreementOf (refused number place) = none
 
 -- ---- what the answer of the code says
 abbrev pub checkSays : SegmentCheck → Verdict Summary

@@ -11,7 +11,12 @@ use Rattle.lists.specs.Lists.{Bytes, over, pick}
 use Rattle.refusal.specs.Verdict.{Verdict}
 use Rattle.refusal.specs.Verdict as verdict
 use Rattle.descriptor.specs.Edition.{Edition}
+use Rattle.descriptor.specs.Descriptor.{videoTag, videoLength, fieldsOf}
+use Rattle.comparison.specs.declared.Disagreement.{Disagreement}
+use Rattle.comparison.specs.Comparison.{firstFrom}
 use Rattle.packet.specs.Header.{fields, headerOf, pid, hasPayload, payload, payloadUnitStartIndicator}
+use Rattle.pmt.specs.declared.loops.Video.{Video}
+use Rattle.pmt.specs.declared.loops.Video.the-variants as video
 use Rattle.pes.specs.Pes.{pesData}
 use Rattle.pes.specs.declared.header.Times.{Times}
 use Rattle.pes.specs.declared.header.Times.the-variants.{Absent, Stamps}
@@ -249,3 +254,10 @@ EndFirsts ran now firsts after =
 abbrev pub WholeTurn : Edition → Bytes → Outputs → Checked → Outputs → Type 0
 WholeTurn edition segment before r now =
     CheckedTurn edition before (checkSegment edition (roomsOf before) segment) r now
+
+-- ---- the comparison
+-- these carried units beside a video descriptor, of which the code has the four bytes behind its tag and length
+unfoldable pub disagreeing : Video → List Bytes → Option Disagreement
+disagreeing video.Absent units = none
+disagreeing (video.Present first second third last) units =
+    firstFrom 0 (fieldsOf (videoTag ∷ videoLength ∷ first ∷ second ∷ third ∷ last ∷ [])) units

@@ -33,6 +33,7 @@ mod segment_refusals;
 mod segment_rooms;
 mod segment_sections;
 mod segment_valid;
+mod sequence;
 pub mod under_test;
 mod unit;
 mod unit_damaged;
@@ -119,6 +120,10 @@ const SEGMENTS: &[&Definition] = &[
     &segment_pes::SUITE,
     &segment_clock::SUITE,
     &segment_rooms::SUITE,
+    &sequence::fields::SUITE,
+    &sequence::cuts::SUITE,
+    &sequence::units::SUITE,
+    &sequence::real::SUITE,
     &segment_closing::SUITE,
     &segment_limits::SUITE,
     &segment_damaged::SUITE,

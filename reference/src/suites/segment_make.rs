@@ -2,6 +2,7 @@
 
 use super::unit::{any_list, carry_closed};
 use crate::kit::Random;
+use reference::comparison;
 use reference::compose::{self, BEHIND_HEADER, Entry, Load, Packet, Pes};
 use reference::descriptor::{self, REGISTRATION};
 use reference::packet::NULL;
@@ -81,6 +82,7 @@ struct Maker<'a> {
     pids: Vec<u16>,
     av1_pid: u16,
     pcr_pid: u16,
+    video: Option<descriptor::Video>,
     pat: Vec<u8>,
     pmt: Vec<u8>,
     with_pat: bool,
@@ -126,6 +128,7 @@ pub fn make(random: &mut Random, most_units: usize, longest: usize) -> Made {
         pids,
         av1_pid,
         pcr_pid: 0,
+        video: None,
         pat: Vec::new(),
         pmt: Vec::new(),
         with_pat: false,
@@ -155,6 +158,7 @@ pub fn make(random: &mut Random, most_units: usize, longest: usize) -> Made {
     Made {
         packets: maker.packets,
         accepted: Accepted {
+            comparison: comparison::compare(maker.video.as_ref(), &maker.units),
             program,
             pid: maker.av1_pid,
             units: maker.units,
@@ -240,6 +244,7 @@ impl Maker<'_> {
                 if self.random.one_in(2) {
                     let at = self.random.below(list.len() + 1);
                     let video = self.video();
+                    self.video = descriptor::read(&video).ok();
                     list.insert(at, video.to_vec());
                     self.has("video descriptor");
                 } else {

@@ -3,6 +3,7 @@
 use super::segment::{Caller, exact, wide};
 use super::segment_make::{FEATURES, Made, make};
 use crate::kit::{Definition, Random, Suite, labels};
+use reference::comparison::{Comparison, Found};
 use reference::compose::{sample, segment};
 use reference::crc::crc;
 use reference::segment::Totals;
@@ -62,7 +63,13 @@ fn run(suite: &mut Suite) {
             other_listed: 2,
             unlisted: 1,
         };
+        // Its sequence header has level 9, its descriptor level 8.
+        let comparison = Comparison {
+            unit: 0,
+            found: Found::Field(1),
+        };
         (accepted.program, accepted.pid) == (1, 0x100)
+            && accepted.comparison == Some(comparison)
             && accepted.totals == totals
             && times == [(990_000, 986_997), (993_003, 993_003), (996_006, 996_006)]
     });

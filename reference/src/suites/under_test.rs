@@ -5,6 +5,7 @@ use av1ts::Answer;
 use av1ts::descriptor::{Descriptor, Rewritten};
 use av1ts::salvage::Salvaged;
 use av1ts::segment::Segment;
+use reference::comparison::{Comparison, Found};
 use reference::refusal::Refusal;
 use reference::segment::{Accepted, Rooms};
 use reference::{descriptor, salvage, segment, unit};
@@ -192,6 +193,9 @@ pub fn segment_answer(verdict: &Result<Accepted, Refusal>) -> Segment {
             ..Segment::default()
         },
         Ok(accepted) => Segment {
+            compared: u64::from(accepted.comparison.is_some()),
+            unit: accepted.comparison.map_or(0, |found| found.unit as u64),
+            field: accepted.comparison.map_or(0, field_answer),
             number: 0,
             place: 0,
             program: u64::from(accepted.program),
@@ -203,5 +207,13 @@ pub fn segment_answer(verdict: &Result<Accepted, Refusal>) -> Segment {
             other_listed: accepted.totals.other_listed,
             unlisted: accepted.totals.unlisted,
         },
+    }
+}
+
+/// A field's number, or 43 in its place.
+fn field_answer(comparison: Comparison) -> u64 {
+    match comparison.found {
+        Found::Field(index) => index as u64,
+        Found::CutShort => 43,
     }
 }

@@ -1,6 +1,8 @@
 //! Checking a segment and extracting its AV1 access units.
 
-/// `av1ts_segment`: what acceptance gives; in a refusal all but number and place is 0.
+/// `av1ts_segment`: what acceptance gives; in a refusal all but number and place is 0. Where a
+/// sequence header disagrees with the video descriptor or is cut short, `compared` is 1, `unit` the
+/// index of the first such header's unit, and `field` that of its first differing field, or 43.
 #[repr(C)]
 #[derive(Clone, Copy, Debug, Default, PartialEq, Eq)]
 pub struct Segment {
@@ -14,6 +16,9 @@ pub struct Segment {
     pub av1: u64,
     pub other_listed: u64,
     pub unlisted: u64,
+    pub compared: u64,
+    pub unit: u64,
+    pub field: u64,
 }
 
 extern "C" {

@@ -472,6 +472,8 @@ fn unknown(suite: &mut Suite, caller: &mut Caller) {
 fn draft_of(random: &mut Random, made: &Made, taken: usize) -> Made {
     let mut packets = draft_packets(&made.packets);
     let mut accepted = made.accepted.clone();
+    // "2026-04 answers none"
+    accepted.comparison = None;
     // The units start after the PMT, which is the first section on its PID.
     let pmt = packets
         .iter()

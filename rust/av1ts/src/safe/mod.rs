@@ -20,7 +20,8 @@ pub use refusal::{Refusal, Refused};
 pub use replay::{Arrival, Replay};
 pub use salvage::{Mark, Salvaged, salvage};
 pub use segment::{
-    AccessUnit, Edition, NO_TIME, Packets, Segment, check_segment, check_segment_edition,
+    AccessUnit, Disagreement, Edition, Mismatch, NO_TIME, Packets, Segment, check_segment,
+    check_segment_edition,
 };
 pub use unit::{Unit, UnitFigures, check_unit, read_unit, write_unit};
 pub use walk::{Payloads, payloads};

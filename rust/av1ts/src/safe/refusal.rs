@@ -71,6 +71,7 @@ refusals! {
     Descriptor = 40, "the bytes are no AV1 video descriptor";
     DescriptorField = 41, "a field of a video descriptor is past its width";
     ObuContent = 42, "a header has no content, or is that of a reduced still picture";
+    CutShort = 43, "a sequence header is cut short";
     Edition = 44, "the edition is none that is known";
     ArrivalTime = 46, "an arrival's time goes back, or lies over a second behind the last";
     ReplayBounds = 47, "a rate, a byte count, a number of arrivals or a state is out of bounds";

@@ -1,6 +1,6 @@
 //! A segment and its access units.
 
-use super::{MOST_SEGMENT_BYTES, MOST_UNITS, Refused};
+use super::{MOST_SEGMENT_BYTES, MOST_UNITS, Refusal, Refused};
 use crate::segment;
 
 /// The edition that a segment is checked by.
@@ -25,6 +25,34 @@ pub struct Packets {
     pub unlisted: usize,
 }
 
+/// The first sequence header, in stream order, that disagrees with the video descriptor or is cut
+/// short.
+///
+/// ```
+/// use av1ts::{Disagreement, Mismatch};
+/// # let copied = concat!(env!("CARGO_MANIFEST_DIR"), "/../../samples/exercises/08.ts");
+/// let segment = av1ts::check_segment(&std::fs::read(copied)?)?;
+/// // the descriptor was copied from another channel: field 1, seq_level_idx_0, differs
+/// let found = Disagreement::Field(1);
+/// assert_eq!(segment.mismatch, Some(Mismatch { unit: 0, found }));
+/// # Ok::<(), Box<dyn std::error::Error>>(())
+/// ```
+#[derive(Clone, Copy, Debug, PartialEq, Eq)]
+pub struct Mismatch {
+    /// The index of its unit.
+    pub unit: usize,
+    pub found: Disagreement,
+}
+
+/// What is wrong with that header.
+#[derive(Clone, Copy, Debug, PartialEq, Eq)]
+pub enum Disagreement {
+    /// Its first field that differs, in descriptor order: 0 is seq_profile, 8 chroma_sample_position.
+    Field(usize),
+    /// It ends before chroma_sample_position has been read or passed by.
+    CutShort,
+}
+
 /// An access unit as carried, and its times in ticks of 90 kHz; both are `NO_TIME` where a draft
 /// recording has none.
 #[derive(Clone, Copy, Debug, PartialEq, Eq)]
@@ -41,6 +69,9 @@ pub struct Segment {
     /// The PID of the AV1 stream.
     pub pid: u16,
     pub packets: Packets,
+    /// None where each sequence header agrees with the video descriptor, or there is none to compare
+    /// with.
+    pub mismatch: Option<Mismatch>,
     bytes: Vec<u8>,
     lengths: Vec<usize>,
     times: Vec<u64>,
@@ -70,6 +101,7 @@ impl Segment {
 /// let mut packets = std::fs::read(clip)?;
 /// let segment = av1ts::check_segment(&packets)?;
 /// assert_eq!(segment.program, 1);
+/// assert_eq!(segment.mismatch, None); // the descriptor says what the stream does
 /// for unit in segment.units().take(3) {
 ///     let obus = av1ts::read_unit(unit.carried)?;
 ///     println!("pts {} dts {}: {} OBUs", unit.pts, unit.dts, obus.obus().count());
@@ -119,9 +151,25 @@ pub fn check_segment_edition(edition: Edition, packets: &[u8]) -> Result<Segment
             other_listed: answer.other_listed as usize,
             unlisted: answer.unlisted as usize,
         },
+        mismatch: mismatch(&answer),
         bytes,
         lengths,
         times,
+    })
+}
+
+fn mismatch(answer: &segment::Segment) -> Option<Mismatch> {
+    if answer.compared == 0 {
+        return None;
+    }
+    let found = if answer.field == Refusal::CutShort.number() {
+        Disagreement::CutShort
+    } else {
+        Disagreement::Field(answer.field as usize)
+    };
+    Some(Mismatch {
+        unit: answer.unit as usize,
+        found,
     })
 }
 

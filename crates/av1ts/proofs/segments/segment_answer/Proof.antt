@@ -1,6 +1,7 @@
 -- By the answer.
 use mathlib.Core.Path.{sym, ap, _∙_}
 use borrow.Author.Needs.{needs}
+use Rattle.comparison.specs.Comparison.{disagreedSays}
 use Rattle.segment.specs.Answer.{checkSays}
 use Rattle.segment.specs.declared.whole.SegmentCheck.{SegmentCheck}
 use Rattle.av1ts.specs.Answers.{segmentAnswer}
@@ -21,11 +22,13 @@ segment-refusal-requires c κs = search needs
 
 returns : tie.Need-returns
 returns c =
-    c .accepted .ensures ∙ sym (ap (λ (x : SegmentCheck). segmentAnswer (checkSays x)) (c .before .before .checked .given .1))
+    let d = disagreedSays (c .before .before .before .before .args .disagreement) in
+    c .accepted .ensures ∙ sym (ap (λ (x : SegmentCheck). segmentAnswer (checkSays x) d) (c .before .before .checked .given .1))
 
 returns-2 : tie.Need-returns-2
 returns-2 c =
-    c .segment-refusal .ensures ∙ sym (ap (λ (x : SegmentCheck). segmentAnswer (checkSays x)) (c .before .before .checked2 .given .1))
+    let d = disagreedSays (c .before .before .before .before .args .disagreement) in
+    c .segment-refusal .ensures ∙ sym (ap (λ (x : SegmentCheck). segmentAnswer (checkSays x) d) (c .before .before .checked2 .given .1))
 
 pub segment-answer-spec : {M : Type 1} → statement M
 segment-answer-spec =

@@ -1,0 +1,80 @@
+// The check of a segment, and its video descriptor beside its sequence headers (document 02, request 2026-04).
+ghost use mathlib.Core.Path.{_≡_};
+ghost use lib.ListN.{take};
+ghost use Rattle.unit.specs.Unit.{obusOf};
+ghost use Rattle.comparison.specs.Comparison.{disagreedSays};
+ghost use Rattle.segment_rules.specs.Check.{outputsOf, roomsOf, outputsAfter, checkIn};
+ghost use Rattle.segment_rules.specs.Comparison.{checkCompared};
+ghost use Rattle.segment.specs.Answer.{checking, mapChecked, disagreementOf, checkSays};
+ghost use Rattle.segment.specs.Parts.{disagreeing};
+use crate::whole::SegmentCheck;
+use crate::whole::check;
+use comparison::Disagreed;
+use comparison::compare_units;
+use descriptor::fields_of;
+use pmt::ProgramMap;
+use pmt::Video;
+
+// The answer of the check, the map beside it, and of an accepted segment the first disagreement of a sequence header
+// with the video descriptor; none where the segment is refused.
+pub struct Answered {
+    pub answer: SegmentCheck,
+    pub map: ProgramMap,
+    pub disagreement: Disagreed,
+}
+
+// So many units, which stand back to back and have these lengths, beside a video descriptor.
+fn compare(video: Video, out: &[u8], lens: &[usize], units: usize) -> Disagreed
+    ensures { λ r. ⌜ disagreedSays r
+        ≡ disagreeing video (obusOf (take units (now (lens .entry))) (now (out .entry))) ⌝ }
+{
+    match video {
+        Video::Absent => Disagreed::None,
+        Video::Present(first, second, third, last) => {
+            let descriptor = [0x80u8, 4, first, second, third, last];
+            let fields = fields_of(&descriptor);
+            compare_units(out, lens, units, fields)
+        }
+    }
+}
+
+// The check of a segment as `check` makes it, with the comparison of what it accepts.
+pub fn check_compared(
+    edition: u64,
+    segment: &[u8],
+    out: &mut [u8],
+    lens: &mut [usize],
+    times: &mut [u64],
+) -> Answered
+    ensures { λ r. ⌜ checkSays (r .answer) ≡ checking edition
+        (roomsOf (outputsOf (now (out .entry)) (now (lens .entry)) (now (times .entry)))) (now (segment .entry)) ⌝ }
+    ensures { λ r. ⌜ r .map ≡ mapChecked edition
+        (roomsOf (outputsOf (now (out .entry)) (now (lens .entry)) (now (times .entry)))) (now (segment .entry)) ⌝ }
+    ensures { λ r. ⌜ disagreedSays (r .disagreement) ≡ disagreementOf (checkCompared edition
+        (roomsOf (outputsOf (now (out .entry)) (now (lens .entry)) (now (times .entry)))) (now (segment .entry))) ⌝ }
+    ensures { λ _. ⌜ outputsOf (now (out .exit)) (now (lens .exit)) (now (times .exit))
+        ≡ outputsAfter (checkIn edition
+        (roomsOf (outputsOf (now (out .entry)) (now (lens .entry)) (now (times .entry)))) (now (segment .entry)))
+        (outputsOf (now (out .entry)) (now (lens .entry)) (now (times .entry))) ⌝ }
+{
+    let mut none: [usize; 0] = [];
+    let checked = check(edition, segment, out, lens, times, &mut none);
+    let answer = checked.answer;
+    let map = checked.map;
+    match answer {
+        SegmentCheck::Refused(_) => Answered {
+            answer,
+            map,
+            disagreement: Disagreed::None,
+        },
+        SegmentCheck::Accepted(summary) => {
+            let video = map.video;
+            let disagreement = compare(video, out, lens, summary.units);
+            Answered {
+                answer,
+                map,
+                disagreement,
+            }
+        }
+    }
+}
