@@ -2,12 +2,12 @@
 use Prim.Native.Nat.{ℕ}
 use mathlib.Core.Path.{_≡_, ap, ap₂, _∙_}
 use mathlib.Core.List.{List}
-use Rattle.lists.specs.Lists.{Bytes}
+use Rattle.lists.specs.Lists.{Bytes, zeros}
 use Rattle.refusal.specs.Verdict.{Verdict, passed, refused, _>>=_}
 use Rattle.descriptor.specs.Edition.{Edition, editionOf}
 use Rattle.pmt.specs.Answer.{noMap}
 use Rattle.segment_rules.specs.Rules.{Rooms}
-use Rattle.segment_rules.specs.Check.{Accepted, Outputs, outputsOf, checkSegment, checkIn, outputsAfter, firstsAfter, zeros}
+use Rattle.segment_rules.specs.Check.{Accepted, Outputs, outputsOf, checkSegment, checkIn, outputsAfter, firstsAfter}
 use Rattle.segment.specs.Answer.{summarised, checking, mapAfter, mapIn, mapChecked}
 
 module _ (n : ℕ) (edition : Edition) (rooms : Rooms) (s : Bytes) (known : passed edition ≡ editionOf n) where

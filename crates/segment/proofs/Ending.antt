@@ -7,7 +7,7 @@ use mathlib.Core.Option.{Option, none, some}
 use borrow.Author.Tests.{eq-eqb, ne-eqb}
 use lib.Dec.{ltb}
 use lib.ListN.{length, getD, replicate}
-use Rattle.lists.specs.Lists.{Bytes}
+use Rattle.lists.specs.Lists.{Bytes, zeros}
 use Rattle.refusal.specs.Verdict.{Verdict, passed, refused, _>>=_}
 use Rattle.refusal.specs.Number.{refusedBy}
 use Rattle.refusal.specs.declared.Refused.{Refused}
@@ -21,7 +21,7 @@ use Rattle.segment_rules.specs.State as state
 use Rattle.segment_rules.specs.State.{FirstPat, FirstPmt, AccessUnit}
 use Rattle.segment_rules.specs.Rules.{closePes}
 use Rattle.packet.specs.Header.{packets}
-use Rattle.segment_rules.specs.Check.{Accepted, Progress, Outputs, outputsOf, start, run, segmentLengthWrong, accepted, ending, checkSegment, roomsOf, holding, holdingFirsts, zeros, outputsAfter, firstsAfter}
+use Rattle.segment_rules.specs.Check.{Accepted, Progress, Outputs, outputsOf, start, run, segmentLengthWrong, accepted, ending, checkSegment, roomsOf, holding, holdingFirsts, outputsAfter, firstsAfter}
 use Rattle.segment_rules.proofs.Growing.{close-grows}
 use Rattle.segment_rules.proofs.Running.{index-totals, length-packets}
 use Rattle.tables.specs.declared.state.Outcome.the-variants as outcome

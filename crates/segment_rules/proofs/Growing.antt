@@ -1,5 +1,5 @@
--- The units grow by the closing of a PES alone: after one packet they are those before it, or the unit of the PES that was open stands behind
--- them (`packet-grows`); and so it is where the open PES closes at the end (`close-grows`). Assumes nothing.
+-- The units grow by the closing of a PES alone: after one packet they are those before it, or the unit of the PES that was open stands
+-- behind them (`packet-grows`); and so it is where the open PES closes at the end (`close-grows`). Assumes nothing.
 use Prim.Native.Nat.{ℕ}
 use mathlib.Core.Path.{_≡_, refl, ap, _∙_}
 use mathlib.Core.List.{[], _∷_, _++_}

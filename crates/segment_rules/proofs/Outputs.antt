@@ -6,14 +6,14 @@ use mathlib.Core.List.{List, [], _∷_, flatten}
 use native.Mathlib.Omega.{arith}
 use lib.ListN.{length, take, drop, getD, length-append, length-drop, length-map, length-replicate, getD-replicate}
 use lib.Seq.{take-append-seam, drop-append-seam}
-use Rattle.lists.specs.Lists.{Bytes, over}
+use Rattle.lists.specs.Lists.{Bytes, over, zeros}
 use Rattle.refusal.specs.Verdict.{passed, refused}
 use Rattle.descriptor.specs.Edition.{Edition}
 use Rattle.pes.specs.declared.header.Times.{Times}
 use Rattle.pes.specs.declared.header.Times.the-variants.{Absent, Stamps}
 use Rattle.segment_rules.specs.State.{AccessUnit}
 use Rattle.segment_rules.specs.Rules.{carriedUnits}
-use Rattle.segment_rules.specs.Check.{Accepted, Outputs, roomsOf, lengths, ptsAndDts, timesInTurn, zeros, outputsAfter, checkSegment}
+use Rattle.segment_rules.specs.Check.{Accepted, Outputs, roomsOf, lengths, ptsAndDts, timesInTurn, outputsAfter, checkSegment}
 use Rattle.segment_rules.proofs.Fitting.{accepted-fits}
 
 -- ---- a refusal

@@ -4,8 +4,8 @@ use mathlib.Core.Bool.{Bool, not, _||_}
 use mathlib.Core.List.{List, [], _∷_, map, flatten}
 use mathlib.Core.Option.{Option, none, some}
 use lib.Dec.{eqb, ltb}
-use lib.ListN.{length, take, replicate}
-use Rattle.lists.specs.Lists.{Bytes, over}
+use lib.ListN.{length, take}
+use Rattle.lists.specs.Lists.{Bytes, over, zeros}
 use Rattle.refusal.specs.Verdict.{Verdict, NoValue, passed, refused, _>>=_, _>>_, given}
 use Rattle.descriptor.specs.Edition.{Edition, editionOf}
 use Rattle.packet.specs.Header.{pid, packetLength, packets}
@@ -126,10 +126,7 @@ holding units o =
       times = over (timesInTurn units) (o .times);
     }
 
--- all of an output 0
-abbrev pub zeros : List ℕ → List ℕ
-zeros out = replicate (length out) 0
-
+-- all of each output 0
 abbrev pub cleared : Outputs → Outputs
 cleared o = record { bytes = zeros (o .bytes); lens = zeros (o .lens); times = zeros (o .times) }
 
