@@ -16,6 +16,7 @@ use crate::extraction::add;
 use crate::extraction::start;
 use lists::part;
 use lists::rest;
+use packet::PACKET_LENGTH;
 use packet::PacketRead;
 use segment_rules::Totals;
 use tables::Kind;
@@ -27,9 +28,6 @@ use tables::check_counter;
 use tables::is_pcr;
 use tables::kind_of;
 use tables::read_section;
-
-// The length of a packet.
-const PACKET_LENGTH: usize = 188;
 
 // The tables and the units after a packet, what its PID was, and the verdict on it.
 pub(crate) struct Stepped {

@@ -35,6 +35,7 @@ use crate::packets::step;
 use crate::state::none_yet;
 use descriptor::Edition;
 use descriptor::Named;
+use packet::PACKET_LENGTH;
 use pmt::ProgramMap;
 use refusal::Refusal;
 use refusal::Refused;
@@ -46,9 +47,7 @@ use tables::Tables;
 use tables::fresh_tables;
 use tables::pid_in;
 
-// The length of a packet, and the most packets of a segment.
-const PACKET_LENGTH: usize = 188;
-
+// The most packets of a segment.
 const MOST_PACKETS: usize = 65535;
 
 // What an accepted segment has: its program, the PID of its AV1 stream, its units, its packets by class.
