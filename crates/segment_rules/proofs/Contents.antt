@@ -221,18 +221,20 @@ map-right edition program mapPid section m o e =
     )
 
 -- ---- the first PMT of a run
-abbrev PmtRight : Option FirstPmt → Type 0
-PmtRight none = Unit {0}
-PmtRight (some first) = StreamsRight (first .says)
-
-abbrev MapRight : Tables → Type 0
-MapRight t = PmtRight (t .pmt)
-
 section-octets : (p : Bytes) → Octets p → Octets (sectionOf (payload p))
 section-octets p o = octets-take (sectionSize (behindPointer (payload p))) (drop 1 (payload p))
     (octets-drop (payload p) 1 (octets-payload p o))
 
-module _ (edition : Edition) where
+-- what holds of each map that is read from packets of this kind holds of the accepted one
+module _ (edition : Edition) (P : MapContent → Type 0) (Q : Bytes → Type 0)
+    (reads : (program mapPid : ℕ) (p : Bytes) (m : MapContent) → Q p → readPmt edition program mapPid (sectionOf (payload p)) ≡ passed m → P m) where
+  abbrev PmtRight : Option FirstPmt → Type 0
+  PmtRight none = Unit {0}
+  PmtRight (some first) = P (first .says)
+
+  abbrev MapRight : Tables → Type 0
+  MapRight t = PmtRight (t .pmt)
+
   clocked-lasts : (i : ℕ) (p : Bytes) (t : Tables) → MapRight t → MapRight (rules.clocked i p t)
   clocked-lasts i p t h = h
 
@@ -240,7 +242,7 @@ module _ (edition : Edition) where
   unfolding rules.checked
   checked-lasts i p t h = holds-each MapRight _ _ (λ _ _. h)
 
-  section-lasts : (p : Bytes) (kind : Kind) (t : Tables) → Octets p → MapRight t
+  section-lasts : (p : Bytes) (kind : Kind) (t : Tables) → Q p → MapRight t
       → Holds MapRight (rules.sectionRead edition kind (payloadUnitStartIndicator p) (payload p) t)
   unfolding rules.sectionRead rules.patSection rules.pmtSection rules.laterSection
   section-lasts p Null t o h = h
@@ -253,20 +255,29 @@ module _ (edition : Edition) where
     where
       go : (pat : Option FirstPat) (pmt : Option FirstPmt) → Holds MapRight (rules.pmtSection edition pat pmt (sectionOf (payload p)) t)
       go none pmt = h
-      go (some pat) none =
-          holds-each MapRight _ _
-          (λ m e. map-right edition (pat .says .number) (pat .says .«map_pid») (sectionOf (payload p)) m (section-octets p o) e)
+      go (some pat) none = holds-each MapRight _ _ (λ m e. reads (pat .says .number) (pat .says .«map_pid») p m o e)
       go (some pat) (some pmt) = holds-then MapRight _ _ (λ _ _. h)
   section-lasts p Av1 t o h = h
   section-lasts p Listed t o h = h
   section-lasts p Unlisted t o h = h
 
-accepted-map : (n : ℕ) (pat : Option FirstPat) (pmt : Option FirstPmt) (units : List AccessUnit) (t : Totals) (a : Accepted) → PmtRight pmt
-    → accepted n pat pmt units t ≡ passed a → StreamsRight (a .map)
-unfolding accepted
-accepted-map n none pmt units t a h e = never e
-accepted-map n (some pat) none units t a h e = never e
-accepted-map n (some pat) (some pmt) units t a h e = subst (λ (x : Accepted). StreamsRight (x .map)) (passed-same _ a e) h
+  accepted-map : (n : ℕ) (pat : Option FirstPat) (pmt : Option FirstPmt) (units : List AccessUnit) (t : Totals) (a : Accepted)
+      → PmtRight pmt → accepted n pat pmt units t ≡ passed a → P (a .map)
+  unfolding accepted
+  accepted-map n none pmt units t a h e = never e
+  accepted-map n (some pat) none units t a h e = never e
+  accepted-map n (some pat) (some pmt) units t a h e = subst (λ (x : Accepted). P (x .map)) (passed-same _ a e) h
+
+  map-holds : (rooms : Rooms) (s : Bytes) (a : Accepted) → checkSegment edition rooms s ≡ passed a → All Q (packets s) → P (a .map)
+  unfolding checkSegment ending
+  map-holds rooms s a e o =
+      let k = passed-then (run edition rooms start (packets s)) ending a (passed-after (rule20 s) _ a e .1) in
+      let g = k .0 in
+      let l = passed-then (rules.closePes (g .state .extraction))
+      (λ x. accepted (g .index) (g .state .tables .pat) (g .state .tables .pmt) (x .units) (g .totals)) a (k .2) in
+      accepted-map (g .index) (g .state .tables .pat) (g .state .tables .pmt) (l .0 .units) (g .totals) a
+      (run-lasts edition rooms MapRight Q clocked-lasts checked-lasts section-lasts start (packets s) g o tt (k .1))
+      (l .2)
 
 packets-octets : (n : ℕ) (s : Bytes) → Octets s → All Octets (packetsOf n s)
 unfolding packetsOf
@@ -282,20 +293,28 @@ most-by w t k =
     go Absent h = absurd h
     go (Stamps pts dts) h = (omega (arith, h .0), (omega (arith, h .1), tt))
 
+-- ---- of an accepted segment
+all-any : (l : List Bytes) → All (λ p. Unit {0}) l
+all-any [] = tt
+all-any (p ∷ l) = (tt, all-any l)
+
+-- "12 streams in a program map"
+pub streams-few : (edition : Edition) (rooms : Rooms) (s : Bytes) (a : Accepted) → checkSegment edition rooms s ≡ passed a
+    → length (a .map .entries) ≤ mostEntries
+streams-few edition rooms s a e =
+    map-holds edition (λ m. length (m .entries) ≤ mostEntries) (λ p. Unit {0})
+    (λ program mapPid p m q r.
+    at-most-twelve mapPid (entryBytes (sectionOf (payload p))) (m .entries) (says edition program mapPid (sectionOf (payload p)) m r .listed))
+    rooms s a e (all-any (packets s))
+
 -- ---- of an accepted segment of bytes
 module _ (edition : Edition) (rooms : Rooms) (s : Bytes) (a : Accepted) (e : checkSegment edition rooms s ≡ passed a) (o : Octets s) where
   -- "12 streams in a program map"; a PID of 13 bits that is not 0x1FFF; a byte
   pub streams-right : StreamsRight (a .map)
-  unfolding checkSegment ending
   streams-right =
-      let k = passed-then (run edition rooms start (packets s)) ending a (passed-after (rule20 s) _ a e .1) in
-      let g = k .0 in
-      let l = passed-then (rules.closePes (g .state .extraction))
-      (λ x. accepted (g .index) (g .state .tables .pat) (g .state .tables .pmt) (x .units) (g .totals)) a (k .2) in
-      accepted-map (g .index) (g .state .tables .pat) (g .state .tables .pmt) (l .0 .units) (g .totals) a
-      (run-lasts edition rooms MapRight Octets (clocked-lasts edition) (checked-lasts edition) (section-lasts edition) start (packets s) g
-      (packets-octets (length s / packetLength) s o) tt (k .1))
-      (l .2)
+      map-holds edition StreamsRight Octets
+      (λ program mapPid p m q r. map-right edition program mapPid (sectionOf (payload p)) m (section-octets p q) r)
+      rooms s a e (packets-octets (length s / packetLength) s o)
 
   -- "a time passes 8,589,934,592" nowhere
   pub times-most : All (λ u. All (λ n. n ≤ 2 ^ 33) (ptsAndDts (u .times))) (a .units)

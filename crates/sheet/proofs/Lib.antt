@@ -1,0 +1,14 @@
+pub mod Cases
+pub mod Pairs
+pub mod Ascending
+pub mod Payloads
+pub mod Conditions
+pub mod Digits
+pub mod Placings
+pub mod RowByRow
+pub mod Measures
+pub mod Copying
+pub mod Readings
+pub mod BigEndian
+pub mod RoundTrip
+pub mod Groups

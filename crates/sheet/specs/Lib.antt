@@ -1,0 +1,5 @@
+pub mod Sheet
+pub mod Reading
+pub mod Answer
+pub mod Passing
+pub mod RoundTrip
