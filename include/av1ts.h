@@ -60,6 +60,7 @@ enum {
     AV1TS_REFUSED_UNIT_COUNT = 34,         /* a 1,025th unit */
     AV1TS_REFUSED_CUT_SHORT = 43,          /* in field of av1ts_segment: a sequence header is cut short */
     AV1TS_REFUSED_EDITION = 44,            /* an unknown edition */
+    AV1TS_REFUSED_SHEET = 45,              /* no sheet */
 
     /* the transport buffer */
     AV1TS_REFUSED_ARRIVAL_TIME = 46,  /* a time goes back, or jumps over a second */
@@ -277,6 +278,42 @@ typedef struct {
  * program number of 0 or above 65,535, a counter above 15, or a PCR of 2^33 times 300 or more; 53 more than 65,535 packets; 8 the output is too short. A refusal
  * changes neither queue, counters nor output. */
 av1ts_sent av1ts_queue_send(av1ts_queue queue, const uint8_t *store, size_t store_len, av1ts_channel channel, const uint8_t *descriptor, size_t descriptor_len, uint8_t *out, size_t out_len);
+
+/* count: the bytes of the sheet. */
+typedef struct {
+    uint64_t number, place, count;
+} av1ts_sheet_written;
+
+/* The sheet beside a segment. The check is av1ts_check_segment_edition's, with its three outputs; of an accepted segment the sheet then stands over the front of
+ * `sheet`: the streams of its map, its units, and their OBUs, in order. A payload's offset counts from its unit's first byte, so the first one's is 3: behind the
+ * start code. av1ts_read_sheet gives back what was written, and the bytes of a unit stand in out from the sum of the lengths before it on.
+ * No sheet has more than 2,130,136 bytes.
+ * Refuses: what the check refuses, with its place and with zeros in the three outputs; then 8 (place 0) the sheet is too short, and the three outputs are as
+ * accepted. In every refusal the sheet keeps its old bytes. */
+av1ts_sheet_written av1ts_write_sheet(uint64_t edition, const uint8_t *segment, size_t segment_len, uint8_t *out, size_t out_len, size_t *lengths, size_t lengths_len,
+                                      uint64_t *times, size_t times_len, uint8_t *sheet, size_t sheet_len);
+
+/* The streams, units and OBUs of a sheet. */
+typedef struct {
+    uint64_t number, place, streams, units, obus;
+} av1ts_sheet;
+
+/* The sheet beside a segment: three sections, each after its count; all numbers, counts too, are 8 bytes big-endian. The numbers of its rows, as in the sheet, from
+ * the front of each output: two of a stream (PID, stream_type); four of a unit (first packet, carried length, PTS, DTS); four of an OBU (unit, type, carried payload
+ * offset in its unit, payload length). The rest of each output is left.
+ * Refuses: 45 the length isn't the one the counts give; a count passes 12, 1,024 or 65,536; a PID passes 0x1FFE or a stream_type 255; first packets don't strictly
+ * ascend or reach 65,535; a carried length passes 1,573,056; a time passes 8,589,934,592; a unit hasn't 1 to 64 OBUs; OBUs aren't in unit order or name no unit; a
+ * type passes 15; payloads of a unit overlap, are empty, don't ascend or pass its length; then 8 an output is too short. */
+av1ts_sheet av1ts_read_sheet(const uint8_t *sheet, size_t sheet_len, uint64_t *streams, size_t streams_len, uint64_t *units, size_t units_len, uint64_t *obus,
+                             size_t obus_len);
+
+/* found 1: the unit's first packet, carried length, PTS and DTS; 0: there is no unit of this number, and the other fields are 0. */
+typedef struct {
+    uint64_t number, place, found, first_packet, length, pts, dts;
+} av1ts_sheet_found;
+
+/* The unit of this number, from 0, of a sheet; there is none exactly from the unit count on. Refuses: 45 as av1ts_read_sheet does. */
+av1ts_sheet_found av1ts_sheet_unit(const uint8_t *sheet, size_t sheet_len, uint64_t unit);
 
 #ifdef __cplusplus
 }

@@ -89,7 +89,7 @@ impl Pattern for usize {
 impl Pattern for u64 {
     fn pattern(kind: usize) -> &'static [u64] {
         thread_local! {
-            static PATTERNS: [&'static [u64]; 2] = [0, 1].map(|kind| make_pattern(kind, 1 << 12, |word| word));
+            static PATTERNS: [&'static [u64]; 2] = [0, 1].map(|kind| make_pattern(kind, 1 << 19, |word| word));
         }
         PATTERNS.with(|patterns| patterns[kind])
     }

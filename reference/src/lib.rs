@@ -22,5 +22,6 @@ pub mod salvage;
 pub mod section;
 pub mod segment;
 pub mod sequence;
+pub mod sheet;
 pub mod unit;
 pub mod walk;

@@ -132,6 +132,8 @@ pub struct Entry {
 pub struct Pmt {
     pub pcr_pid: u16,
     pub pids: Vec<u16>,
+    /// PID and stream_type of each entry.
+    pub streams: Vec<(u16, u8)>,
     pub av1_pid: u16,
     /// The AV1 entry's video descriptor, where it has one.
     pub video: Option<Video>,
@@ -205,9 +207,11 @@ pub fn pmt(section: &[u8], pat: &Pat, edition: Edition, index: usize) -> Result<
     }
     let (av1_pid, video) = av1_entry(&entries, edition, index)?;
     let pids = entries.iter().map(|entry| entry.pid).collect();
+    let streams = entries.iter().map(|entry| (entry.pid, entry.stream_type));
     Ok(Pmt {
         pcr_pid,
         pids,
+        streams: streams.collect(),
         av1_pid,
         video,
     })

@@ -70,6 +70,15 @@ pub struct Accepted {
     pub comparison: Option<Comparison>,
 }
 
+/// What a sheet says besides of an accepted segment.
+#[derive(Clone, Debug, Default, PartialEq, Eq)]
+pub struct Listing {
+    /// PID and stream_type of each listed stream.
+    pub streams: Vec<(u16, u8)>,
+    /// The index of the packet that began each unit.
+    pub first_packets: Vec<usize>,
+}
+
 /// The conditions of 24.
 pub const CONDITIONS_24: &[&str] = &[
     "24: PID 0, with payload",
@@ -129,6 +138,7 @@ struct Check {
     last: HashMap<u16, Last>,
     pcr: bool,
     units: Vec<Unit>,
+    listing: Listing,
     bytes: usize,
     open: Option<Open>,
     totals: Totals,
@@ -139,8 +149,17 @@ pub fn check(segment: &[u8], rooms: Rooms) -> Result<Accepted, Refusal> {
     check_edition(0, segment, rooms)
 }
 
-/// "Packets in order, each in this sequence, PES closing aside; the first refusal is the verdict."
+/// The check of an edition.
 pub fn check_edition(edition: u64, segment: &[u8], rooms: Rooms) -> Result<Accepted, Refusal> {
+    check_listing(edition, segment, rooms).map(|(accepted, _)| accepted)
+}
+
+/// "Packets in order, each in this sequence, PES closing aside; the first refusal is the verdict."
+pub fn check_listing(
+    edition: u64,
+    segment: &[u8],
+    rooms: Rooms,
+) -> Result<(Accepted, Listing), Refusal> {
     // "44 at place 0 for an unknown edition, before 20"
     let edition = match Edition::of(edition) {
         Some(edition) => edition,
@@ -165,6 +184,7 @@ pub fn check_edition(edition: u64, segment: &[u8], rooms: Rooms) -> Result<Accep
         last: HashMap::new(),
         pcr: false,
         units: Vec::new(),
+        listing: Listing::default(),
         bytes: 0,
         open: None,
         totals: Totals::default(),
@@ -182,13 +202,18 @@ pub fn check_edition(edition: u64, segment: &[u8], rooms: Rooms) -> Result<Accep
         Some((_, pmt)) => pmt,
         _ => return Err(Refusal::new(33, count, "33: no PMT")),
     };
-    Ok(Accepted {
+    let accepted = Accepted {
         comparison: comparison::compare(pmt.video.as_ref(), &check.units),
         program: pat.program,
         pid: pmt.av1_pid,
         units: check.units,
         totals: check.totals,
-    })
+    };
+    let listing = Listing {
+        streams: pmt.streams,
+        ..check.listing
+    };
+    Ok((accepted, listing))
 }
 
 /// A packet is the second copy of the last packet of its PID.
@@ -373,6 +398,7 @@ impl Check {
             pts: header.pts,
             dts: header.dts,
         });
+        self.listing.first_packets.push(index);
         self.open = Some(Open {
             began: index,
             header,

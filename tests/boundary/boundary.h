@@ -37,6 +37,7 @@ enum { MOST_MADE = 4096 };
 size_t make_obus(uint8_t *obus, size_t *lengths, size_t *count); /* a list of OBUs, of which most are accepted as a unit */
 size_t make_unit(uint8_t *unit);                                 /* a carried unit, damaged more often than not */
 size_t damage(uint8_t *bytes, size_t length, size_t room);       /* some bytes changed, taken out or put in */
+size_t make_segment(uint8_t *segment, int draft);                /* a part of the sample, or of it as a draft recording, damaged more often than not */
 
 /* ---- topics: one case each */
 void try_payload(void);
@@ -48,6 +49,7 @@ void try_segment(void);
 void try_replay(void);
 void try_mastering(void);
 void try_queue(void);
+void try_sheet(void);
 
 /* once */
 void try_null_pointers(void);

@@ -17,7 +17,7 @@ static const char *volatile called = "no function";
 static const struct {
     void (*try)(void);
     int times; /* in a round */
-} topics[] = {{try_payload, 8}, {try_unit, 8}, {try_walk, 2}, {try_salvage, 2}, {try_descriptor, 2}, {try_segment, 1}, {try_replay, 2}, {try_mastering, 2}, {try_queue, 1}};
+} topics[] = {{try_payload, 8}, {try_unit, 8}, {try_walk, 2}, {try_salvage, 2}, {try_descriptor, 2}, {try_segment, 1}, {try_replay, 2}, {try_mastering, 2}, {try_queue, 1}, {try_sheet, 1}};
 
 void calls(const char *function) {
     called = function;

@@ -70,7 +70,7 @@ static void make_draft(uint8_t *packet) {
 }
 
 /* A part of the sample, or of the sample as a draft recording, damaged more often than not. */
-static size_t make_segment(uint8_t *segment, int draft) {
+size_t make_segment(uint8_t *segment, int draft) {
     size_t packets = sample_length / 188, first = one_in(8) ? below(packets) : 0;
     size_t size = (1 + length_up_to(packets - first - 1)) * 188;
     memcpy(segment, sample + first * 188, size);
@@ -227,6 +227,10 @@ void try_null_pointers(void) {
     expect(av1ts_replay(fresh, 1, NULL, 0, NULL, 0).number == 0, "replay of nothing");
     expect(av1ts_read_mastering(NULL, 0).number == 48, "read_mastering of nothing");
     expect(av1ts_write_mastering(value, NULL, 0).number == 8, "write_mastering to no room");
+    expect(av1ts_write_sheet(0, NULL, 0, NULL, 0, NULL, 0, NULL, 0, NULL, 0).number == 20, "write_sheet of nothing");
+    expect(av1ts_write_sheet(2, NULL, 0, NULL, 0, NULL, 0, NULL, 0, NULL, 0).number == 44, "write_sheet of nothing in no edition");
+    expect(av1ts_read_sheet(NULL, 0, NULL, 0, NULL, 0, NULL, 0).number == 45, "read_sheet of nothing");
+    expect(av1ts_sheet_unit(NULL, 0, 0).number == 45, "sheet_unit of nothing");
     memset(&queue, 0, sizeof queue);
     expect(av1ts_queue_add(queue, NULL, 0, NULL, 0, 0, 0, 0).number == 51, "queue_add of nothing");
     expect(av1ts_queue_add(queue, NULL, 0, unit, 5, 0, 0, 0).number == 8, "queue_add to no store");

@@ -4,3 +4,4 @@ pub mod Salvaging
 pub mod Replaying
 pub mod Metadata
 pub mod Queueing
+pub mod Sheets

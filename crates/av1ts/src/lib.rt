@@ -9,6 +9,7 @@ mod replaying;
 mod rewriting;
 mod salvaging;
 mod segments;
+mod sheets;
 mod video_descriptor;
 mod walk;
 
@@ -40,6 +41,10 @@ pub use salvaging::SalvageAnswer;
 pub use salvaging::av1ts_salvage;
 pub use segments::SegmentAnswer;
 pub use segments::av1ts_check_segment;
+pub use sheets::SheetAnswer;
+pub use sheets::SheetFound;
+pub use sheets::av1ts_read_sheet;
+pub use sheets::av1ts_sheet_unit;
 pub use video_descriptor::VideoDescriptor;
 pub use video_descriptor::av1ts_read_descriptor;
 pub use video_descriptor::av1ts_write_descriptor;

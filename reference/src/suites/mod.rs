@@ -34,6 +34,7 @@ mod segment_rooms;
 mod segment_sections;
 mod segment_valid;
 mod sequence;
+mod sheet;
 pub mod under_test;
 mod unit;
 mod unit_damaged;
@@ -130,6 +131,15 @@ const SEGMENTS: &[&Definition] = &[
     &segment::editions::SUITE,
 ];
 
+const SHEETS: &[&Definition] = &[
+    &sheet::written::SUITE,
+    &sheet::conditions::SUITE,
+    &sheet::bytes::SUITE,
+    &sheet::counts::SUITE,
+    &sheet::limits::SUITE,
+    &sheet::rooms::SUITE,
+];
+
 /// The suites that run: those of functions that the library exports. With the reference in both
 /// roles, those that can run so.
 pub fn all(itself: bool) -> Vec<&'static Definition> {
@@ -144,5 +154,6 @@ pub fn all(itself: bool) -> Vec<&'static Definition> {
     all.extend(SALVAGE);
     all.extend(QUEUES);
     all.extend(SEGMENTS);
+    all.extend(SHEETS);
     all
 }

@@ -105,15 +105,15 @@ impl Caller {
 }
 
 /// What acceptance leaves in the outputs.
-struct Outputs {
-    bytes: Vec<u8>,
-    lengths: Vec<usize>,
-    times: Vec<u64>,
+pub struct Outputs {
+    pub bytes: Vec<u8>,
+    pub lengths: Vec<usize>,
+    pub times: Vec<u64>,
 }
 
 impl Outputs {
     /// "Carried units stand back to back in the output, with lengths, and PTS and DTS in turn."
-    fn of(units: &[Unit]) -> Outputs {
+    pub fn of(units: &[Unit]) -> Outputs {
         let mut outputs = Outputs {
             bytes: Vec::new(),
             lengths: Vec::new(),

@@ -6,12 +6,13 @@ use reference::comparison;
 use reference::compose::{self, BEHIND_HEADER, Entry, Load, Packet, Pes};
 use reference::descriptor::{self, REGISTRATION};
 use reference::packet::NULL;
-use reference::segment::{Accepted, Class, Totals, Unit};
+use reference::segment::{Accepted, Class, Listing, Totals, Unit};
 
 /// A segment that was made.
 pub struct Made {
     pub packets: Vec<Packet>,
     pub accepted: Accepted,
+    pub listing: Listing,
     pub map_pid: u16,
     /// All PIDs that the PMT lists.
     pub pids: Vec<u16>,
@@ -80,6 +81,7 @@ struct Maker<'a> {
     totals: Totals,
     map_pid: u16,
     pids: Vec<u16>,
+    listing: Listing,
     av1_pid: u16,
     pcr_pid: u16,
     video: Option<descriptor::Video>,
@@ -126,6 +128,7 @@ pub fn make(random: &mut Random, most_units: usize, longest: usize) -> Made {
         totals: Totals::default(),
         map_pid,
         pids,
+        listing: Listing::default(),
         av1_pid,
         pcr_pid: 0,
         video: None,
@@ -164,6 +167,7 @@ pub fn make(random: &mut Random, most_units: usize, longest: usize) -> Made {
             units: maker.units,
             totals: maker.totals,
         },
+        listing: maker.listing,
         map_pid,
         pids: maker.pids,
         features,
@@ -251,12 +255,14 @@ impl Maker<'_> {
                     self.has("no video descriptor");
                 }
                 entries.push(Entry::av1(pid, &list.concat()));
+                self.listing.streams.push((pid, 0x06));
             } else {
                 let stream_type = match self.random.below(3) {
                     0 => 0x06,
                     _ => self.random.next() as u8,
                 };
                 entries.push(Entry::new(stream_type, pid, &list.concat()));
+                self.listing.streams.push((pid, stream_type));
             }
             if pid < 0x10 {
                 self.has("PID 1 to 15");
@@ -622,6 +628,9 @@ impl Maker<'_> {
             rest = after;
             let load = Load::Bytes(part.to_vec());
             let mut packet = Packet::new(self.av1_pid, count == 0, load);
+            if count == 0 {
+                self.listing.first_packets.push(self.packets.len());
+            }
             if pcr {
                 packet.pcr = Some(self.pcr());
                 self.has("PCR with payload");

@@ -23,6 +23,7 @@ pub mod queue;
 pub mod replay;
 pub mod salvage;
 pub mod segment;
+pub mod sheet;
 pub mod unit;
 pub mod walk;
 

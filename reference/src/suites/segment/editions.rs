@@ -469,7 +469,7 @@ fn unknown(suite: &mut Suite, caller: &mut Caller) {
 }
 
 /// A made segment as a recording of the draft; times are taken from some units or from all.
-fn draft_of(random: &mut Random, made: &Made, taken: usize) -> Made {
+pub fn draft_of(random: &mut Random, made: &Made, taken: usize) -> Made {
     let mut packets = draft_packets(&made.packets);
     let mut accepted = made.accepted.clone();
     // "2026-04 answers none"
@@ -493,6 +493,7 @@ fn draft_of(random: &mut Random, made: &Made, taken: usize) -> Made {
     Made {
         packets,
         accepted,
+        listing: made.listing.clone(),
         map_pid: made.map_pid,
         pids: made.pids.clone(),
         features: Vec::new(),

@@ -9,6 +9,7 @@ mod refusal;
 mod replay;
 mod salvage;
 mod segment;
+mod sheet;
 mod unit;
 mod walk;
 
@@ -23,6 +24,7 @@ pub use segment::{
     AccessUnit, Disagreement, Edition, Mismatch, NO_TIME, Packets, Segment, check_segment,
     check_segment_edition,
 };
+pub use sheet::{Sheet, SheetObu, SheetStream, SheetUnit};
 pub use unit::{Unit, UnitFigures, check_unit, read_unit, write_unit};
 pub use walk::{Payloads, payloads};
 

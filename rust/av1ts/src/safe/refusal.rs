@@ -73,6 +73,7 @@ refusals! {
     ObuContent = 42, "a header has no content, or is that of a reduced still picture";
     CutShort = 43, "a sequence header is cut short";
     Edition = 44, "the edition is none that is known";
+    Sheet = 45, "the bytes are no sheet";
     ArrivalTime = 46, "an arrival's time goes back, or lies over a second behind the last";
     ReplayBounds = 47, "a rate, a byte count, a number of arrivals or a state is out of bounds";
     MasteringForm = 48, "the content is not that of mastering figures";

@@ -1,0 +1,9 @@
+pub mod Filling
+pub mod Walking
+pub mod Cutting
+pub mod Rowing
+pub mod Wholes
+pub mod Handed
+pub mod Sound
+pub mod Theorems
+pub mod Answers

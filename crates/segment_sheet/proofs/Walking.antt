@@ -1,0 +1,170 @@
+-- The walk over a unit's start codes: what is done, then the OBUs from here on, are the OBUs of the unit. The type stands in the payload's
+-- first byte, which unescaping leaves. Assumes nothing.
+use Prim.Native.Nat.{ℕ, suc, _+_, _-_, _*_, _≤_, _<_}
+use mathlib.Core.Bool.{true}
+use mathlib.Core.Path.{_≡_, refl, sym, ap, ap₂, subst, _∙_}
+use mathlib.Core.Logic.{inr}
+use mathlib.Core.List.{List, [], _∷_, _++_, map}
+use native.Mathlib.Omega.{arith}
+use lib.ListN.{length, take, drop, length-map}
+use Rattle.lists.specs.Lists.{Bytes, placed}
+use Rattle.lists.specs.Bytes.{byte}
+use Rattle.lists.proofs.Tests.{case}
+use Rattle.emulation.specs.Payload.{marked3, unescape}
+use Rattle.emulation.specs.Parts.{marked}
+use Rattle.emulation.proofs.Steps.{marked-is, unescape-marked, unescape-plain}
+use Rattle.obu.specs.Header.{typeBits}
+use Rattle.tsobu.specs.StartCodes.{atStartCode, payloads}
+use Rattle.tsobu.proofs.Places.{Place, nextCode, payloadAt, payload-length, code-fits, next-fits}
+use Rattle.tsobu.proofs.Places.{next-place, payloads-from, payloads-end, place-code}
+use Rattle.segment_rules.specs.Content.{ObuPlace, placeOf, placesFrom, placesIn}
+use Rattle.sheet.specs.declared.rows.ObuRow.{ObuRow}
+use Rattle.sheet.specs.Sheet.{obuNumbers}
+use Rattle.sheet.proofs.BigEndian.{bytes-long}
+use Rattle.segment_sheet.specs.Content.{obuOf}
+use Rattle.segment_sheet.specs.Parts.{inBytes, obusIn}
+use Rattle.segment_sheet.proofs.Filling.{Filling, filling-start, filling-as, filling-next, filling-room, filling-done, filling-place}
+use Rattle.segment_sheet.proofs.Filling.{rowBytes, row-none, row-next, rows-long}
+
+-- ---- the type
+pub first-byte : (w : Bytes) → byte (unescape w) 0 ≡ byte w 0
+unfolding marked unescape
+first-byte [] = refl
+first-byte (a ∷ []) = refl
+first-byte (a ∷ b ∷ []) = refl
+first-byte (a ∷ b ∷ c ∷ s) =
+    case (marked3 a b c)
+    (λ e. ap (λ (l : Bytes). byte l 0) (unescape-marked (a ∷ b ∷ c ∷ s) e) ∙ sym (marked-is a b c e .0))
+    (λ e. ap (λ (l : Bytes). byte l 0) (unescape-plain a (b ∷ c ∷ s) e))
+
+-- ---- a place where a tsOBU begins, or the end
+pub record At (s : Bytes) (code : ℕ) : Type 0 where
+  pub place : Place s code
+  pub within : code ≤ length s
+
+pub at-start : (s : Bytes) → atStartCode s ≡ true → At s 0
+at-start s e = record { place = inr e; within = omega arith }
+
+module _ {s : Bytes} {code : ℕ} (a : At s code) (h : code < length s) where
+  code-here : atStartCode (drop code s) ≡ true
+  code-here = place-code s code (a .place) h
+
+  pub code-room : code + 3 ≤ length s
+  code-room = code-fits s code code-here
+
+  pub next-at : (end : ℕ) → end ≡ nextCode s code → At s end
+  next-at end e =
+      subst (At s) (sym e) (record { place = next-place s code code-here; within = next-fits s code code-here })
+
+  next-payloads : payloads (drop code s) ≡ payloadAt s code ∷ payloads (drop (nextCode s code) s)
+  next-payloads = payloads-from s code code-here
+
+  pub one-less : length (payloads (drop code s)) ≡ suc (length (payloads (drop (nextCode s code) s)))
+  one-less = ap length next-payloads
+
+  pub end-room : (end : ℕ) → end ≡ nextCode s code → (code + 3 ≤ end) × (end ≤ length s)
+  end-room end e = (omega arith, omega (arith, next-fits s code code-here))
+
+  pub next-places : (index : ℕ) → placesFrom index code (payloads (drop code s))
+      ≡ placeOf index code (payloadAt s code) ∷ placesFrom index (nextCode s code) (payloads (drop (nextCode s code) s))
+  unfolding placesFrom
+  next-places index =
+      ap (placesFrom index code) next-payloads
+      ∙ ap (λ (k : ℕ). placeOf index code (payloadAt s code) ∷ placesFrom index k (payloads (drop (nextCode s code) s))) (
+      let l = payload-length s code in let e : code + 3 + length (payloadAt s code) ≡ nextCode s code = omega arith in e
+      )
+
+-- ---- counting
+length-places : (index at : ℕ) (ws : List Bytes) → length (placesFrom index at ws) ≡ length ws
+unfolding placesFrom
+length-places index at [] = refl
+length-places index at (w ∷ ws) = ap suc (length-places index (at + 3 + length w) ws)
+
+pub obus-count : (index : ℕ) (s : Bytes) → length (obusIn index s) ≡ length (payloads s)
+obus-count index s = length-map (placesIn index s) obuOf ∙ length-places index 0 (payloads s)
+
+pub record Counting (s : Bytes) (count code : ℕ) : Type 0 where
+  pub at : At s code
+  pub few : count ≤ code
+  pub total : count + length (payloads (drop code s)) ≡ length (payloads s)
+
+pub counting-start : (s : Bytes) → atStartCode s ≡ true → Counting s 0 0
+counting-start s e = record { at = at-start s e; few = omega arith; total = omega arith }
+
+module _ {s : Bytes} {count code : ℕ} (c : Counting s count code) where
+  pub counting-next : code < length s → (end : ℕ) → end ≡ nextCode s code → Counting s (count + 1) end
+  counting-next h end e =
+      subst (Counting s (count + 1)) (sym e)
+      (record {
+        at = next-at (c .at) h (nextCode s code) refl;
+        few = omega (arith, c .few);
+        total = omega (arith, c .total, one-less (c .at) h);
+      })
+
+  pub counting-done : length s ≤ code → (index : ℕ) → count ≡ length (obusIn index s)
+  counting-done h index = omega (arith, c .total, ap length (payloads-end s code h), obus-count index s)
+
+-- ---- putting
+abbrev pub obusAfter : ℕ → Bytes → ℕ → List ObuRow
+obusAfter index s code = map obuOf (placesFrom index code (payloads (drop code s)))
+
+abbrev pub obuBytes : List ObuRow → Bytes
+obuBytes l = rowBytes obuNumbers l
+
+pub obus-long : (l : List ObuRow) → length (obuBytes l) ≡ 32 * length l
+obus-long l = rows-long obuNumbers 4 (λ o. refl) l
+
+pub record Putting (index : ℕ) (s out₀ : Bytes) (at code to : ℕ) (out : Bytes) : Type 0 where
+  pub here : At s code
+  pub filling : Filling out₀ at (obuBytes (obusIn index s)) to (obuBytes (obusAfter index s code)) out
+
+pub putting-start : (index : ℕ) (s out : Bytes) (at : ℕ) → atStartCode s ≡ true → at + 32 * length (obusIn index s) ≤ length out
+    → Putting index s out at 0 at out
+putting-start index s out at e h =
+    record { here = at-start s e; filling = filling-start out at (obuBytes (obusIn index s)) (omega (arith, obus-long (obusIn index s))) }
+
+module _ {index : ℕ} {s out₀ : Bytes} {at code to : ℕ} {out : Bytes} (p : Putting index s out₀ at code to out) where
+  module _ (h0 : code < length s) where
+    row : List ℕ
+    row = index ∷ typeBits (byte (payloadAt s code) 0) ∷ (code + 3) ∷ length (payloadAt s code) ∷ []
+
+    opened : Filling out₀ at (obuBytes (obusIn index s)) to (inBytes row ++ obuBytes (obusAfter index s (nextCode s code))) out
+    unfolding row
+    opened =
+        filling-as (p .filling) _
+        (ap (λ (l : List ObuPlace). obuBytes (map obuOf l)) (next-places (p .here) h0 index)
+        ∙ row-next obuNumbers (obuOf (placeOf index code (payloadAt s code))) (obusAfter index s (nextCode s code))
+        ∙ ap (λ (b : ℕ). inBytes (index ∷ typeBits b ∷ (code + 3) ∷ length (payloadAt s code) ∷ []) ++ obuBytes (obusAfter index s
+        (nextCode s code)))
+        (first-byte (payloadAt s code)))
+
+    pub putting-room : to + 32 ≤ length out
+    unfolding row
+    putting-room =
+        let l = bytes-long row in
+        omega (arith, filling-room (inBytes row) (obuBytes (obusAfter index s (nextCode s code))) opened)
+
+    -- the numbers as the code has them: of the payload up to where the next start code was found
+    pub putting-next : (end : ℕ) (w : Bytes) (t to′ : ℕ) (out′ : Bytes) → end ≡ nextCode s code
+        → w ≡ take (end - (code + 3)) (drop (code + 3) s) → t ≡ typeBits (byte w 0) → to′ ≡ to + 32
+        → out′ ≡ placed out to (inBytes (index ∷ t ∷ (code + 3) ∷ length w ∷ []))
+        → Putting index s out₀ at end to′ out′
+    unfolding row
+    putting-next end w t to′ out′ e f g h k =
+        let q : w ≡ payloadAt s code = f ∙ ap (λ (n : ℕ). take (n - (code + 3)) (drop (code + 3) s)) e in
+        let l = bytes-long row in
+        let same : inBytes (index ∷ t ∷ (code + 3) ∷ length w ∷ []) ≡ inBytes row =
+        ap₂ (λ (b : ℕ) (x : Bytes). inBytes (index ∷ b ∷ (code + 3) ∷ length x ∷ [])) (g ∙ ap (λ (x : Bytes). typeBits (byte x 0)) q) q in
+        subst (λ (n : ℕ). Putting index s out₀ at n to′ out′) (sym e)
+        (record {
+          here = next-at (p .here) h0 (nextCode s code) refl;
+          filling = filling-next (inBytes row) (obuBytes (obusAfter index s (nextCode s code))) opened to′ out′ (omega (arith, h, l))
+              (k ∙ ap (placed out to) same);
+        })
+
+  pub putting-done : length s ≤ code → (out ≡ placed out₀ at (obuBytes (obusIn index s))) × (to ≡ at + 32 * length (obusIn index s))
+  unfolding placesFrom
+  putting-done h =
+      let z : obuBytes (obusAfter index s code) ≡ [] =
+      ap (λ (l : List Bytes). obuBytes (map obuOf (placesFrom index code l))) (payloads-end s code h) ∙ row-none obuNumbers in
+      (filling-done (p .filling) z, omega (arith, filling-place (p .filling), ap length z, obus-long (obusIn index s)))

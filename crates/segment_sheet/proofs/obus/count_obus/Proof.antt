@@ -1,0 +1,104 @@
+-- What is counted, and the OBUs of the units to come, are the OBUs of all.
+use borrow.Author.Needs.{needs}
+use native.Mathlib.Omega.{arith}
+use Prim.Native.Nat.{_-_, _≤_}
+use mathlib.Core.Path.{_≡_, sym, ap, subst, _∙_}
+use lib.ListN.{length, take}
+use Rattle.lists.specs.Lists.{Bytes}
+use Rattle.segment_sheet.specs.Parts.{obusIn}
+use Rattle.segment_sheet.proofs.Cutting.{next-length, no-length, cut-ends, cut-begins}
+use Rattle.segment_sheet.proofs.Cutting.{Totalling, totalling-start, totalling-next, totalling-done}
+use Rattle.tsobu.specs.StartCodes.{atStartCode}
+use mathlib.Core.Bool.{true}
+use Rattle.segment_sheet.proofs.obus.count_obus.Statement.{statement}
+use Rattle.segment_sheet.proofs.obus.count_obus.Tie as tie
+
+abbrev Inv-loop : tie.InvT-loop
+Inv-loop bytes lens count total₀ at₀ i₀ total at i =
+    (i ≤ count) × (count ≤ length lens) × Totalling (take count lens) bytes total at i
+
+abbrev μ-loop : tie.MeasureT-loop
+μ-loop bytes lens count total₀ at₀ i₀ total at i = count - i
+
+loop-holds : tie.Need-loop-holds Inv-loop μ-loop
+loop-holds c = (omega arith, c .before .before .pre .0, totalling-start _ _ (c .before .before .pre .1))
+
+mul-part : tie.Need-mul-part Inv-loop μ-loop
+mul-part c = omega arith
+
+shared-slice-read-part : tie.Need-shared-slice-read-part Inv-loop μ-loop
+shared-slice-read-part c = omega arith
+
+part-requires : tie.Need-part-requires Inv-loop μ-loop
+part-requires c κs = search needs
+
+obus-of-requires : tie.Need-obus-of-requires Inv-loop μ-loop
+obus-of-requires c κs =
+    let a = c .before .before .before .before .before .before .args in
+    let at = c .before .before .before .loop in
+    let more = next-length (a .lens .now) (a .count) (at .i) (c .before .before .loop-test .taken) (at .inv .1) in
+    subst (λ (s : Bytes). atStartCode s ≡ true) (sym (c .part .ensures)) (cut-begins (at .inv .2 .cutting) _ more)
+
+add-total : tie.Need-add-total Inv-loop μ-loop
+add-total c =
+    let a = c .before .before .before .before .before .before .before .args in
+    let at = c .before .before .before .before .loop in
+    let more = next-length (a .lens .now) (a .count) (at .i) (c .before .before .before .loop-test .taken) (at .inv .1) in
+    let next = let lent = c .before .part .ensures in
+    totalling-next (at .inv .2) _ more _ (c .obus-of .ensures .0 (at .i) ∙ ap (λ (s : Bytes). length (obusIn (at .i) s)) lent)
+    (subst (λ (s : Bytes). c .obus-of .result ≤ length s) lent (c .obus-of .ensures .1)) in
+    omega (arith, next .few, next .cutting .within)
+
+mul-at : tie.Need-mul-at Inv-loop μ-loop
+mul-at c = omega arith
+
+shared-slice-read-at : tie.Need-shared-slice-read-at Inv-loop μ-loop
+shared-slice-read-at c = omega arith
+
+add-at : tie.Need-add-at Inv-loop μ-loop
+add-at c =
+    let a = c .before .before .before .before .before .before .before .before .args in
+    let at = c .before .before .before .before .before .loop in
+    let more = next-length (a .lens .now) (a .count) (at .i) (c .before .before .before .before .loop-test .taken) (at .inv .1) in
+    omega (arith, cut-ends (at .inv .2 .cutting) _ more)
+
+add-i : tie.Need-add-i Inv-loop μ-loop
+add-i c = omega arith
+
+loop-less : tie.Need-loop-less Inv-loop μ-loop
+loop-less c = omega arith
+
+loop-again : tie.Need-loop-again Inv-loop μ-loop
+loop-again c =
+    let a = c .before .before .before .before .before .before .before .before .args in
+    let at = c .before .before .before .before .before .loop in
+    let more = next-length (a .lens .now) (a .count) (at .i) (c .before .before .before .before .loop-test .taken) (at .inv .1) in (
+      omega arith,
+      at .inv .1,
+      let lent = c .before .before .part .ensures in
+          totalling-next (at .inv .2) _ more _ (c .before .obus-of .ensures .0 (at .i) ∙ ap (λ (s : Bytes). length (obusIn (at .i) s)) lent)
+          (subst (λ (s : Bytes). c .before .obus-of .result ≤ length s) lent (c .before .obus-of .ensures .1)),
+    )
+
+returns : tie.Need-returns Inv-loop μ-loop
+returns c = totalling-done (c .before .loop .inv .2) (no-length _ _ _ (c .loop-test .left))
+
+pub count-obus-spec : {M : Type 1} → statement M
+count-obus-spec =
+    tie.close
+    (tie.spec
+    Inv-loop
+    μ-loop
+    loop-holds
+    mul-part
+    shared-slice-read-part
+    part-requires
+    obus-of-requires
+    add-total
+    mul-at
+    shared-slice-read-at
+    add-at
+    add-i
+    loop-less
+    loop-again
+    returns)

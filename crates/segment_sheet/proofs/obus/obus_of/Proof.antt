@@ -1,0 +1,52 @@
+-- What is counted, and the payloads from here on, are the payloads of the unit.
+use borrow.Author.Needs.{needs}
+use native.Mathlib.Omega.{arith}
+use Prim.Native.Nat.{_-_}
+use lib.ListN.{length}
+use Rattle.segment_sheet.proofs.Walking.{Counting, counting-start, counting-next, counting-done, code-room, end-room}
+use Rattle.segment_sheet.proofs.obus.obus_of.Statement.{statement}
+use Rattle.segment_sheet.proofs.obus.obus_of.Tie as tie
+
+abbrev Inv-loop : tie.InvT-loop
+Inv-loop unit count₀ code₀ count code =
+    Counting unit count code
+
+abbrev μ-loop : tie.MeasureT-loop
+μ-loop unit count₀ code₀ count code = length unit - code
+
+loop-holds : tie.Need-loop-holds Inv-loop μ-loop
+loop-holds c = counting-start (c .before .args .unit .now) (c .before .pre)
+
+add-count : tie.Need-add-count Inv-loop μ-loop
+add-count c = omega (arith, c .before .loop .inv .few)
+
+add-find : tie.Need-add-find Inv-loop μ-loop
+add-find c = omega (arith, code-room (c .before .loop .inv .at) (c .loop-test .taken))
+
+find-requires : tie.Need-find-requires Inv-loop μ-loop
+find-requires c κs = search needs
+
+loop-less : tie.Need-loop-less Inv-loop μ-loop
+loop-less c =
+    omega (arith, end-room (c .before .before .loop .inv .at) (c .before .loop-test .taken) _ (c .find .ensures) .0)
+
+loop-again : tie.Need-loop-again Inv-loop μ-loop
+loop-again c = counting-next (c .before .before .loop .inv) (c .before .loop-test .taken) _ (c .find .ensures)
+
+returns : tie.Need-returns Inv-loop μ-loop
+returns c =
+    (counting-done (c .before .loop .inv) (c .loop-test .left), omega (arith, c .before .loop .inv .few, c .before .loop .inv .at .within))
+
+pub obus-of-spec : {M : Type 1} → statement M
+obus-of-spec =
+    tie.close
+    (tie.spec
+    Inv-loop
+    μ-loop
+    loop-holds
+    add-count
+    add-find
+    find-requires
+    loop-less
+    loop-again
+    returns)

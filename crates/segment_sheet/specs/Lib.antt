@@ -1,0 +1,4 @@
+pub mod Content
+pub mod Answer
+pub mod Parts
+pub mod Theorems

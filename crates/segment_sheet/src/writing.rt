@@ -1,0 +1,98 @@
+// Writing the sheet.
+ghost use mathlib.Core.Path.{_≡_};
+ghost use lib.ListN.{length};
+ghost use Rattle.refusal.specs.Verdict.{leaves};
+ghost use Rattle.sheet.specs.Sheet.{sheetOf};
+ghost use Rattle.segment_rules.specs.Check.{outputsOf, roomsOf, outputsAfter, checkIn};
+ghost use Rattle.segment_sheet.specs.Content.{sheetWriting, sheetAfter};
+ghost use Rattle.segment_sheet.specs.Answer.{writtenSays};
+ghost use Rattle.segment_sheet.specs.Parts.{HandedOut, contentIn, putting};
+use crate::numbers::put_number;
+use crate::obus::count_obus;
+use crate::obus::put_obus;
+use crate::sections::put_streams;
+use crate::sections::put_units;
+use pmt::ProgramMap;
+use refusal::Refusal;
+use refusal::Refused;
+use segment::SegmentCheck;
+use segment::check;
+
+// The most units of a segment.
+const MOST_UNITS: usize = 1024;
+
+// The length of the sheet, or the refusal.
+pub enum Written {
+    Length(usize),
+    Refused(Refused),
+}
+
+// The sheet of what the check handed out; 8.
+fn put_sheet(
+    map: ProgramMap,
+    count: usize,
+    firsts: &[usize],
+    lens: &[usize],
+    times: &[u64],
+    bytes: &[u8],
+    sheet: &mut [u8],
+) -> Written
+    requires { ⌜ HandedOut map count (now firsts) (now lens) (now times) (now bytes) ⌝ }
+    ensures { λ r. ⌜ writtenSays r ≡ putting (contentIn map count (now (firsts .entry)) (now (lens .entry))
+        (now (times .entry)) (now (bytes .entry))) (length (now (sheet .entry))) ⌝ }
+    ensures { λ r. ⌜ now (sheet .exit) ≡ leaves (writtenSays r) (sheetOf (contentIn map count (now (firsts .entry))
+        (now (lens .entry)) (now (times .entry)) (now (bytes .entry)))) (now (sheet .entry)) ⌝ }
+{
+    let streams = map.count;
+    let obus = count_obus(bytes, lens, count);
+    let units_at = 8 + 16 * streams;
+    let obus_at = units_at + 8 + 32 * count;
+    let size = obus_at + 8 + 32 * obus;
+    if sheet.len() < size {
+        return Written::Refused(Refused {
+            why: Refusal::NO_ROOM,
+            place: 0,
+        });
+    }
+    let entries = map.entries;
+    put_number(streams as u64, sheet, 0);
+    put_streams(entries, streams, sheet, 8);
+    put_number(count as u64, sheet, units_at);
+    put_units(firsts, lens, times, count, sheet, units_at + 8);
+    put_number(obus as u64, sheet, obus_at);
+    put_obus(bytes, lens, count, sheet, obus_at + 8);
+    Written::Length(size)
+}
+
+// The check of a segment in the edition of this number, with its three outputs; where it accepts, the segment's sheet
+// over the front of sheet; 8 for a short sheet last, which leaves the check's outputs as accepted.
+pub fn write(
+    edition: u64,
+    segment: &[u8],
+    out: &mut [u8],
+    lens: &mut [usize],
+    times: &mut [u64],
+    sheet: &mut [u8],
+) -> Written
+    ensures { λ r. ⌜ writtenSays r ≡ sheetWriting edition
+        (roomsOf (outputsOf (now (out .entry)) (now (lens .entry)) (now (times .entry)))) (now (segment .entry))
+        (length (now (sheet .entry))) ⌝ }
+    ensures { λ _. ⌜ outputsOf (now (out .exit)) (now (lens .exit)) (now (times .exit))
+        ≡ outputsAfter (checkIn edition
+        (roomsOf (outputsOf (now (out .entry)) (now (lens .entry)) (now (times .entry)))) (now (segment .entry)))
+        (outputsOf (now (out .entry)) (now (lens .entry)) (now (times .entry))) ⌝ }
+    ensures { λ _. ⌜ now (sheet .exit) ≡ sheetAfter (checkIn edition
+        (roomsOf (outputsOf (now (out .entry)) (now (lens .entry)) (now (times .entry)))) (now (segment .entry)))
+        (now (sheet .entry)) ⌝ }
+{
+    let mut firsts = [0usize; MOST_UNITS];
+    let checked = check(edition, segment, out, lens, times, &mut firsts);
+    let answer = checked.answer;
+    match answer {
+        SegmentCheck::Refused(refused) => Written::Refused(refused),
+        SegmentCheck::Accepted(summary) => {
+            let map = checked.map;
+            put_sheet(map, summary.units, &firsts, lens, times, out, sheet)
+        }
+    }
+}
