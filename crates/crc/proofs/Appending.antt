@@ -45,7 +45,8 @@ own-byte r x h e =
 own-bytes : (r : ℕ) → r < 2 ^ 32 → crcFrom r (bytesOf r) ≡ 0
 unfolding crcFrom
 own-bytes r h =
-    let on : (a b x : ℕ) → a ≡ b → b < 2 ^ 32 → x ≡ b / 2 ^ 24 → byteStep a x ≡ b % 2 ^ 24 * 256 = λ a b x e k f. ap (λ (n : ℕ). byteStep n x) e ∙ own-byte b x k f in
+    let on : (a b x : ℕ) → a ≡ b → b < 2 ^ 32 → x ≡ b / 2 ^ 24
+    → byteStep a x ≡ b % 2 ^ 24 * 256 = λ a b x e k f. ap (λ (n : ℕ). byteStep n x) e ∙ own-byte b x k f in
     let r1 = own-byte r (r / 2 ^ 24) h refl in
     let r2 = on _ (r % 2 ^ 24 * 256) (r / 2 ^ 16 % 256) r1 (omega arith) (omega arith) in
     let r3 = on _ (r % 2 ^ 16 * 2 ^ 16) (r / 2 ^ 8 % 256) (r2 ∙ omega arith) (omega arith) (omega arith) in

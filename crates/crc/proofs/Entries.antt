@@ -28,7 +28,8 @@ module _ (table : List ℕ) (first : allBelow (right table) 32 ≡ true) (others
   at (suc k) j h l =
       let e : 32 * suc k + j ≡ 32 * k + j + 32 = omega arith in
       ap (λ (n : ℕ). getD table n 0) e
-      ∙ eqb-true (getD table (32 * k + j + 32) 0) (byteStep (getD table (32 * k + j) 0) 0) (below (follows table) 224 others (32 * k + j) (omega arith))
+      ∙ eqb-true (getD table (32 * k + j + 32) 0) (byteStep (getD table (32 * k + j) 0) 0)
+      (below (follows table) 224 others (32 * k + j) (omega arith))
       ∙ ap (λ (r : ℕ). byteStep r 0) (at k j (omega arith) l)
 
   pub is-table : IsTable table

@@ -24,7 +24,8 @@ added-linear : (t u p q : ℕ) → t < 2 → u < 2 → p < 2 → q < 2 → added
 unfolding allBelow pick
 added-linear = at-bits (λ t u p q. added (bitXor t u) (differ p q)) (λ t u p q. bitXor (added t p) (added u q)) refl
 
-step-linear : (a b p q : ℕ) → a < 2 ^ 32 → b < 2 ^ 32 → p < 2 → q < 2 → bitStep (bitXor a b) (differ p q) ≡ bitXor (bitStep a p) (bitStep b q)
+step-linear : (a b p q : ℕ) → a < 2 ^ 32 → b < 2 ^ 32 → p < 2 → q < 2
+    → bitStep (bitXor a b) (differ p q) ≡ bitXor (bitStep a p) (bitStep b q)
 unfolding bitStep
 step-linear a b p q ha hb hp hq =
     ap₂ bitXor
@@ -55,7 +56,8 @@ mix [] qs = []
 mix (p ∷ ps) [] = []
 mix (p ∷ ps) (q ∷ qs) = differ p q ∷ mix ps qs
 
-steps-linear : (ps qs : List ℕ) → Pairs ps qs → (a b : ℕ) → a < 2 ^ 32 → b < 2 ^ 32 → bitsStep (bitXor a b) (mix ps qs) ≡ bitXor (bitsStep a ps) (bitsStep b qs)
+steps-linear : (ps qs : List ℕ) → Pairs ps qs → (a b : ℕ) → a < 2 ^ 32 → b < 2 ^ 32
+    → bitsStep (bitXor a b) (mix ps qs) ≡ bitXor (bitsStep a ps) (bitsStep b qs)
 unfolding bitsStep
 steps-linear [] [] h a b ha hb = refl
 steps-linear [] (q ∷ qs) h a b ha hb = absurd h

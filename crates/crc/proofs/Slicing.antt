@@ -25,7 +25,8 @@ zeros-linear : (n a b : ℕ) → a < 2 ^ 32 → b < 2 ^ 32 → zerosStep n (bitX
 unfolding zerosStep
 zeros-linear zero a b ha hb = refl
 zeros-linear (suc n) a b ha hb =
-    ap (λ (r : ℕ). byteStep r 0) (zeros-linear n a b ha hb) ∙ zero-linear (zerosStep n a) (zerosStep n b) (zeros-lt n a ha) (zeros-lt n b hb)
+    ap (λ (r : ℕ). byteStep r 0) (zeros-linear n a b ha hb)
+    ∙ zero-linear (zerosStep n a) (zerosStep n b) (zeros-lt n a ha) (zeros-lt n b hb)
 
 -- the first of them first
 zeros-first : (n r : ℕ) → zerosStep (suc n) r ≡ zerosStep n (byteStep r 0)
@@ -61,7 +62,8 @@ absorb r x hr hx =
 
 -- ---- four bytes are added to the register, and four zero bytes follow
 -- one byte more, where n of its predecessors have gone in and `low`, moved up n bytes, is it in the highest byte
-go-on : (n r x low : ℕ) → r < 2 ^ 32 → x < 256 → low < 2 ^ 32 → zerosStep n low ≡ x * 2 ^ 24 → byteStep (zerosStep n r) x ≡ zerosStep (suc n) (bitXor r low)
+go-on : (n r x low : ℕ) → r < 2 ^ 32 → x < 256 → low < 2 ^ 32 → zerosStep n low ≡ x * 2 ^ 24
+    → byteStep (zerosStep n r) x ≡ zerosStep (suc n) (bitXor r low)
 unfolding zerosStep
 go-on n r x low hr hx hl e =
     absorb (zerosStep n r) x (zeros-lt n r hr) hx
@@ -107,10 +109,12 @@ module _ (n a b c d : ℕ) (ha : a < 256) (hb : b < 256) (hc : c < 256) (hd : d 
   moved : (m k x low : ℕ) → zerosStep m low ≡ x * 2 ^ 24 → m + (k + 1) ≡ n + 4 → zerosStep (n + 4) low ≡ left k x
   moved m k x low e f = ap (λ (j : ℕ). zerosStep j low) (sym f) ∙ sym (zeros-more (k + 1) m low) ∙ ap (zerosStep (k + 1)) e
 
-  pub word-leaves : zerosStep (n + 4) (word a b c d) ≡ bitXor (bitXor (left (n + 3) a) (left (n + 2) b)) (bitXor (left (n + 1) c) (left n d))
+  pub word-leaves : zerosStep (n + 4) (word a b c d)
+      ≡ bitXor (bitXor (left (n + 3) a) (left (n + 2) b)) (bitXor (left (n + 1) c) (left n d))
   unfolding zerosStep
   word-leaves =
-      zeros-linear (n + 4) (bitXor (a * 2 ^ 24) (b * 2 ^ 16)) (bitXor (c * 2 ^ 8) d) (xor-lt 32 (a * 2 ^ 24) (b * 2 ^ 16) (omega arith) (omega arith))
+      zeros-linear (n + 4) (bitXor (a * 2 ^ 24) (b * 2 ^ 16)) (bitXor (c * 2 ^ 8) d)
+      (xor-lt 32 (a * 2 ^ 24) (b * 2 ^ 16) (omega arith) (omega arith))
       (xor-lt 32 (c * 2 ^ 8) d (omega arith) (omega arith))
       ∙ ap₂ bitXor
       (zeros-linear (n + 4) (a * 2 ^ 24) (b * 2 ^ 16) (omega arith) (omega arith)
@@ -156,8 +160,10 @@ word-lt a b c d ha hb hc hd =
     xor-lt 32 (bitXor (a * 2 ^ 24) (b * 2 ^ 16)) (bitXor (c * 2 ^ 8) d) (xor-lt 32 (a * 2 ^ 24) (b * 2 ^ 16) (omega arith) (omega arith))
     (xor-lt 32 (c * 2 ^ 8) d (omega arith) (omega arith))
 
-pub eight-bytes : (r a b c d e f g h : ℕ) (s : Bytes) → r < 2 ^ 32 → a < 256 → b < 256 → c < 256 → d < 256 → e < 256 → f < 256 → g < 256 → h < 256
-    → crcFrom r (a ∷ b ∷ c ∷ d ∷ e ∷ f ∷ g ∷ h ∷ s) ≡ crcFrom (bitXor (zerosStep 8 (bitXor r (word a b c d))) (zerosStep 4 (word e f g h))) s
+pub eight-bytes : (r a b c d e f g h : ℕ) (s : Bytes) → r < 2 ^ 32 → a < 256 → b < 256 → c < 256 → d < 256 → e < 256 → f < 256 → g < 256
+    → h < 256
+    → crcFrom r (a ∷ b ∷ c ∷ d ∷ e ∷ f ∷ g ∷ h ∷ s)
+    ≡ crcFrom (bitXor (zerosStep 8 (bitXor r (word a b c d))) (zerosStep 4 (word e f g h))) s
 unfolding crcFrom
 eight-bytes r a b c d e f g h s hr ha hb hc hd he hf hg hh =
     let w : bitXor r (word a b c d) < 2 ^ 32 = xor-lt 32 r (word a b c d) hr (word-lt a b c d ha hb hc hd) in
@@ -183,7 +189,8 @@ unfolding zerosStep byteStep entry
 left-none x = refl
 
 -- the table's two entries of a byte
-pub entries-leave : (table : List ℕ) → IsTable table → (k x : ℕ) → k < 8 → x < 256 → bitXor (getD table (32 * k + x % 16) 0) (getD table (32 * k + 16 + x / 16) 0) ≡ left k x
+pub entries-leave : (table : List ℕ) → IsTable table → (k x : ℕ) → k < 8 → x < 256
+    → bitXor (getD table (32 * k + x % 16) 0) (getD table (32 * k + 16 + x / 16) 0) ≡ left k x
 unfolding IsTable pick
 entries-leave table t k x h l =
     let low : half (x % 16) ≡ x % 16 = ap (λ (b : Bool). pick b (x % 16) ((x % 16 - 16) * 16)) (lt-ltb (x % 16) 16 (omega arith)) in
@@ -196,7 +203,8 @@ entries-leave table t k x h l =
     ∙ sym (halves-leave k x l)
 
 -- ---- bytes of a string
-next4 : (s : Bytes) (i : ℕ) → i + 4 ≤ length s → drop i s ≡ getD s i 0 ∷ getD s (i + 1) 0 ∷ getD s (i + 2) 0 ∷ getD s (i + 3) 0 ∷ drop (i + 4) s
+next4 : (s : Bytes) (i : ℕ) → i + 4 ≤ length s
+    → drop i s ≡ getD s i 0 ∷ getD s (i + 1) 0 ∷ getD s (i + 2) 0 ∷ getD s (i + 3) 0 ∷ drop (i + 4) s
 next4 s i h =
     let e2 : i + 1 + 1 ≡ i + 2 = omega arith in
     let e3 : i + 2 + 1 ≡ i + 3 = omega arith in
@@ -221,7 +229,8 @@ module _ (r : ℕ) (s : Bytes) (i : ℕ) (hr : r < 2 ^ 32) (byte : (j : ℕ) →
 
   -- eight bytes: the first four are added to the register, the others to nothing
   pub by-eight : i + 8 ≤ length s
-      → crcFrom r (drop i s) ≡ crcFrom (bitXor (zerosStep 8 (bitXor r (wordAt s i))) (zerosStep 4 (bitXor 0 (wordAt s (i + 4))))) (drop (i + 8) s)
+      → crcFrom r (drop i s)
+      ≡ crcFrom (bitXor (zerosStep 8 (bitXor r (wordAt s i))) (zerosStep 4 (bitXor 0 (wordAt s (i + 4))))) (drop (i + 8) s)
   by-eight h =
       ap (crcFrom r) (next8 s i h)
       ∙ eight-bytes r _ _ _ _ _ _ _ _ (drop (i + 8) s) hr (byte i) (byte (i + 1)) (byte (i + 2)) (byte (i + 3))

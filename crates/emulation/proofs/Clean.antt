@@ -16,7 +16,7 @@ use Rattle.lists.proofs.Parts.{next, next3}
 use Rattle.emulation.specs.Payload.{stuffed, escape, escapeAfter, unescape, forbidden, above3}
 use Rattle.emulation.specs.Parts.{marked, critical, paired, tripled, hits, block, clean, single}
 use Rattle.emulation.proofs.Steps.{escape-stuffed, escape-plain, unescape-plain}
-use Rattle.emulation.proofs.Hits.{one, none-first, none-keeps}
+use Rattle.emulation.proofs.Hits.{one, hits-first, none-first, none-keeps}
 use Rattle.emulation.proofs.Machine.{stuffed-is, stuffed-of, marked-of, unmarked-of-plain}
 
 -- ---- what begins at such a place alone
@@ -67,7 +67,8 @@ escape-uncritical a (b ∷ c ∷ s) e = ap (λ (l : Bytes). a ∷ b ∷ l) (esca
 escape-zeros : (c : ℕ) (s : Bytes) → c ≤ 3 → escape (0 ∷ 0 ∷ c ∷ s) ≡ 0 ∷ 0 ∷ 3 ∷ escape (c ∷ s)
 unfolding escapeAfter
 escape-zeros c s h =
-    ap (λ (l : Bytes). 0 ∷ 0 ∷ l) (escape-stuffed 0 0 c s (stuffed-of 0 0 c refl refl h)) ∙ ap (λ (l : Bytes). 0 ∷ 0 ∷ 3 ∷ c ∷ l) (after-three c s)
+    ap (λ (l : Bytes). 0 ∷ 0 ∷ l) (escape-stuffed 0 0 c s (stuffed-of 0 0 c refl refl h))
+    ∙ ap (λ (l : Bytes). 0 ∷ 0 ∷ 3 ∷ c ∷ l) (after-three c s)
 
 escape-critical : (l : Bytes) → critical l ≡ true → escape l ≡ 0 ∷ 0 ∷ 3 ∷ escape (drop 2 l)
 unfolding critical
@@ -92,7 +93,8 @@ escape-one a (b ∷ c ∷ s) e =
     (λ t.
     let h = stuffed-is a b c t in
     let n : (c ≡ 0 → ⊥) = λ z. clash (rw (h .0, h .1, z)) e in
-    let m : length (escape (b ∷ c ∷ s)) ≡ suc (length (escape (c ∷ s))) = rw (h .1) (ap length (escape-uncritical 0 (c ∷ s) (unpaired-third c s n))) in
+    let m : length (escape (b ∷ c ∷ s))
+    ≡ suc (length (escape (c ∷ s))) = rw (h .1) (ap length (escape-uncritical 0 (c ∷ s) (unpaired-third c s n))) in
     omega (arith, ap length (escape-critical (a ∷ b ∷ c ∷ s) t), m, ap one t))
     (λ t. omega (arith, ap length (escape-uncritical a (b ∷ c ∷ s) t), ap one t))
 
@@ -114,7 +116,8 @@ critical-fits s i h e = omega (arith, critical-long (drop i s) e, length-drop i 
 pub escape-at-critical : (s : Bytes) (i : ℕ) → critical (drop i s) ≡ true → escape (drop i s) ≡ 0 ∷ 0 ∷ 3 ∷ escape (drop (i + 2) s)
 escape-at-critical s i e = escape-critical (drop i s) e ∙ rw (drop-drop 2 i s)
 
-pub escape-at-uncritical : (s : Bytes) (i : ℕ) → i < length s → critical (drop i s) ≡ false → escape (drop i s) ≡ getD s i 0 ∷ escape (drop (i + 1) s)
+pub escape-at-uncritical : (s : Bytes) (i : ℕ) → i < length s → critical (drop i s) ≡ false
+    → escape (drop i s) ≡ getD s i 0 ∷ escape (drop (i + 1) s)
 escape-at-uncritical s i h e = rw (next s i h) (escape-uncritical (getD s i 0) (drop (i + 1) s) (rw (next s i h) at e))
 
 -- ---- 00 00 at a place
@@ -127,7 +130,8 @@ paired-at s i h =
 pub paired-of : (s : Bytes) (i : ℕ) → i + 1 < length s → getD s i 0 ≡ 0 → getD s (i + 1) 0 ≡ 0 → paired (drop i s) ≡ true
 paired-of s i h e f = paired-at s i h ∙ rw (e, f)
 
-pub tripled-at : (s : Bytes) (i : ℕ) → i + 2 < length s → tripled (drop i s) ≡ eqb (getD s i 0) 0 && eqb (getD s (i + 1) 0) 0 && eqb (getD s (i + 2) 0) 0
+pub tripled-at : (s : Bytes) (i : ℕ) → i + 2 < length s
+    → tripled (drop i s) ≡ eqb (getD s i 0) 0 && eqb (getD s (i + 1) 0) 0 && eqb (getD s (i + 2) 0) 0
 unfolding tripled
 tripled-at s i h = rw (next3 s i h)
 
@@ -139,28 +143,36 @@ unpaired-uncritical (a ∷ []) e = refl
 unpaired-uncritical (a ∷ b ∷ []) e = refl
 unpaired-uncritical (a ∷ b ∷ c ∷ s) e = rw e
 
+pub unpaired-none : (n : ℕ) (s : Bytes) → hits paired n s ≡ 0 → hits critical n s ≡ 0
+unfolding hits
+unpaired-none zero s e = refl
+unpaired-none (suc n) [] e = refl
+unpaired-none (suc n) (a ∷ s) e =
+    let m = none-first paired n a s e in
+    omega (arith, hits-first critical n a s, ap one (unpaired-uncritical (a ∷ s) (m .0)), unpaired-none n s (m .1))
+
 -- ---- a clean block
 pub clean-short : (s : Bytes) (i : ℕ) → length s - i < block + 2 → clean (drop i s) ≡ false
 unfolding clean
 clean-short s i h = rw (length-drop, lt-leb (block + 2) (length s - i) h)
 
-pub clean-counted : (s : Bytes) (i : ℕ) → block + 2 ≤ length s - i → clean (drop i s) ≡ eqb (hits paired block (drop i s)) 0
+pub clean-counted : (s : Bytes) (i : ℕ) → block + 2 ≤ length s - i → clean (drop i s) ≡ eqb (hits critical block (drop i s)) 0
 unfolding clean
 clean-counted s i h = rw (length-drop, le-leb (block + 2) (length s - i) h)
 
-pub is-clean : (s : Bytes) (i : ℕ) → clean (drop i s) ≡ true → (i + block + 2 ≤ length s) × (hits paired block (drop i s) ≡ 0)
+pub is-clean : (s : Bytes) (i : ℕ) → clean (drop i s) ≡ true → (i + block + 2 ≤ length s) × (hits critical block (drop i s) ≡ 0)
 unfolding clean
 is-clean s i e =
-    let h = and-both (leb (block + 2) (length (drop i s))) (eqb (hits paired block (drop i s)) 0) e in
+    let h = and-both (leb (block + 2) (length (drop i s))) (eqb (hits critical block (drop i s)) 0) e in
     let k = leb-true (block + 2) (length (drop i s)) (h .0) in
-    (omega (arith, length-drop i s), eqb-true (hits paired block (drop i s)) 0 (h .1))
+    (omega (arith, length-drop i s), eqb-true (hits critical block (drop i s)) 0 (h .1))
 
 -- what each place that is not critical keeps, a clean block keeps
 pub clean-keeps : (s : Bytes) (P : ℕ → Type 0) → ((j : ℕ) → j < length s → critical (drop j s) ≡ false → P j → P (j + 1))
     → (i : ℕ) → clean (drop i s) ≡ true → P i → P (i + block)
 clean-keeps s P step i e p =
     let h = is-clean s i e in
-    none-keeps paired s P (λ j l f q. step j l (unpaired-uncritical (drop j s) f) q) block i (omega (arith, h .0)) (h .1) p
+    none-keeps critical s P step block i (omega (arith, h .0)) (h .1) p
 
 -- ---- a block without 00 00 00
 pub single-short : (s : Bytes) (i : ℕ) → length s - i < block + 2 → single (drop i s) ≡ false
@@ -192,16 +204,17 @@ unfolding unescape
 unescape-keeps = record { nothing = refl; byte = λ a s e. unescape-plain a s (uncritical-unmarked (a ∷ s) e) }
 
 module _ (f : Bytes → Bytes) (k : KeepsUncritical f) where
-  passes : (n : ℕ) (s : Bytes) → n ≤ length s → hits paired n s ≡ 0 → f s ≡ take n s ++ f (drop n s)
+  passes : (n : ℕ) (s : Bytes) → n ≤ length s → hits critical n s ≡ 0 → f s ≡ take n s ++ f (drop n s)
   passes zero s h e = refl
   passes (suc n) [] h e = absurd (omega arith)
   passes (suc n) (a ∷ s) h e =
-      let m = none-first paired n a s e in k .byte a s (unpaired-uncritical (a ∷ s) (m .0)) ∙ ap (λ (l : Bytes). a ∷ l) (passes n s (omega arith) (m .1))
+      let m = none-first critical n a s e in k .byte a s (m .0) ∙ ap (λ (l : Bytes). a ∷ l) (passes n s (omega arith) (m .1))
 
   pub clean-passes : (s : Bytes) (i : ℕ) → clean (drop i s) ≡ true → f (drop i s) ≡ take block (drop i s) ++ f (drop (i + block) s)
   clean-passes s i e =
       let h = is-clean s i e in
-      passes block (drop i s) (omega (arith, h .0, length-drop i s)) (h .1) ∙ ap (λ (l : Bytes). take block (drop i s) ++ f l) (drop-drop block i s)
+      passes block (drop i s) (omega (arith, h .0, length-drop i s)) (h .1)
+      ∙ ap (λ (l : Bytes). take block (drop i s) ++ f l) (drop-drop block i s)
 
   short : (l : Bytes) → length l < 3 → f l ≡ l
   unfolding critical

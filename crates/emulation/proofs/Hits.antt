@@ -31,7 +31,8 @@ module _ (test : Bytes → Bool) where
   hits-more none (suc n) [] = rw none
   hits-more none (suc n) (a ∷ l) = omega (arith, hits-first (suc n) a l, hits-first n a l, hits-more none n l)
 
-  pub hits-at : test [] ≡ false → (s : Bytes) (i j : ℕ) (t : Bool) → test (drop (i + j) s) ≡ t → hits test (j + 1) (drop i s) ≡ hits test j (drop i s) + one t
+  pub hits-at : test [] ≡ false → (s : Bytes) (i j : ℕ) (t : Bool) → test (drop (i + j) s) ≡ t
+      → hits test (j + 1) (drop i s) ≡ hits test j (drop i s) + one t
   hits-at none s i j t e =
       let d : test (drop j (drop i s)) ≡ t = rw drop-drop e in
       rw add-one (hits-more none j (drop i s) ∙ ap (λ (x : Bool). hits test j (drop i s) + one x) d)

@@ -9,7 +9,8 @@ use Rattle.lists.proofs.Parts.{next}
 use Rattle.emulation.specs.Payload.{escape, inserted}
 use Rattle.emulation.specs.Parts.{critical, tripled, hits, block, clean, single, Inserts}
 use Rattle.emulation.proofs.Theorems.{escape-longer}
-use Rattle.emulation.proofs.Clean.{escape-one, is-single, escape-at-critical, escape-at-uncritical, critical-fits, clean-keeps, escape-keeps, last-passes}
+use Rattle.emulation.proofs.Clean.{escape-one, is-single, escape-at-critical, escape-at-uncritical, critical-fits, clean-keeps}
+use Rattle.emulation.proofs.Clean.{escape-keeps, last-passes}
 use Rattle.emulation.proofs.Hits.{one, hits-first, none-first}
 
 pub inserts-start : (s : Bytes) (i : ℕ) → i ≤ length s → Inserts s i i 0
@@ -23,7 +24,12 @@ inserts-then s i j k d e a b =
 -- a place at which 00 00 and a byte of 0 to 3 do not stand
 pub inserts-plain : (s : Bytes) (i j d : ℕ) → Inserts s i j d → j < length s → critical (drop j s) ≡ false → Inserts s i (j + 1) d
 inserts-plain s i j d a h e =
-    record { onward = omega (arith, a .onward); within = omega arith; longer = omega (arith, a .longer, ap length (escape-at-uncritical s j h e)) }
+    record {
+      onward = omega (arith, a .onward);
+      within = omega arith;
+      longer = omega
+          (arith, a .longer, ap length (escape-at-uncritical s j h e));
+    }
 
 -- a place at which they stand: after the 00 00 a 03 is put
 pub inserts-critical : (s : Bytes) (i j d : ℕ) → Inserts s i j d → critical (drop j s) ≡ true → Inserts s i (j + 2) (d + 1)
@@ -43,10 +49,12 @@ one-most : (t : Bool) → one t ≤ 1
 one-most true = omega arith
 one-most false = omega arith
 
-inserts-one : (s : Bytes) (i j d : ℕ) → Inserts s i j d → j < length s → tripled (drop j s) ≡ false → Inserts s i (j + 1) (d + one (critical (drop j s)))
+inserts-one : (s : Bytes) (i j d : ℕ) → Inserts s i j d → j < length s → tripled (drop j s) ≡ false
+    → Inserts s i (j + 1) (d + one (critical (drop j s)))
 inserts-one s i j d a h e =
     let n = next s j h in
-    let l : length (escape (drop j s)) ≡ suc (one (critical (drop j s)) + length (escape (drop (j + 1) s))) = rw n (escape-one (getD s j 0) (drop (j + 1) s) (rw n at e)) in
+    let l : length (escape (drop j s))
+    ≡ suc (one (critical (drop j s)) + length (escape (drop (j + 1) s))) = rw n (escape-one (getD s j 0) (drop (j + 1) s) (rw n at e)) in
     record {
       onward = omega (arith, a .onward, one-most (critical (drop j s)));
       within = omega arith;
@@ -54,7 +62,8 @@ inserts-one s i j d a h e =
     }
 
 -- the first places from j on, at none of which it stands
-inserts-more : (s : Bytes) (i n j d : ℕ) → Inserts s i j d → j + n ≤ length s → hits tripled n (drop j s) ≡ 0 → Inserts s i (j + n) (d + hits critical n (drop j s))
+inserts-more : (s : Bytes) (i n j d : ℕ) → Inserts s i j d → j + n ≤ length s → hits tripled n (drop j s) ≡ 0
+    → Inserts s i (j + n) (d + hits critical n (drop j s))
 unfolding hits
 inserts-more s i zero j d a h e =
     let z : j ≡ j + 0 = omega arith in
@@ -63,14 +72,16 @@ inserts-more s i zero j d a h e =
 inserts-more s i (suc n) j d a h e =
     let c = next s j (omega arith) in
     let k = none-first tripled n (getD s j 0) (drop (j + 1) s) (rw c at e) in
-    let m : hits critical (suc n) (drop j s) ≡ one (critical (drop j s)) + hits critical n (drop (j + 1) s) = rw c (hits-first critical n (getD s j 0) (drop (j + 1) s)) in
+    let m : hits critical (suc n) (drop j s)
+    ≡ one (critical (drop j s)) + hits critical n (drop (j + 1) s) = rw c (hits-first critical n (getD s j 0) (drop (j + 1) s)) in
     let z : j + 1 + n ≡ j + suc n = omega arith in
     let y : d + one (critical (drop j s)) + hits critical n (drop (j + 1) s) ≡ d + hits critical (suc n) (drop j s) = omega arith in
     subst₂ (λ (x w : ℕ). Inserts s i x w) z y
     (inserts-more s i n (j + 1) (d + one (critical (drop j s))) (inserts-one s i j d a (omega arith) (rw c (k .0))) (omega arith) (k .1))
 
 -- a block without 00 00 00
-pub inserts-single : (s : Bytes) (i j d : ℕ) → Inserts s i j d → single (drop j s) ≡ true → Inserts s i (j + block) (d + hits critical block (drop j s))
+pub inserts-single : (s : Bytes) (i j d : ℕ) → Inserts s i j d → single (drop j s) ≡ true
+    → Inserts s i (j + block) (d + hits critical block (drop j s))
 inserts-single s i j d a e = let h = is-single s j e in inserts-more s i block j d a (omega (arith, h .0)) (h .1)
 
 -- at most two bytes are left

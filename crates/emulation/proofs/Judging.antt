@@ -13,9 +13,12 @@ use Rattle.lists.specs.Lists.{Bytes}
 use Rattle.lists.proofs.Tests.{case, clash, and-both}
 use Rattle.lists.proofs.Parts.{next}
 use Rattle.emulation.specs.Payload.{marked3, unescape, dropped, forbidden, above3, firstForbidden, legal}
-use Rattle.emulation.specs.Parts.{marked, critical, paired, hits, block, clean, Lawful}
-use Rattle.emulation.proofs.Steps.{marked-is, marked-at, marked-fits, forbidden-at, above3-at, forbidden-long, unescape-plain, dropped-marked, dropped-plain, dropped-at-marked, dropped-at-plain, first-yes, first-no, first-next, first-found, illegal-before, legal-after}
-use Rattle.emulation.proofs.Clean.{uncritical-unmarked, uncritical-lawful, critical-marked, critical-at, paired-at, unpaired-uncritical, clean-keeps}
+use Rattle.emulation.specs.Parts.{marked, critical, paired, hits, block, Lawful}
+use Rattle.emulation.proofs.Steps.{marked-is, marked-at, marked-fits, forbidden-at, above3-at, unescape-plain, dropped-marked}
+use Rattle.emulation.proofs.Steps.{dropped-plain, dropped-at-marked, dropped-at-plain, first-yes, first-no, first-next}
+use Rattle.emulation.proofs.Steps.{illegal-before, legal-after}
+use Rattle.emulation.proofs.Clean.{uncritical-unmarked, uncritical-lawful, critical-marked, critical-at, paired-at}
+use Rattle.emulation.proofs.Clean.{unpaired-uncritical}
 use Rattle.emulation.proofs.Hits.{one, hits-first, none-first, none-keeps}
 
 pub lawful-start : (s : Bytes) (i : ℕ) → i ≤ length s → Lawful s i i 0
@@ -41,12 +44,9 @@ lawful-plain s i j d l h e =
       first = omega (arith, l .first, first-next s j h (uncritical-lawful (drop j s) e));
     }
 
--- a clean block
-pub lawful-clean : (s : Bytes) (i j d : ℕ) → Lawful s i j d → clean (drop j s) ≡ true → Lawful s i (j + block) d
-lawful-clean s i j d l e = clean-keeps s (λ k. Lawful s i k d) (λ k m f p. lawful-plain s i k d p m f) j e l
-
 -- a block without 00 00
-pub lawful-unpaired : (s : Bytes) (i j d : ℕ) → Lawful s i j d → j + block ≤ length s → hits paired block (drop j s) ≡ 0 → Lawful s i (j + block) d
+pub lawful-unpaired : (s : Bytes) (i j d : ℕ) → Lawful s i j d → j + block ≤ length s → hits paired block (drop j s) ≡ 0
+    → Lawful s i (j + block) d
 lawful-unpaired s i j d l h e =
     none-keeps paired s (λ k. Lawful s i k d) (λ k m f p. lawful-plain s i k d p m (unpaired-uncritical (drop k s) f)) block j h e l
 
@@ -84,9 +84,11 @@ dropped-one a l =
     (λ t. omega (arith, dropped-here a l t, ap one t))
     (λ t. omega (arith, dropped-plain a l t, ap one t))
 
-pub lawful-one : (s : Bytes) (i j d : ℕ) → Lawful s i j d → j < length s → forbidden (drop j s) ≡ false → Lawful s i (j + 1) (d + one (marked (drop j s)))
+pub lawful-one : (s : Bytes) (i j d : ℕ) → Lawful s i j d → j < length s → forbidden (drop j s) ≡ false
+    → Lawful s i (j + 1) (d + one (marked (drop j s)))
 lawful-one s i j d l h f =
-    let e : dropped (drop j s) ≡ one (marked (drop j s)) + dropped (drop (j + 1) s) = rw (next s j h) (dropped-one (getD s j 0) (drop (j + 1) s)) in
+    let e : dropped (drop j s)
+    ≡ one (marked (drop j s)) + dropped (drop (j + 1) s) = rw (next s j h) (dropped-one (getD s j 0) (drop (j + 1) s)) in
     let most : one (marked (drop j s)) ≤ 1 = one-most (marked (drop j s)) in
     record {
       onward = omega (arith, l .onward);
@@ -100,7 +102,8 @@ lawful-one s i j d l h f =
     one-most false = omega arith
 
 -- the first places from j on, at which no forbidden sequence begins
-lawful-more : (s : Bytes) (i n j d : ℕ) → Lawful s i j d → j + n ≤ length s → hits forbidden n (drop j s) ≡ 0 → Lawful s i (j + n) (d + hits marked n (drop j s))
+lawful-more : (s : Bytes) (i n j d : ℕ) → Lawful s i j d → j + n ≤ length s → hits forbidden n (drop j s) ≡ 0
+    → Lawful s i (j + n) (d + hits marked n (drop j s))
 unfolding hits
 lawful-more s i zero j d l h e =
     let z : j ≡ j + 0 = omega arith in
@@ -109,7 +112,8 @@ lawful-more s i zero j d l h e =
 lawful-more s i (suc n) j d l h e =
     let c = next s j (omega arith) in
     let k = none-first forbidden n (getD s j 0) (drop (j + 1) s) (rw c at e) in
-    let m : hits marked (suc n) (drop j s) ≡ one (marked (drop j s)) + hits marked n (drop (j + 1) s) = rw c (hits-first marked n (getD s j 0) (drop (j + 1) s)) in
+    let m : hits marked (suc n) (drop j s)
+    ≡ one (marked (drop j s)) + hits marked n (drop (j + 1) s) = rw c (hits-first marked n (getD s j 0) (drop (j + 1) s)) in
     let z : j + 1 + n ≡ j + suc n = omega arith in
     let y : d + one (marked (drop j s)) + hits marked n (drop (j + 1) s) ≡ d + hits marked (suc n) (drop j s) = omega arith in
     subst₂ (λ (x w : ℕ). Lawful s i x w) z y
@@ -121,7 +125,8 @@ lawful-block s i j d l h e = lawful-more s i block j d l h e
 
 -- a forbidden sequence, where four bytes are there
 pub forbidden-four : (s : Bytes) (i : ℕ) → i + 3 < length s
-    → forbidden (drop i s) ≡ eqb (getD s i 0) 0 && eqb (getD s (i + 1) 0) 0 && (leb (getD s (i + 2) 0) 2 || (eqb (getD s (i + 2) 0) 3 && ltb 3 (getD s (i + 3) 0)))
+    → forbidden (drop i s)
+    ≡ eqb (getD s i 0) 0 && eqb (getD s (i + 1) 0) 0 && (leb (getD s (i + 2) 0) 2 || (eqb (getD s (i + 2) 0) 3 && ltb 3 (getD s (i + 3) 0)))
 forbidden-four s i h = forbidden-at s i (omega arith) ∙ rw (above3-at s (i + 3) h)
 
 -- the same behind 00 00
@@ -155,7 +160,8 @@ lawful-past-two s i j d l h z =
     (lawful-past-one s i (j + 1) d (lawful-plain s i j d l (omega arith) (unpaired-uncritical (drop j s) (unpaired-second s j h z))) h z)
 
 -- the third byte is above 3, or stands there without 00 00 before it
-pub lawful-past-three : (s : Bytes) (i j d : ℕ) → Lawful s i j d → j + 2 < length s → forbidden (drop j s) ≡ false → (getD s (j + 2) 0 ≡ 3 → ⊥) → paired (drop j s) ≡ true
+pub lawful-past-three : (s : Bytes) (i j d : ℕ) → Lawful s i j d → j + 2 < length s → forbidden (drop j s) ≡ false
+    → (getD s (j + 2) 0 ≡ 3 → ⊥) → paired (drop j s) ≡ true
     → Lawful s i (j + 3) d
 lawful-past-three s i j d l h f z p =
     let g = forbidden-at s j h in
@@ -163,7 +169,8 @@ lawful-past-three s i j d l h f z p =
     let c : (getD s (j + 2) 0 ≡ 0 → ⊥) = λ e. clash (g ∙ rw (k .0, k .1, e)) f in
     let u : critical (drop j s) ≡ false =
     case (critical (drop j s))
-    (λ t. absurd (z (marked-is (getD s j 0) (getD s (j + 1) 0) (getD s (j + 2) 0) (sym (marked-at s j h) ∙ critical-marked (drop j s) t f) .2)))
+    (λ t. absurd (z (marked-is (getD s j 0) (getD s (j + 1) 0) (getD s (j + 2) 0)
+    (sym (marked-at s j h) ∙ critical-marked (drop j s) t f) .2)))
     (λ t. t) in
     let e : j + 1 + 2 ≡ j + 3 = omega arith in
     let n : j + 1 + 1 ≡ j + 2 = omega arith in
@@ -187,7 +194,8 @@ first-marked (a ∷ b ∷ c ∷ t) m f =
     first-no a (b ∷ c ∷ t) f ∙ ap suc (ap₂ (λ (x y : ℕ). firstForbidden (x ∷ y ∷ t)) (h .1) (h .2) ∙ after-mark t)
 
 -- a 00 00 03 that begins no forbidden sequence
-pub lawful-marked : (s : Bytes) (i j d : ℕ) → Lawful s i j d → critical (drop j s) ≡ true → forbidden (drop j s) ≡ false → Lawful s i (j + 3) (d + 1)
+pub lawful-marked : (s : Bytes) (i j d : ℕ) → Lawful s i j d → critical (drop j s) ≡ true → forbidden (drop j s) ≡ false
+    → Lawful s i (j + 3) (d + 1)
 lawful-marked s i j d l e f =
     let m = critical-marked (drop j s) e f in
     let k : firstForbidden (drop j s) ≡ suc (suc (suc (firstForbidden (drop (j + 3) s)))) =
@@ -200,20 +208,14 @@ lawful-marked s i j d l e f =
     }
 
 -- the same where the third byte was looked at
-pub lawful-past-mark : (s : Bytes) (i j d : ℕ) → Lawful s i j d → j + 2 < length s → forbidden (drop j s) ≡ false → getD s (j + 2) 0 ≡ 3 → paired (drop j s) ≡ true
+pub lawful-past-mark : (s : Bytes) (i j d : ℕ) → Lawful s i j d → j + 2 < length s → forbidden (drop j s) ≡ false → getD s (j + 2) 0 ≡ 3
+    → paired (drop j s) ≡ true
     → Lawful s i (j + 3) (d + 1)
 lawful-past-mark s i j d l h f z p =
     let k = and-both (eqb (getD s j 0) 0) (eqb (getD s (j + 1) 0) 0) (sym (paired-at s j (omega arith)) ∙ p) in
     lawful-marked s i j d l (critical-at s j h ∙ rw (k .0, k .1, z)) f
 
 -- ---- the end of a pass
--- a forbidden sequence begins at j
-pub lawful-found : (s : Bytes) (j d : ℕ) → Lawful s 0 j d → forbidden (drop j s) ≡ true → (legal s ≡ false) × (firstForbidden s ≡ j)
-lawful-found s j d l f =
-    let h : j < length s = omega (arith, forbidden-long (drop j s) f, length-drop j s) in
-    let e : firstForbidden s ≡ j = omega (arith, l .first, first-found s j h f) in
-    (illegal-before s (omega arith), e)
-
 -- at most two bytes are left
 short-drops : (l : Bytes) → length l < 3 → dropped l ≡ 0
 unfolding dropped
@@ -228,12 +230,6 @@ short-first [] h = refl
 short-first (a ∷ []) h = refl
 short-first (a ∷ b ∷ []) h = refl
 short-first (a ∷ b ∷ c ∷ s) h = absurd (omega arith)
-
-pub lawful-end : (s : Bytes) (j d : ℕ) → Lawful s 0 j d → length s - 2 ≤ j → (legal s ≡ true) × (d ≡ dropped s)
-lawful-end s j d l h =
-    let n : length (drop j s) ≡ length s - j = length-drop j s in
-    let k : length (drop j s) < 3 = omega arith in
-    (legal-after s (omega (arith, l .first, l .within, short-first (drop j s) k)), omega (arith, l .drops, short-drops (drop j s) k))
 
 -- the pass goes on to the end
 pub lawful-rest : (s : Bytes) (i j d : ℕ) → Lawful s i j d → length s - 2 ≤ j → Lawful s i (length s) d
@@ -299,7 +295,8 @@ dropped-until (a ∷ l) =
 pub lawful-first : (s : Bytes) (i j d : ℕ) → Lawful s i j d → firstForbidden (drop j s) ≡ 0 → j ≡ i + firstForbidden (drop i s)
 lawful-first s i j d l e = omega (arith, l .first)
 
-pub lawful-dropped : (s : Bytes) (i j d : ℕ) → Lawful s i j d → firstForbidden (drop j s) ≡ 0 → d ≡ dropped (take (firstForbidden (drop i s)) (drop i s))
+pub lawful-dropped : (s : Bytes) (i j d : ℕ) → Lawful s i j d → firstForbidden (drop j s) ≡ 0
+    → d ≡ dropped (take (firstForbidden (drop i s)) (drop i s))
 lawful-dropped s i j d l e =
     let f : ℕ = firstForbidden (drop i s) in
     let k : drop f (drop i s) ≡ drop j s = drop-drop f i s ∙ ap (λ (n : ℕ). drop n s) (sym (lawful-first s i j d l e)) in
@@ -317,7 +314,8 @@ lawful-behind s i h =
 pub whole-illegal : (p : Bytes) (j : ℕ) → j ≡ 0 + firstForbidden (drop 0 p) → j < length p → (legal p ≡ false) × (j ≡ firstForbidden p)
 whole-illegal p j e h = (illegal-before p (omega arith), omega arith)
 
-pub whole-legal : (p : Bytes) (j d : ℕ) → j ≡ 0 + firstForbidden (drop 0 p) → d ≡ dropped (take (firstForbidden (drop 0 p)) (drop 0 p)) → length p ≤ j
+pub whole-legal : (p : Bytes) (j d : ℕ) → j ≡ 0 + firstForbidden (drop 0 p) → d ≡ dropped (take (firstForbidden (drop 0 p)) (drop 0 p))
+    → length p ≤ j
     → (legal p ≡ true) × (d ≡ dropped p)
 whole-legal p j d e f h =
     let k : length p ≤ firstForbidden p = omega arith in

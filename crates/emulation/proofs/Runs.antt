@@ -41,7 +41,8 @@ run-step {out} {whole} {now} {n} {count} s p q place byte step h k keeps w =
     (λ m.
     let z = marked-is p q b m in
     let d = keeps .drops m in
-    let e : unescapeAfter p q (drop place s) ≡ unescapeAfter q b rest = l ∙ drops p q b rest m ∙ ap₂ (λ (x y : ℕ). unescapeAfter x y rest) (sym (z .1)) (sym (z .2)) in
+    let e : unescapeAfter p q (drop place s) ≡ unescapeAfter q b rest = l ∙ drops p q b rest m
+    ∙ ap₂ (λ (x y : ℕ). unescapeAfter x y rest) (sym (z .1)) (sym (z .2)) in
     let c : count ≡ count + step = omega (arith, d .1) in
     let o : now ≡ set now count byte = sym (set-own now count) ∙ ap (set now count) (sym (d .0)) in
     subst₂ (λ (m : ℕ) (after : Bytes). Writes out n whole m (unescapeAfter q b rest) after) c o (rw e at w))

@@ -223,7 +223,7 @@ pub(crate) fn forbids(s: &[u8], i: usize) -> u8
     count
 }
 
-// The block at i is clean; it counts only where two bytes come after it.
+// The block at i is clean; it counts only where two bytes come after it. Most clean blocks have no 00 00 at all.
 pub(crate) fn clean(s: &[u8], i: usize) -> bool
     requires { ⌜ i ≤ length (now s) ⌝ }
     ensures { λ r. ⌜ r ≡ Parts·clean (drop i (now (s .entry))) ⌝ }
@@ -231,7 +231,10 @@ pub(crate) fn clean(s: &[u8], i: usize) -> bool
     if s.len() - i < BLOCK + 2 {
         return false;
     }
-    pairs(s, i) == 0
+    if pairs(s, i) == 0 {
+        return true;
+    }
+    criticals(s, i) == 0
 }
 
 // At no place of the block at i 00 00 00 stands; it counts only where two bytes come after it.

@@ -105,7 +105,8 @@ pub fn escaped_length(obu: &[u8]) -> Escaped
 // The escaped form of obu between place i and place end, as far as there is room, into out from n on.
 fn escape_places(obu: &[u8], i: usize, end: usize, out: &mut [u8], n: usize) -> Reached
     requires { ⌜ (i < end) × (end + 2 ≤ length (now obu)) × (n < length (now out)) ⌝ }
-    ensures { λ r. ⌜ Gives Payload·escape (now (obu .entry)) i (now (out .entry)) n (r .place) (r .count) (now (out .exit)) ⌝ }
+    ensures { λ r. ⌜ Gives Payload·escape (now (obu .entry)) i (now (out .entry)) n (r .place) (r .count)
+        (now (out .exit)) ⌝ }
     ensures { λ r. ⌜ n < r .count ⌝ }
 {
     let mut count = n;
@@ -130,7 +131,8 @@ fn escape_places(obu: &[u8], i: usize, end: usize, out: &mut [u8], n: usize) -> 
 // As much of the escaped form of obu as out has room for, over the front of out; answers how many bytes that is.
 pub fn escape_prefix(obu: &[u8], out: &mut [u8]) -> usize
     ensures { λ r. ⌜ r ≡ length (take (length (now (out .entry))) (Payload·escape (now (obu .entry)))) ⌝ }
-    ensures { λ r. ⌜ now (out .exit) ≡ over (take (length (now (out .entry))) (Payload·escape (now (obu .entry)))) (now (out .entry)) ⌝ }
+    ensures { λ r. ⌜ now (out .exit)
+        ≡ over (take (length (now (out .entry))) (Payload·escape (now (obu .entry)))) (now (out .entry)) ⌝ }
 {
     let last = places(obu);
     let mut n: usize = 0;

@@ -125,7 +125,8 @@ fn lawful_blocks(s: &[u8], i: usize) -> Reached
 // before it.
 pub fn first_forbidden(s: &[u8], from: usize) -> Reached
     ensures { λ r. ⌜ r .place ≡ from + firstForbidden (drop from (now (s .entry))) ⌝ }
-    ensures { λ r. ⌜ r .count ≡ Payload·dropped (take (firstForbidden (drop from (now (s .entry)))) (drop from (now (s .entry)))) ⌝ }
+    ensures { λ r. ⌜ r .count
+        ≡ Payload·dropped (take (firstForbidden (drop from (now (s .entry)))) (drop from (now (s .entry)))) ⌝ }
 {
     if s.len() <= from {
         return Reached {
@@ -158,7 +159,8 @@ pub fn judge(payload: &[u8]) -> Judged
 // What payload unescapes to between place i and place end, as far as there is room, into out from n on.
 fn unescape_places(payload: &[u8], i: usize, end: usize, out: &mut [u8], n: usize) -> Reached
     requires { ⌜ (i < end) × (end + 2 ≤ length (now payload)) × (n < length (now out)) ⌝ }
-    ensures { λ r. ⌜ Gives Payload·unescape (now (payload .entry)) i (now (out .entry)) n (r .place) (r .count) (now (out .exit)) ⌝ }
+    ensures { λ r. ⌜ Gives Payload·unescape (now (payload .entry)) i (now (out .entry)) n (r .place) (r .count)
+        (now (out .exit)) ⌝ }
     ensures { λ r. ⌜ n < r .count ⌝ }
 {
     let mut count = n;
@@ -199,7 +201,8 @@ fn keep(p: u8, q: u8, b: u8, old: u8) -> Kept
 // where that many bytes have room. p and q are the bytes that came last. A byte that is dropped is written as what
 // stands there, so that no store waits for a test.
 fn unescape_run(payload: &[u8], i: usize, end: usize, out: &mut [u8], n: usize) -> usize
-    requires { ⌜ (i < end) × (end ≤ length (now payload)) × Fresh (now payload) end × (n + (end - i) ≤ length (now out)) ⌝ }
+    requires { ⌜ (i < end) × (end ≤ length (now payload)) × Fresh (now payload) end
+        × (n + (end - i) ≤ length (now out)) ⌝ }
     ensures { λ r. ⌜ Gives Payload·unescape (now (payload .entry)) i (now (out .entry)) n end r (now (out .exit)) ⌝ }
     ensures { λ r. ⌜ n < r ⌝ }
 {
@@ -223,7 +226,8 @@ fn unescape_run(payload: &[u8], i: usize, end: usize, out: &mut [u8], n: usize) 
 // As much of what payload unescapes to as out has room for, over the front of out; answers how many bytes that is.
 pub fn unescape_prefix(payload: &[u8], out: &mut [u8]) -> usize
     ensures { λ r. ⌜ r ≡ length (take (length (now (out .entry))) (Payload·unescape (now (payload .entry)))) ⌝ }
-    ensures { λ r. ⌜ now (out .exit) ≡ over (take (length (now (out .entry))) (Payload·unescape (now (payload .entry)))) (now (out .entry)) ⌝ }
+    ensures { λ r. ⌜ now (out .exit)
+        ≡ over (take (length (now (out .entry))) (Payload·unescape (now (payload .entry)))) (now (out .entry)) ⌝ }
 {
     let last = places(payload);
     let mut n: usize = 0;
@@ -252,7 +256,8 @@ pub fn unescape_prefix(payload: &[u8], out: &mut [u8]) -> usize
 
 // What payload unescapes to, so many bytes being dropped, over the front of out, where it has room.
 fn unescape_whole(payload: &[u8], dropped: usize, out: &mut [u8])
-    requires { ⌜ (dropped ≡ Payload·dropped (now payload)) × (length (Payload·unescape (now payload)) ≤ length (now out)) ⌝ }
+    requires { ⌜ (dropped ≡ Payload·dropped (now payload))
+        × (length (Payload·unescape (now payload)) ≤ length (now out)) ⌝ }
     ensures { λ _. ⌜ now (out .exit) ≡ over (Payload·unescape (now (payload .entry))) (now (out .entry)) ⌝ }
 {
     if dropped == 0 {
@@ -265,7 +270,8 @@ fn unescape_whole(payload: &[u8], dropped: usize, out: &mut [u8])
 // What payload unescapes to, over the front of out; 2, then 10, then 8.
 pub fn unescape(payload: &[u8], out: &mut [u8]) -> Unescaped
     ensures { λ r. ⌜ unescapedSays r ≡ unescaping (now (payload .entry)) (length (now (out .entry))) ⌝ }
-    ensures { λ r. ⌜ now (out .exit) ≡ leaves (unescapedSays r) (Payload·unescape (now (payload .entry))) (now (out .entry)) ⌝ }
+    ensures { λ r. ⌜ now (out .exit)
+        ≡ leaves (unescapedSays r) (Payload·unescape (now (payload .entry))) (now (out .entry)) ⌝ }
 {
     if MOST_UNESCAPED < payload.len() {
         return Unescaped::Refused(Refused {

@@ -32,14 +32,16 @@ unfolding coded
 coded-counted s i h = rw (length-drop, le-leb (block + 2) (length s - i) h)
 
 -- such a block is passed over
-pub uncoded-passes : (s : Bytes) (i : ℕ) → coded (drop i s) ≡ false → (i + block ≤ length s) × (i + block + before (drop (i + block) s) ≡ i + before (drop i s))
+pub uncoded-passes : (s : Bytes) (i : ℕ) → coded (drop i s) ≡ false
+    → (i + block ≤ length s) × (i + block + before (drop (i + block) s) ≡ i + before (drop i s))
 unfolding coded
 uncoded-passes s i e =
     let h = and-both (leb (block + 2) (length (drop i s))) (eqb (hits atStartCode block (drop i s)) 0) (not-false _ e) in
     let k = leb-true (block + 2) (length (drop i s)) (h .0) in
     let w : i + block ≤ length s = omega (arith, length-drop i s) in (
       w,
-      none-keeps atStartCode s (λ j. j + before (drop j s) ≡ i + before (drop i s)) (λ j l f p. omega (arith, p, before-byte s j l f)) block i w
+      none-keeps atStartCode s (λ j. j + before (drop j s) ≡ i + before (drop i s))
+          (λ j l f p. omega (arith, p, before-byte s j l f)) block i w
           (eqb-true (hits atStartCode block (drop i s)) 0 (h .1)) refl,
     )
 
@@ -62,11 +64,6 @@ before-first (a ∷ l) =
     let c : atStartCode (a ∷ l) ≡ false = case (atStartCode (a ∷ l)) (λ t. clash (code-forbidden (a ∷ l) t) e) (λ t. t) in
     let b : before (a ∷ l) ≡ suc (before l) = ap (λ (r : Split). length (r .before)) (split-byte a l c) in
     rw (first-no a l e) (omega (arith, b, before-first l)))
-
-pub first-within : (t : Bytes) → firstForbidden t ≤ length t
-unfolding firstForbidden
-first-within [] = omega arith
-first-within (a ∷ l) = case (forbidden (a ∷ l)) (λ e. omega (arith, first-yes a l e)) (λ e. omega (arith, first-no a l e, first-within l))
 
 -- ---- a payload p, and what stands behind it: nothing or a start code
 abbrev Behind : Bytes → Type 0
@@ -178,7 +175,8 @@ module _ (t : Bytes) where
   head : split t .before ++ drop (before t) t ≡ t
   head = ap (λ (p : Bytes). p ++ drop (before t) t) (sym (before-taken t)) ∙ take-append-drop (before t) t
 
-  pub head-legal : before t ≤ firstForbidden t + 2 → (legal (split t .before) ≡ true) × (dropped (split t .before) ≡ dropped (take (firstForbidden t) t))
+  pub head-legal : before t ≤ firstForbidden t + 2
+      → (legal (split t .before) ≡ true) × (dropped (split t .before) ≡ dropped (take (firstForbidden t) t))
   head-legal h =
       let k = near (split t .before) (drop (before t) t) (before-ends t) (rw head (omega arith)) in
       (k .0, rw head at (k .1))
@@ -210,13 +208,15 @@ module _ (s : Bytes) (start place count : ℕ) (at : place ≡ start + firstForb
   scan-long h = omega (arith, at, first-long (drop start s) (omega (arith, length-drop start s)), length-drop start s)
 
   -- the payload ends there, or up to two bytes further on
-  pub scan-legal : (n end : ℕ) → n ≤ 2 → before (drop place s) ≡ n → end ≡ place + n → ScannedAt s start (record { end = end; legal = true; dropped = count })
+  pub scan-legal : (n end : ℕ) → n ≤ 2 → before (drop place s) ≡ n → end ≡ place + n
+      → ScannedAt s start (record { end = end; legal = true; dropped = count })
   scan-legal n end h e f =
       let k = head-legal (drop start s) (omega (arith, at, scan-before)) in
       record { ends = omega (arith, scan-before); lawful = sym (k .0); drops = λ t. drops ∙ sym (k .1) }
 
   -- it goes on for three bytes and more
-  pub scan-illegal : (end : ℕ) → 3 ≤ before (drop place s) → end ≡ place + before (drop place s) → ScannedAt s start (record { end = end; legal = false; dropped = 0 })
+  pub scan-illegal : (end : ℕ) → 3 ≤ before (drop place s) → end ≡ place + before (drop place s)
+      → ScannedAt s start (record { end = end; legal = false; dropped = 0 })
   scan-illegal end h e =
       record {
         ends = omega (arith, scan-before);
@@ -228,15 +228,32 @@ module _ (s : Bytes) (start place count : ℕ) (at : place ≡ start + firstForb
   pub none-left : length s ≤ place → before (drop place s) ≡ 0
   none-left h = before-end s place h
 
-  pub one-left : place + 3 ≤ length s → atStartCode (drop place s) ≡ false → atStartCode (drop (place + 1) s) ≡ true → before (drop place s) ≡ 1
+  pub one-left : place + 3 ≤ length s → atStartCode (drop place s) ≡ false → atStartCode (drop (place + 1) s) ≡ true
+      → before (drop place s) ≡ 1
   one-left h e f = omega (arith, before-byte s place (omega arith) e, before-code (drop (place + 1) s) f)
 
-  pub two-left : place + 3 ≤ length s → atStartCode (drop place s) ≡ false → atStartCode (drop (place + 1) s) ≡ false → atStartCode (drop (place + 2) s) ≡ true → before (drop place s) ≡ 2
+  pub two-left : place + 3 ≤ length s → atStartCode (drop place s) ≡ false → atStartCode (drop (place + 1) s) ≡ false
+      → atStartCode (drop (place + 2) s) ≡ true → before (drop place s) ≡ 2
   two-left h e f g =
       let n : place + 1 + 1 ≡ place + 2 = omega arith in
-      omega (arith, before-byte s place (omega arith) e, before-byte s (place + 1) (omega arith) f, ap (λ (k : ℕ). before (drop k s)) n, before-code (drop (place + 2) s) g)
+      omega (
+        arith,
+        before-byte s place (omega arith) e,
+        before-byte s (place + 1) (omega arith) f,
+        ap
+            (λ (k : ℕ). before (drop k s)) n,
+        before-code (drop (place + 2) s) g,
+      )
 
-  pub more-left : place + 3 ≤ length s → atStartCode (drop place s) ≡ false → atStartCode (drop (place + 1) s) ≡ false → atStartCode (drop (place + 2) s) ≡ false → 3 ≤ before (drop place s)
+  pub more-left : place + 3 ≤ length s → atStartCode (drop place s) ≡ false → atStartCode (drop (place + 1) s) ≡ false
+      → atStartCode (drop (place + 2) s) ≡ false → 3 ≤ before (drop place s)
   more-left h e f g =
       let n : place + 1 + 1 ≡ place + 2 = omega arith in
-      omega (arith, before-byte s place (omega arith) e, before-byte s (place + 1) (omega arith) f, ap (λ (k : ℕ). before (drop k s)) n, before-byte s (place + 2) (omega arith) g)
+      omega (
+        arith,
+        before-byte s place (omega arith) e,
+        before-byte s (place + 1) (omega arith) f,
+        ap
+            (λ (k : ℕ). before (drop k s)) n,
+        before-byte s (place + 2) (omega arith) g,
+      )

@@ -65,11 +65,6 @@ ending-start s at l e = record { place = inr e; within = omega arith; few = omeg
 pub ending-code : {s : Bytes} {at : List ℕ} {count code : ℕ} → Ending s at count code → code < length s → atStartCode (drop code s) ≡ true
 ending-code {s} {at} {count} {code} j h = place-code s code (j .place) h
 
--- a payload is left
-pub ending-more : {s : Bytes} {at : List ℕ} {count code : ℕ} → Ending s at count code → code < length s → count < length (payloads s)
-ending-more {s} {at} {count} {code} j h =
-    omega (arith, j .counted, ap length (payloads-from s code (ending-code j h)))
-
 pub ending-step : {s : Bytes} {at : List ℕ} {count code next : ℕ} → Ending s at count code → code < length s → count < 64
     → next ≡ nextCode s code
     → Ending s (set at count next) (count + 1) next

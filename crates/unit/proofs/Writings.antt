@@ -49,10 +49,16 @@ module _ (lens : List ℕ) (bytes : Bytes) (i at : ℕ) where
 
   -- of the next one as it is lent
   carried-more : i < length lens
-      → length (carried (left lens bytes i at)) ≡ 3 + length (escape (lentObu lens bytes i at)) + length (carried (left lens bytes (i + 1) (at + getD lens i 0)))
+      → length (carried (left lens bytes i at))
+      ≡ 3 + length (escape (lentObu lens bytes i at)) + length (carried (left lens bytes (i + 1) (at + getD lens i 0)))
   carried-more h =
-      omega
-      (arith, ap length (carried-next h), length-append (tsObu (nextObu lens bytes i at)) (carried (left lens bytes (i + 1) (at + getD lens i 0))), ap (λ (s : Bytes). length (escape s)) (lent-obu lens bytes i at))
+      omega (
+        arith,
+        ap length (carried-next h),
+        length-append (tsObu (nextObu lens bytes i at))
+            (carried (left lens bytes (i + 1) (at + getD lens i 0))),
+        ap (λ (s : Bytes). length (escape s)) (lent-obu lens bytes i at),
+      )
 
 pub carried-most : (lens : List ℕ) (bytes : Bytes) → length lens ≤ mostObus → length bytes ≤ mostObuBytes → sum lens ≡ length bytes
     → length (carried (obusOf lens bytes)) ≤ mostCarried
@@ -78,8 +84,13 @@ module _ (lens : List ℕ) (bytes : Bytes) where
 
   module _ (n i at : ℕ) (w : Counting lens bytes n i at) where
     -- the next one has m bytes, escaped
-    pub counting-next : i < length lens → (m : ℕ) → m ≡ length (escape (lentObu lens bytes i at)) → Counting lens bytes (n + (3 + m)) (i + 1) (at + getD lens i 0)
-    counting-next h m e = record { place = at-next lens bytes i at (w .place) h; count = omega (arith, w .count, carried-more lens bytes i at h) }
+    pub counting-next : i < length lens → (m : ℕ) → m ≡ length (escape (lentObu lens bytes i at))
+        → Counting lens bytes (n + (3 + m)) (i + 1) (at + getD lens i 0)
+    counting-next h m e = record {
+      place = at-next lens bytes i at (w .place) h;
+      count = omega
+          (arith, w .count, carried-more lens bytes i at h);
+    }
 
     pub counting-end : length lens ≤ i → n ≡ length (carried (obusOf lens bytes))
     counting-end h = omega (arith, w .count, ap length (carried-end lens bytes i at h))
@@ -109,22 +120,32 @@ module _ (lens : List ℕ) (bytes out₀ : Bytes) where
     pub writing-room : length (carried (obusOf lens bytes)) ≤ length out₀ → i < length lens
         → 3 + length (escape (lentObu lens bytes i at)) ≤ length (midOf n (length out - n) out)
     writing-room f h =
-        omega
-        (arith, counted (w .part), carried-more lens bytes i at h, w .part .long, ap length (tail-lent n out (w .part .within)), length-drop n out)
+        omega (
+          arith,
+          counted (w .part),
+          carried-more lens bytes i at h,
+          w .part .long,
+          ap length
+              (tail-lent n out (w .part .within)),
+          length-drop n out,
+        )
 
     -- the next one is written there, and has r bytes
-    pub writing-next : length (carried (obusOf lens bytes)) ≤ length out₀ → i < length lens → (r : ℕ) → r ≡ 3 + length (escape (lentObu lens bytes i at))
+    pub writing-next : length (carried (obusOf lens bytes)) ≤ length out₀ → i < length lens → (r : ℕ)
+        → r ≡ 3 + length (escape (lentObu lens bytes i at))
         → (after : Bytes) → after ≡ over (tsObu (lentObu lens bytes i at)) (midOf n (length out - n) out)
         → Writing lens bytes out₀ (n + r) (i + 1) (at + getD lens i 0) (putMid n (length out - n) out after)
     writing-next f h r e after k =
         let obu : Bytes = nextObu lens bytes i at in
         let lent = lent-obu lens bytes i at in
         let count : n + length (tsObu obu) ≡ n + r = omega (arith, e, ap (λ (s : Bytes). length (escape s)) lent) in
-        let put = tail-placed n out (tsObu obu) after (w .part .within) (k ∙ ap (λ (x : Bytes). over (tsObu x) (midOf n (length out - n) out)) lent) in
+        let put = tail-placed n out (tsObu obu) after (w .part .within)
+        (k ∙ ap (λ (x : Bytes). over (tsObu x) (midOf n (length out - n) out)) lent) in
         record {
           place = at-next lens bytes i at (w .place) h;
           part =
-              subst₂ (λ (m : ℕ) (s : Bytes). Part out₀ (carried (obusOf lens bytes)) m (carried (left lens bytes (i + 1) (at + getD lens i 0))) s) count (sym put)
+              subst₂ (λ (m : ℕ) (s : Bytes). Part out₀ (carried (obusOf lens bytes)) m
+              (carried (left lens bytes (i + 1) (at + getD lens i 0))) s) count (sym put)
               (put-all (tsObu obu) (left-is (carried-next lens bytes i at h)) f);
         }
 

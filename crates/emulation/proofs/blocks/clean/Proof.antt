@@ -1,10 +1,13 @@
--- A block without two bytes after it does not count; of another the places are counted.
+-- A block without two bytes after it does not count; one without 00 00 is clean, and of another the places are counted.
 use borrow.Author.Needs.{needs}
 use native.Mathlib.Omega.{arith}
 use Prim.Native.Nat.{ℕ}
 use mathlib.Core.Path.{sym, ap, _∙_}
+use borrow.Author.Tests.{eq-eqb}
 use lib.Dec.{eqb}
-use Rattle.emulation.proofs.Clean.{clean-short, clean-counted}
+use lib.ListN.{drop}
+use Rattle.emulation.specs.Parts.{block}
+use Rattle.emulation.proofs.Clean.{unpaired-none, clean-short, clean-counted}
 use Rattle.emulation.proofs.blocks.clean.Statement.{statement}
 use Rattle.emulation.proofs.blocks.clean.Tie as tie
 
@@ -22,8 +25,19 @@ pairs-requires c κs = search needs
 
 returns-2 : tie.Need-returns-2
 returns-2 c =
-    let start = c .before .before .before in
-    ap (λ (n : ℕ). eqb n 0) (c .pairs .ensures) ∙ sym (clean-counted (start .args .s .now) (start .args .i) (omega arith))
+    let start = c .before .before .before .before in
+    let s = start .args .s .now in
+    let i = start .args .i in
+    let none = unpaired-none block (drop i s) (sym (c .before .pairs .ensures) ∙ c .if2 .taken) in
+    sym (clean-counted s i (omega (arith, c .before .before .if1 .left)) ∙ eq-eqb _ _ none)
+
+criticals-requires : tie.Need-criticals-requires
+criticals-requires c κs = search needs
+
+returns-3 : tie.Need-returns-3
+returns-3 c =
+    let start = c .before .before .before .before .before in
+    ap (λ (n : ℕ). eqb n 0) (c .criticals .ensures) ∙ sym (clean-counted (start .args .s .now) (start .args .i) (omega arith))
 
 pub clean-spec : {M : Type 1} → statement M
-clean-spec = tie.close (tie.spec sub-if1 add-if1 returns pairs-requires returns-2)
+clean-spec = tie.close (tie.spec sub-if1 add-if1 returns pairs-requires returns-2 criticals-requires returns-3)

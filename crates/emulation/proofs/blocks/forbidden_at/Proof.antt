@@ -30,7 +30,10 @@ forbidden-requires : tie.Need-forbidden-requires
 forbidden-requires c κs = search needs
 
 returns : tie.Need-returns
-returns c = c .forbidden .ensures ∙ sym (forbidden-four (c .before .before .before .before .before .before .args .s .now) (c .before .before .before .before .before .before .args .i) (c .before .before .before .before .before .before .pre))
+returns c =
+    c .forbidden .ensures
+    ∙ sym (forbidden-four (c .before .before .before .before .before .before .args .s .now)
+    (c .before .before .before .before .before .before .args .i) (c .before .before .before .before .before .before .pre))
 
 pub forbidden-at-spec : {M : Type 1} → statement M
 forbidden-at-spec =

@@ -41,7 +41,8 @@ unfolding forbidden
 loop-again c =
     let start = c .before .before .before .before .before in
     let at = c .before .before .before .loop in
-    let e = hits-at forbidden refl (start .args .s .now) (start .args .i) (at .j) true (sym (c .before .forbidden-at .ensures) ∙ c .if1 .taken) in
+    let e = hits-at forbidden refl (start .args .s .now) (start .args .i) (at .j) true
+    (sym (c .before .forbidden-at .ensures) ∙ c .if1 .taken) in
     (omega arith, omega arith, omega (arith, at .inv .2))
 
 loop-less-2 : tie.Need-loop-less-2 Inv-loop μ-loop
@@ -52,7 +53,8 @@ unfolding forbidden
 loop-again-2 c =
     let start = c .before .before .before .before .before in
     let at = c .before .before .before .loop in
-    let e = hits-at forbidden refl (start .args .s .now) (start .args .i) (at .j) false (sym (c .before .forbidden-at .ensures) ∙ c .if1 .left) in
+    let e = hits-at forbidden refl (start .args .s .now) (start .args .i) (at .j) false
+    (sym (c .before .forbidden-at .ensures) ∙ c .if1 .left) in
     (omega arith, omega arith, omega (arith, at .inv .2))
 
 returns : tie.Need-returns Inv-loop μ-loop

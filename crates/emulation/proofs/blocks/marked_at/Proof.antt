@@ -24,7 +24,10 @@ marked-requires : tie.Need-marked-requires
 marked-requires c κs = search needs
 
 returns : tie.Need-returns
-returns c = c .marked .ensures ∙ sym (marked-at (c .before .before .before .before .before .args .s .now) (c .before .before .before .before .before .args .i) (c .before .before .before .before .before .pre))
+returns c =
+    c .marked .ensures ∙ sym
+    (marked-at (c .before .before .before .before .before .args .s .now) (c .before .before .before .before .before .args .i)
+    (c .before .before .before .before .before .pre))
 
 pub marked-at-spec : {M : Type 1} → statement M
 marked-at-spec =

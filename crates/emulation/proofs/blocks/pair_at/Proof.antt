@@ -18,7 +18,10 @@ pair-requires : tie.Need-pair-requires
 pair-requires c κs = search needs
 
 returns : tie.Need-returns
-returns c = c .pair .ensures ∙ sym (paired-at (c .before .before .before .before .args .s .now) (c .before .before .before .before .args .i) (c .before .before .before .before .pre))
+returns c =
+    c .pair .ensures ∙ sym
+    (paired-at (c .before .before .before .before .args .s .now) (c .before .before .before .before .args .i)
+    (c .before .before .before .before .pre))
 
 pub pair-at-spec : {M : Type 1} → statement M
 pair-at-spec =

@@ -24,7 +24,10 @@ triple-requires : tie.Need-triple-requires
 triple-requires c κs = search needs
 
 returns : tie.Need-returns
-returns c = c .triple .ensures ∙ sym (tripled-at (c .before .before .before .before .before .args .s .now) (c .before .before .before .before .before .args .i) (c .before .before .before .before .before .pre))
+returns c =
+    c .triple .ensures ∙ sym
+    (tripled-at (c .before .before .before .before .before .args .s .now) (c .before .before .before .before .before .args .i)
+    (c .before .before .before .before .before .pre))
 
 pub triple-at-spec : {M : Type 1} → statement M
 triple-at-spec =

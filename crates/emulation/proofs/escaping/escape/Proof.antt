@@ -26,8 +26,11 @@ returns-2 c =
     let start = c .before .before .before .before .before in
     let s = start .args .obu .now in
     let o = start .args .out .now in
-    let short = leb-false (length (escape s)) (length o) (sym (c .before .has-room .ensures) ∙ not-true _ (c .if2 .taken)) in
-    (pass-on 2 (le-ltb _ _ (c .before .before .if1 .left)) (refuse 8 _ (lt-ltb (length o) (length (escape s)) (omega (arith, short)))), refl)
+    let short = leb-false (length (escape s)) (length o) (sym (c .before .has-room .ensures) ∙ not-true _ (c .if2 .taken)) in (
+      pass-on 2 (le-ltb _ _ (c .before .before .if1 .left))
+          (refuse 8 _ (lt-ltb (length o) (length (escape s)) (omega (arith, short)))),
+      refl,
+    )
 
 escape-prefix-requires : tie.Need-escape-prefix-requires
 escape-prefix-requires c κs = search needs
@@ -41,7 +44,8 @@ returns-3 c =
     let start = c .before .before .before .before .before .before .before .before .before in
     let s = start .args .obu .now in
     let o = start .args .out .now in
-    let tested = sym (c .before .before .before .before .before .has-room .ensures) ∙ not-false _ (c .before .before .before .before .if2 .left) in
+    let tested = sym (c .before .before .before .before .before .has-room .ensures)
+    ∙ not-false _ (c .before .before .before .before .if2 .left) in
     let room = leb-true (length (escape s)) (length o) tested in
     let whole = take-all (length o) (escape s) room in
     let written = c .before .before .escape-prefix .ensures in (

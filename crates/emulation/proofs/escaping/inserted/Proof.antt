@@ -40,7 +40,8 @@ single-requires c κs = search needs
 
 criticals-requires : tie.Need-criticals-requires Inv-loop μ-loop
 criticals-requires c κs =
-    is-single (c .before .before .before .before .before .before .before .before .args .obu .now) (c .before .before .before .before .before .loop .i) (sym (c .before .single .ensures) ∙ c .if2 .taken) .0
+    is-single (c .before .before .before .before .before .before .before .before .args .obu .now)
+    (c .before .before .before .before .before .loop .i) (sym (c .before .single .ensures) ∙ c .if2 .taken) .0
 
 wide-requires : tie.Need-wide-requires Inv-loop μ-loop
 wide-requires c κs = search needs
@@ -48,7 +49,8 @@ wide-requires c κs = search needs
 loop-again-2 : tie.Need-loop-again-2 Inv-loop μ-loop
 loop-again-2 c =
     let at = c .before .before .before .before .before .before .before .loop in
-    subst (λ (n : ℕ). Inserts (c .before .before .before .before .before .before .before .before .before .before .args .obu .now) 0 (at .i + block) (at .count + n)) (sym (c .wide .ensures ∙ c .before .criticals .ensures))
+    subst (λ (n : ℕ). Inserts (c .before .before .before .before .before .before .before .before .before .before .args .obu .now) 0
+    (at .i + block) (at .count + n)) (sym (c .wide .ensures ∙ c .before .criticals .ensures))
     (inserts-single _ _ _ _ (at .inv) (sym (c .before .before .before .single .ensures) ∙ c .before .before .if2 .taken))
 
 add-count : tie.Need-add-count Inv-loop μ-loop
@@ -73,7 +75,9 @@ loop-less-3 : tie.Need-loop-less-3 Inv-loop μ-loop
 loop-less-3 c = omega arith
 
 loop-again-3 : tie.Need-loop-again-3 Inv-loop μ-loop
-loop-again-3 c = inserts-then _ _ _ _ _ _ (c .before .before .before .before .before .before .before .before .loop .inv) (c .before .inserted-places .ensures .0)
+loop-again-3 c =
+    inserts-then _ _ _ _ _ _ (c .before .before .before .before .before .before .before .before .loop .inv)
+    (c .before .inserted-places .ensures .0)
 
 returns : tie.Need-returns Inv-loop μ-loop
 returns c = inserts-end _ _ _ (c .before .loop .inv) (omega arith)

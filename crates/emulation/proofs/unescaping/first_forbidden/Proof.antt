@@ -18,8 +18,12 @@ add-t5 c = search needs
 
 returns-2 : tie.Need-returns-2
 returns-2 c =
-    let whole = lawful-then _ _ _ _ _ _ (c .before .before .before .lawful-blocks .ensures) (c .before .before .lawful-places .ensures .0) in
-    (lawful-first _ _ _ _ whole (c .before .before .lawful-places .ensures .1), lawful-dropped _ _ _ _ whole (c .before .before .lawful-places .ensures .1))
+    let whole = lawful-then _ _ _ _ _ _ (c .before .before .before .lawful-blocks .ensures)
+    (c .before .before .lawful-places .ensures .0) in (
+      lawful-first _ _ _ _ whole (c .before .before .lawful-places .ensures .1),
+      lawful-dropped _ _ _ _ whole
+          (c .before .before .lawful-places .ensures .1),
+    )
 
 pub first-forbidden-spec : {M : Type 1} → statement M
 first-forbidden-spec =

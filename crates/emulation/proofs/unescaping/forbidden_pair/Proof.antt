@@ -37,7 +37,8 @@ returns-3 c =
     let start = c .before .before .before .before in
     let s = start .args .s .now in
     let i = start .args .i in
-    sym (forbidden-behind s i (start .pre .0) (start .pre .1) ∙ simp (lt-leb _ _ (c .before .before .if1 .left), eq-eqb _ _ (c .before .if2 .left), above3-end s (i + 3) (omega arith)))
+    sym (forbidden-behind s i (start .pre .0) (start .pre .1)
+    ∙ simp (lt-leb _ _ (c .before .before .if1 .left), eq-eqb _ _ (c .before .if2 .left), above3-end s (i + 3) (omega arith)))
 
 add-result : tie.Need-add-result
 add-result c = search needs
@@ -50,7 +51,13 @@ returns-4 c =
     let start = c .before .before .before .before .before in
     let s = start .args .s .now in
     let i = start .args .i in
-    sym (forbidden-behind s i (start .pre .0) (start .pre .1) ∙ simp (lt-leb _ _ (c .before .before .before .if1 .left), eq-eqb _ _ (c .before .before .if2 .left), above3-at s (i + 3) (omega arith)))
+    sym (forbidden-behind s i (start .pre .0) (start .pre .1)
+    ∙ simp (
+      lt-leb _ _ (c .before .before .before .if1 .left),
+      eq-eqb _ _ (c .before .before .if2 .left),
+      above3-at s (i + 3)
+          (omega arith),
+    ))
 
 pub forbidden-pair-spec : {M : Type 1} → statement M
 forbidden-pair-spec =

@@ -35,7 +35,8 @@ loop-less c = omega arith
 
 loop-again : tie.Need-loop-again Inv-loop μ-loop
 loop-again c =
-    lawful-unpaired _ _ _ _ (c .before .before .before .loop .inv) (omega (arith, c .before .before .loop-test .taken)) (sym (c .before .pairs .ensures) ∙ c .if1 .taken)
+    lawful-unpaired _ _ _ _ (c .before .before .before .loop .inv) (omega (arith, c .before .before .loop-test .taken))
+    (sym (c .before .pairs .ensures) ∙ c .if1 .taken)
 
 forbids-requires : tie.Need-forbids-requires Inv-loop μ-loop
 forbids-requires c κs = search needs
@@ -62,8 +63,10 @@ loop-again-2 : tie.Need-loop-again-2 Inv-loop μ-loop
 loop-again-2 c =
     let start = c .before .before .before .before .before .before .before .before .before in
     let at = c .before .before .before .before .before .before .before .loop in
-    subst (λ (n : ℕ). Lawful (start .args .s .now) (start .args .i) (at .place + block) (at .count + n)) (sym (c .wide .ensures ∙ c .before .marks .ensures))
-    (lawful-block _ _ _ _ (at .inv) (omega (arith, c .before .before .before .before .before .before .loop-test .taken)) (sym (c .before .before .before .forbids .ensures) ∙ c .before .before .if2 .left))
+    subst (λ (n : ℕ). Lawful (start .args .s .now) (start .args .i) (at .place + block) (at .count + n))
+    (sym (c .wide .ensures ∙ c .before .marks .ensures))
+    (lawful-block _ _ _ _ (at .inv) (omega (arith, c .before .before .before .before .before .before .loop-test .taken))
+    (sym (c .before .before .before .forbids .ensures) ∙ c .before .before .if2 .left))
 
 returns-2 : tie.Need-returns-2 Inv-loop μ-loop
 returns-2 c = c .before .loop .inv

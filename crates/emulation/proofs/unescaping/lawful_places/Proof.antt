@@ -7,7 +7,8 @@ use lib.ListN.{length}
 use Rattle.emulation.specs.Parts.{Lawful}
 use Rattle.emulation.proofs.Steps.{first-found}
 use Rattle.emulation.proofs.Clean.{paired-of}
-use Rattle.emulation.proofs.Judging.{lawful-start, lawful-past-one, lawful-past-two, lawful-past-mark, lawful-past-three, lawful-rest, first-past}
+use Rattle.emulation.proofs.Judging.{lawful-start, lawful-past-one, lawful-past-two, lawful-past-mark, lawful-past-three}
+use Rattle.emulation.proofs.Judging.{lawful-rest, first-past}
 use Rattle.emulation.proofs.unescaping.lawful_places.Statement.{statement}
 use Rattle.emulation.proofs.unescaping.lawful_places.Tie as tie
 
@@ -58,8 +59,11 @@ forbidden-pair-requires c κs =
 
 returns : tie.Need-returns Inv-loop μ-loop
 returns c =
-    let at = c .before .before .before .before .before .before .before .loop in
-    (at .inv, first-found (c .before .before .before .before .before .before .before .before .before .before .args .s .now) (at .place) (omega arith) (sym (c .before .forbidden-pair .ensures) ∙ c .if3 .taken))
+    let at = c .before .before .before .before .before .before .before .loop in (
+      at .inv,
+      first-found (c .before .before .before .before .before .before .before .before .before .before .args .s .now) (at .place)
+          (omega arith) (sym (c .before .forbidden-pair .ensures) ∙ c .if3 .taken),
+    )
 
 add-if4 : tie.Need-add-if4 Inv-loop μ-loop
 add-if4 c = omega arith
@@ -80,8 +84,10 @@ loop-again-3 : tie.Need-loop-again-3 Inv-loop μ-loop
 loop-again-3 c =
     let s = c .before .before .before .before .before .before .before .before .before .before .before .before .args .s .now in
     let place = c .before .before .before .before .before .before .before .before .before .loop .place in
-    lawful-past-mark _ _ _ _ (c .before .before .before .before .before .before .before .before .before .loop .inv) (omega arith) (sym (c .before .before .before .forbidden-pair .ensures) ∙ c .before .before .if3 .left) (c .if4 .taken)
-    (paired-of s place (omega arith) (c .before .before .before .before .if2 .left) (c .before .before .before .before .before .before .if1 .left))
+    lawful-past-mark _ _ _ _ (c .before .before .before .before .before .before .before .before .before .loop .inv) (omega arith)
+    (sym (c .before .before .before .forbidden-pair .ensures) ∙ c .before .before .if3 .left) (c .if4 .taken)
+    (paired-of s place (omega arith) (c .before .before .before .before .if2 .left)
+    (c .before .before .before .before .before .before .if1 .left))
 
 add-place-4 : tie.Need-add-place-4 Inv-loop μ-loop
 add-place-4 c = omega arith
@@ -93,13 +99,18 @@ loop-again-4 : tie.Need-loop-again-4 Inv-loop μ-loop
 loop-again-4 c =
     let s = c .before .before .before .before .before .before .before .before .before .before .before .before .args .s .now in
     let place = c .before .before .before .before .before .before .before .before .before .loop .place in
-    lawful-past-three _ _ _ _ (c .before .before .before .before .before .before .before .before .before .loop .inv) (omega arith) (sym (c .before .before .before .forbidden-pair .ensures) ∙ c .before .before .if3 .left) (c .if4 .left)
-    (paired-of s place (omega arith) (c .before .before .before .before .if2 .left) (c .before .before .before .before .before .before .if1 .left))
+    lawful-past-three _ _ _ _ (c .before .before .before .before .before .before .before .before .before .loop .inv) (omega arith)
+    (sym (c .before .before .before .forbidden-pair .ensures) ∙ c .before .before .if3 .left) (c .if4 .left)
+    (paired-of s place (omega arith) (c .before .before .before .before .if2 .left)
+    (c .before .before .before .before .before .before .if1 .left))
 
 returns-2 : tie.Need-returns-2 Inv-loop μ-loop
 returns-2 c =
-    let start = c .before .before .before .before in
-    (lawful-rest _ _ _ _ (c .before .loop .inv) (omega (arith, c .before .before .places .ensures, c .loop-test .left)), first-past (start .args .s .now))
+    let start = c .before .before .before .before in (
+      lawful-rest _ _ _ _ (c .before .loop .inv) (omega (arith, c .before .before .places .ensures, c .loop-test .left)),
+      first-past
+          (start .args .s .now),
+    )
 
 pub lawful-places-spec : {M : Type 1} → statement M
 lawful-places-spec =

@@ -36,8 +36,16 @@ loop-holds c =
     let start = c .before .before .before in
     let b = getD (start .args .payload .now) (start .args .i) 0 in
     let l = length-set (start .args .out .now) (start .args .n) b in
-    let e : start .args .i ≡ start .args .i + 1 - 1 = omega arith in
-    (omega arith, omega (arith, start .pre .0), omega arith, omega arith, omega (arith, l), ap (λ (k : ℕ). getD (start .args .payload .now) k 0) e, writes-start _ _ _ (omega (arith, l, start .pre)))
+    let e : start .args .i ≡ start .args .i + 1 - 1 = omega arith in (
+      omega arith,
+      omega (arith, start .pre .0),
+      omega arith,
+      omega arith,
+      omega (arith, l),
+      ap
+          (λ (k : ℕ). getD (start .args .payload .now) k 0) e,
+      writes-start _ _ _ (omega (arith, l, start .pre)),
+    )
 
 shared-slice-read-b : tie.Need-shared-slice-read-b Inv-loop μ-loop
 shared-slice-read-b c = omega arith
@@ -52,7 +60,8 @@ keep-requires : tie.Need-keep-requires Inv-loop μ-loop
 keep-requires c κs = search needs
 
 slice-write-out-2 : tie.Need-slice-write-out-2 Inv-loop μ-loop
-slice-write-out-2 c = let at = c .before .before .before .before .loop in omega (arith, at .inv .3, at .inv .4, c .before .before .before .loop-test .taken)
+slice-write-out-2 c =
+    let at = c .before .before .before .before .loop in omega (arith, at .inv .3, at .inv .4, c .before .before .before .loop-test .taken)
 
 add-count-2 : tie.Need-add-count-2 Inv-loop μ-loop
 add-count-2 c =
@@ -76,7 +85,8 @@ loop-again c =
       omega (arith, at .inv .3, k),
       omega (arith, at .inv .4, l),
       ap (λ (j : ℕ). getD (start .args .payload .now) j 0) e,
-      run-step (start .args .payload .now) (at .p) (at .q) (at .place) _ _ (omega arith) (omega (arith, at .inv .3, at .inv .4)) (c .before .keep .ensures) (at .inv .6),
+      run-step (start .args .payload .now) (at .p) (at .q) (at .place) _ _ (omega arith) (omega (arith, at .inv .3, at .inv .4))
+          (c .before .keep .ensures) (at .inv .6),
     )
 
 same-length : tie.Need-same-length Inv-loop μ-loop

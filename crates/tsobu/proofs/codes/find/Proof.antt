@@ -38,7 +38,11 @@ loop-less c = omega arith
 loop-again : tie.Need-loop-again Inv-loop μ-loop
 loop-again c =
     let at = c .before .before .before .loop in
-    omega (arith, before-byte (c .before .before .before .before .before .before .before .args .s .now) (at .i) (omega arith) (sym (c .before .code-at .ensures) ∙ c .if2 .left))
+    omega (
+      arith,
+      before-byte (c .before .before .before .before .before .before .before .args .s .now) (at .i) (omega arith)
+          (sym (c .before .code-at .ensures) ∙ c .if2 .left),
+    )
 
 returns-3 : tie.Need-returns-3 Inv-loop μ-loop
 returns-3 c = omega (arith, before-end (c .before .before .before .before .before .args .s .now) (c .before .loop .i) (omega arith))

@@ -24,7 +24,10 @@ is-code-requires : tie.Need-is-code-requires
 is-code-requires c κs = search needs
 
 returns : tie.Need-returns
-returns c = c .is-code .ensures ∙ sym (code-at (c .before .before .before .before .before .args .s .now) (c .before .before .before .before .before .args .i) (c .before .before .before .before .before .pre))
+returns c =
+    c .is-code .ensures ∙ sym
+    (code-at (c .before .before .before .before .before .args .s .now) (c .before .before .before .before .before .args .i)
+    (c .before .before .before .before .before .pre))
 
 pub is-code-at-spec : {M : Type 1} → statement M
 is-code-at-spec =

@@ -23,14 +23,25 @@ coded-requires : tie.Need-coded-requires Inv-loop μ-loop
 coded-requires c κs = search needs
 
 add-i : tie.Need-add-i Inv-loop μ-loop
-add-i c = omega (arith, uncoded-passes (c .before .before .before .before .args .s .now) (c .before .before .loop .i) (sym (c .before .coded .ensures) ∙ not-true _ (c .if1 .taken)) .0)
+add-i c =
+    omega (
+      arith,
+      uncoded-passes (c .before .before .before .before .args .s .now) (c .before .before .loop .i)
+          (sym (c .before .coded .ensures) ∙ not-true _ (c .if1 .taken)) .0,
+    )
 
 loop-less : tie.Need-loop-less Inv-loop μ-loop
-loop-less c = omega (arith, uncoded-passes (c .before .before .before .before .args .s .now) (c .before .before .loop .i) (sym (c .before .coded .ensures) ∙ not-true _ (c .if1 .taken)) .0)
+loop-less c =
+    omega (
+      arith,
+      uncoded-passes (c .before .before .before .before .args .s .now) (c .before .before .loop .i)
+          (sym (c .before .coded .ensures) ∙ not-true _ (c .if1 .taken)) .0,
+    )
 
 loop-again : tie.Need-loop-again Inv-loop μ-loop
 loop-again c =
-    let p = uncoded-passes (c .before .before .before .before .args .s .now) (c .before .before .loop .i) (sym (c .before .coded .ensures) ∙ not-true _ (c .if1 .taken)) in
+    let p = uncoded-passes (c .before .before .before .before .args .s .now) (c .before .before .loop .i)
+    (sym (c .before .coded .ensures) ∙ not-true _ (c .if1 .taken)) in
     (p .0, omega (arith, p .1, c .before .before .loop .inv .1))
 
 returns : tie.Need-returns Inv-loop μ-loop

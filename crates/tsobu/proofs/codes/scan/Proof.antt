@@ -19,7 +19,8 @@ returns c =
     let s = start .args .unit .now in
     let first = c .before .first-forbidden in
     let place = first .result .place in
-    scan-legal s (start .args .start) place (first .result .count) (first .ensures .0) (first .ensures .1) 0 place (omega arith) (none-left s (start .args .start) place (first .result .count) (first .ensures .0) (first .ensures .1) (c .if1 .taken)) (omega arith)
+    scan-legal s (start .args .start) place (first .result .count) (first .ensures .0) (first .ensures .1) 0 place (omega arith)
+    (none-left s (start .args .start) place (first .result .count) (first .ensures .0) (first .ensures .1) (c .if1 .taken)) (omega arith)
 
 code-at-requires : tie.Need-code-at-requires
 code-at-requires c κs = omega (arith, c .if1 .left)
@@ -30,7 +31,8 @@ returns-2 c =
     let s = start .args .unit .now in
     let first = c .before .before .before .first-forbidden in
     let place = first .result .place in
-    scan-legal s (start .args .start) place (first .result .count) (first .ensures .0) (first .ensures .1) 0 place (omega arith) (before-code (drop place s) (sym (c .before .code-at .ensures) ∙ c .if2 .taken)) (omega arith)
+    scan-legal s (start .args .start) place (first .result .count) (first .ensures .0) (first .ensures .1) 0 place (omega arith)
+    (before-code (drop place s) (sym (c .before .code-at .ensures) ∙ c .if2 .taken)) (omega arith)
 
 add-code-at : tie.Need-add-code-at
 add-code-at c =
@@ -38,7 +40,11 @@ add-code-at c =
     let s = start .args .unit .now in
     let first = c .before .before .before .first-forbidden in
     let place = first .result .place in
-    omega (arith, scan-long s (start .args .start) place (first .result .count) (first .ensures .0) (first .ensures .1) (c .before .before .if1 .left))
+    omega (
+      arith,
+      scan-long s (start .args .start) place (first .result .count) (first .ensures .0) (first .ensures .1)
+          (c .before .before .if1 .left),
+    )
 
 code-at-requires-2 : tie.Need-code-at-requires-2
 code-at-requires-2 c κs =
@@ -46,7 +52,11 @@ code-at-requires-2 c κs =
     let s = start .args .unit .now in
     let first = c .before .before .before .first-forbidden in
     let place = first .result .place in
-    omega (arith, scan-long s (start .args .start) place (first .result .count) (first .ensures .0) (first .ensures .1) (c .before .before .if1 .left))
+    omega (
+      arith,
+      scan-long s (start .args .start) place (first .result .count) (first .ensures .0) (first .ensures .1)
+          (c .before .before .if1 .left),
+    )
 
 add-t10 : tie.Need-add-t10
 add-t10 c =
@@ -54,7 +64,11 @@ add-t10 c =
     let s = start .args .unit .now in
     let first = c .before .before .before .before .before .first-forbidden in
     let place = first .result .place in
-    omega (arith, scan-long s (start .args .start) place (first .result .count) (first .ensures .0) (first .ensures .1) (c .before .before .before .before .if1 .left))
+    omega (
+      arith,
+      scan-long s (start .args .start) place (first .result .count) (first .ensures .0) (first .ensures .1)
+          (c .before .before .before .before .if1 .left),
+    )
 
 returns-3 : tie.Need-returns-3
 returns-3 c =
@@ -62,7 +76,11 @@ returns-3 c =
     let s = start .args .unit .now in
     let first = c .before .before .before .before .before .first-forbidden in
     let place = first .result .place in
-    scan-legal s (start .args .start) place (first .result .count) (first .ensures .0) (first .ensures .1) 1 (place + 1) (omega arith) (one-left s (start .args .start) place (first .result .count) (first .ensures .0) (first .ensures .1) (scan-long s (start .args .start) place (first .result .count) (first .ensures .0) (first .ensures .1) (c .before .before .before .before .if1 .left)) (sym (c .before .before .before .code-at .ensures) ∙ c .before .before .if2 .left) (sym (c .before .code-at2 .ensures) ∙ c .if3 .taken)) refl
+    scan-legal s (start .args .start) place (first .result .count) (first .ensures .0) (first .ensures .1) 1 (place + 1) (omega arith)
+    (one-left s (start .args .start) place (first .result .count) (first .ensures .0) (first .ensures .1)
+    (scan-long s (start .args .start) place (first .result .count) (first .ensures .0) (first .ensures .1)
+    (c .before .before .before .before .if1 .left)) (sym (c .before .before .before .code-at .ensures) ∙ c .before .before .if2 .left)
+    (sym (c .before .code-at2 .ensures) ∙ c .if3 .taken)) refl
 
 add-code-at-2 : tie.Need-add-code-at-2
 add-code-at-2 c =
@@ -70,7 +88,11 @@ add-code-at-2 c =
     let s = start .args .unit .now in
     let first = c .before .before .before .before .before .first-forbidden in
     let place = first .result .place in
-    omega (arith, scan-long s (start .args .start) place (first .result .count) (first .ensures .0) (first .ensures .1) (c .before .before .before .before .if1 .left))
+    omega (
+      arith,
+      scan-long s (start .args .start) place (first .result .count) (first .ensures .0) (first .ensures .1)
+          (c .before .before .before .before .if1 .left),
+    )
 
 code-at-requires-3 : tie.Need-code-at-requires-3
 code-at-requires-3 c κs =
@@ -78,7 +100,11 @@ code-at-requires-3 c κs =
     let s = start .args .unit .now in
     let first = c .before .before .before .before .before .first-forbidden in
     let place = first .result .place in
-    omega (arith, scan-long s (start .args .start) place (first .result .count) (first .ensures .0) (first .ensures .1) (c .before .before .before .before .if1 .left))
+    omega (
+      arith,
+      scan-long s (start .args .start) place (first .result .count) (first .ensures .0) (first .ensures .1)
+          (c .before .before .before .before .if1 .left),
+    )
 
 add-t12 : tie.Need-add-t12
 add-t12 c =
@@ -86,7 +112,11 @@ add-t12 c =
     let s = start .args .unit .now in
     let first = c .before .before .before .before .before .before .before .first-forbidden in
     let place = first .result .place in
-    omega (arith, scan-long s (start .args .start) place (first .result .count) (first .ensures .0) (first .ensures .1) (c .before .before .before .before .before .before .if1 .left))
+    omega (
+      arith,
+      scan-long s (start .args .start) place (first .result .count) (first .ensures .0) (first .ensures .1)
+          (c .before .before .before .before .before .before .if1 .left),
+    )
 
 returns-4 : tie.Need-returns-4
 returns-4 c =
@@ -94,7 +124,13 @@ returns-4 c =
     let s = start .args .unit .now in
     let first = c .before .before .before .before .before .before .before .first-forbidden in
     let place = first .result .place in
-    scan-legal s (start .args .start) place (first .result .count) (first .ensures .0) (first .ensures .1) 2 (place + 2) (omega arith) (two-left s (start .args .start) place (first .result .count) (first .ensures .0) (first .ensures .1) (scan-long s (start .args .start) place (first .result .count) (first .ensures .0) (first .ensures .1) (c .before .before .before .before .before .before .if1 .left)) (sym (c .before .before .before .before .before .code-at .ensures) ∙ c .before .before .before .before .if2 .left) (sym (c .before .before .before .code-at2 .ensures) ∙ c .before .before .if3 .left) (sym (c .before .code-at3 .ensures) ∙ c .if4 .taken)) refl
+    scan-legal s (start .args .start) place (first .result .count) (first .ensures .0) (first .ensures .1) 2 (place + 2) (omega arith)
+    (two-left s (start .args .start) place (first .result .count) (first .ensures .0) (first .ensures .1)
+    (scan-long s (start .args .start) place (first .result .count) (first .ensures .0) (first .ensures .1)
+    (c .before .before .before .before .before .before .if1 .left))
+    (sym (c .before .before .before .before .before .code-at .ensures) ∙ c .before .before .before .before .if2 .left)
+    (sym (c .before .before .before .code-at2 .ensures) ∙ c .before .before .if3 .left)
+    (sym (c .before .code-at3 .ensures) ∙ c .if4 .taken)) refl
 
 find-requires : tie.Need-find-requires
 find-requires c κs = search needs
@@ -105,7 +141,13 @@ returns-5 c =
     let s = start .args .unit .now in
     let first = c .before .before .before .before .before .before .before .before .first-forbidden in
     let place = first .result .place in
-    scan-illegal s (start .args .start) place (first .result .count) (first .ensures .0) (first .ensures .1) _ (more-left s (start .args .start) place (first .result .count) (first .ensures .0) (first .ensures .1) (scan-long s (start .args .start) place (first .result .count) (first .ensures .0) (first .ensures .1) (c .before .before .before .before .before .before .before .if1 .left)) (sym (c .before .before .before .before .before .before .code-at .ensures) ∙ c .before .before .before .before .before .if2 .left) (sym (c .before .before .before .before .code-at2 .ensures) ∙ c .before .before .before .if3 .left) (sym (c .before .before .code-at3 .ensures) ∙ c .before .if4 .left)) (c .find .ensures)
+    scan-illegal s (start .args .start) place (first .result .count) (first .ensures .0) (first .ensures .1) _
+    (more-left s (start .args .start) place (first .result .count) (first .ensures .0) (first .ensures .1)
+    (scan-long s (start .args .start) place (first .result .count) (first .ensures .0) (first .ensures .1)
+    (c .before .before .before .before .before .before .before .if1 .left))
+    (sym (c .before .before .before .before .before .before .code-at .ensures) ∙ c .before .before .before .before .before .if2 .left)
+    (sym (c .before .before .before .before .code-at2 .ensures) ∙ c .before .before .before .if3 .left)
+    (sym (c .before .before .code-at3 .ensures) ∙ c .before .if4 .left)) (c .find .ensures)
 
 pub scan-spec : {M : Type 1} → statement M
 scan-spec =

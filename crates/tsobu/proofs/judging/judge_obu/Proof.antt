@@ -31,7 +31,8 @@ returns c =
     let u = undropped p (sym (start .pre) ∙ c .before .if1 .taken) in
     let all = take-all (length (unescape p) + 11) (unescape p) (omega arith) in
     c .judge-first .ensures
-    ∙ figures-short p p _ _ (length (unescape p) + 11) (omega arith) (sym u ∙ sym all) (omega (arith, start .pre, given-or-dropped p)) (start .pre)
+    ∙ figures-short p p _ _ (length (unescape p) + 11) (omega arith) (sym u ∙ sym all) (omega (arith, start .pre, given-or-dropped p))
+    (start .pre)
 
 slice-aggregate-unescape-prefix : tie.Need-slice-aggregate-unescape-prefix
 slice-aggregate-unescape-prefix c = search needs

@@ -36,8 +36,11 @@ returns-2 c =
     let start = c .before .before .before .before .before .before .before in
     let w = unescape (start .args .payload .now) in
     let o = start .args .out .now in
-    let e = take-all (length o) w (start .pre .1) in
-    (c .before .before .unescape-prefix .ensures .0 ∙ ap length e, c .before .before .unescape-prefix .ensures .1 ∙ ap (λ (l : Bytes). over l o) e)
+    let e = take-all (length o) w (start .pre .1) in (
+      c .before .before .unescape-prefix .ensures .0 ∙ ap length e,
+      c .before .before .unescape-prefix .ensures .1
+          ∙ ap (λ (l : Bytes). over l o) e,
+    )
 
 pub copy-obu-spec : {M : Type 1} → statement M
 copy-obu-spec =

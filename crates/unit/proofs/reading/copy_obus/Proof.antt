@@ -14,7 +14,8 @@ use Rattle.emulation.specs.Payload.{dropped as Payload·dropped}
 use Rattle.unit.specs.Unit.{sum, droppedIn}
 use Rattle.tsobu.specs.StartCodes.{payloads}
 use Rattle.tsobu.proofs.Places.{nextCode, payloadAt, next-fits}
-use Rattle.unit.proofs.Readings.{passing-code, passing-end, dropped-left, Copying, copying-start, copying-room, copying-place, copying-step, copying-done}
+use Rattle.unit.proofs.Readings.{passing-code, passing-end, dropped-left, Copying, copying-start, copying-room, copying-place}
+use Rattle.unit.proofs.Readings.{copying-step, copying-done}
 use Rattle.unit.proofs.reading.copy_obus.Statement.{statement}
 use Rattle.unit.proofs.reading.copy_obus.Tie as tie
 
@@ -26,25 +27,31 @@ abbrev μ-loop : tie.MeasureT-loop
 μ-loop unit count dropped ends out₀ lens₀ code₀ n₀ k₀ out lens code n k = count - k
 
 -- ---- in a turn
-left : (c : tie.In-loop Inv-loop μ-loop) → c .before .loop .k < length (payloads (c .before .before .before .before .before .args .unit .now))
+left : (c : tie.In-loop Inv-loop μ-loop)
+    → c .before .loop .k < length (payloads (c .before .before .before .before .before .args .unit .now))
 left c = let start = c .before .before .before .before .before in omega (arith, c .loop-test .taken, start .pre .0 .1)
 
 few : (c : tie.In-loop Inv-loop μ-loop) → c .before .loop .k < 64
 few c = let start = c .before .before .before .before .before in omega (arith, c .loop-test .taken, start .pre .0 .2)
 
 end-is : (c : tie.In-loop Inv-loop μ-loop)
-    → getD (c .before .before .before .before .before .args .ends .now) (c .before .loop .k) 0 ≡ nextCode (c .before .before .before .before .before .args .unit .now) (c .before .loop .code)
+    → getD (c .before .before .before .before .before .args .ends .now) (c .before .loop .k) 0
+    ≡ nextCode (c .before .before .before .before .before .args .unit .now) (c .before .loop .code)
 end-is c = passing-end (c .before .loop .inv .0 .passing) (left c)
 
 fits : (c : tie.In-loop Inv-loop μ-loop)
-    → nextCode (c .before .before .before .before .before .args .unit .now) (c .before .loop .code) ≤ length (c .before .before .before .before .before .args .unit .now)
-fits c = next-fits (c .before .before .before .before .before .args .unit .now) (c .before .loop .code) (passing-code (c .before .loop .inv .0 .passing) (left c))
+    → nextCode (c .before .before .before .before .before .args .unit .now) (c .before .loop .code) ≤ length
+    (c .before .before .before .before .before .args .unit .now)
+fits c =
+    next-fits (c .before .before .before .before .before .args .unit .now) (c .before .loop .code)
+    (passing-code (c .before .loop .inv .0 .passing) (left c))
 
 -- the lent part is the payload
 lent : (c : tie.In-loop Inv-loop μ-loop)
     → let s = c .before .before .before .before .before .args .unit .now in
     let code = c .before .loop .code in
-    take (getD (c .before .before .before .before .before .args .ends .now) (c .before .loop .k) 0 - (code + 3)) (drop (code + 3) s) ≡ payloadAt s code
+    take (getD (c .before .before .before .before .before .args .ends .now) (c .before .loop .k) 0 - (code + 3)) (drop (code + 3) s)
+    ≡ payloadAt s code
 lent c =
     let s = c .before .before .before .before .before .args .unit .now in
     let code = c .before .loop .code in
@@ -53,7 +60,8 @@ lent c =
 loop-holds : tie.Need-loop-holds Inv-loop μ-loop
 loop-holds c =
     let start = c .before .before .before in (
-      copying-start (start .args .unit .now) (start .args .ends .now) _ _ (start .pre .0 .0) (ap (λ (n : ℕ). take n (start .args .ends .now)) (sym (start .pre .0 .1)) ∙ start .pre .0 .3),
+      copying-start (start .args .unit .now) (start .args .ends .now) _ _ (start .pre .0 .0)
+          (ap (λ (n : ℕ). take n (start .args .ends .now)) (sym (start .pre .0 .1)) ∙ start .pre .0 .3),
       omega arith,
     )
 
@@ -86,7 +94,9 @@ part-copy-obu-end-2 c = search needs
 
 -- the whole OBU has room
 fitting : (c : tie.In-loop Inv-loop μ-loop)
-    → c .before .loop .n + length (unescape (payloadAt (c .before .before .before .before .before .args .unit .now) (c .before .loop .code))) ≤ length (c .before .loop .out)
+    → c .before .loop .n + length
+    (unescape (payloadAt (c .before .before .before .before .before .args .unit .now) (c .before .loop .code))) ≤ length
+    (c .before .loop .out)
 fitting c =
     let start = c .before .before .before .before .before in
     copying-room (c .before .loop .inv .0) (left c) (start .pre .1 .0) (omega (arith, start .pre .0 .1, start .pre .1 .1))
@@ -101,8 +111,14 @@ copy-obu-requires c κs =
       λ e.
           ap Payload·dropped (lent i)
           ∙ omega (arith, at .inv .1, start .pre .0 .4, dropped-left s (at .code) (passing-code (at .inv .0 .passing) (left i))),
-      omega
-          (arith, fitting i, ap (λ (p : Bytes). length (unescape p)) (lent i), ap length (tail-lent (at .n) (at .out) (at .inv .0 .bytes .within)), length-drop (at .n) (at .out)),
+      omega (
+        arith,
+        fitting i,
+        ap (λ (p : Bytes). length (unescape p)) (lent i),
+        ap length
+            (tail-lent (at .n) (at .out) (at .inv .0 .bytes .within)),
+        length-drop (at .n) (at .out),
+      ),
     )
 
 -- ---- what the call gave
@@ -153,9 +169,11 @@ loop-again c =
     let at = i .before .loop in
     let r = c .before .before .copy-obu .result in
     let s = start .args .unit .now in (
-      subst₂ (λ (o : Bytes) (e : ℕ). Copying s (start .args .ends .now) (start .args .out .now) (start .args .lens .now) o (set (at .lens) (at .k) r) e (at .n + r) (at .k + 1))
+      subst₂ (λ (o : Bytes) (e : ℕ). Copying s (start .args .ends .now) (start .args .out .now) (start .args .lens .now) o
+          (set (at .lens) (at .k) r) e (at .n + r) (at .k + 1))
           (sym (written (c .before .before))) (sym (end-is i))
-          (copying-step (at .inv .0) (left i) (start .pre .1 .0) (omega (arith, start .pre .0 .1, start .pre .1 .1)) r (called (c .before .before))),
+          (copying-step (at .inv .0) (left i) (start .pre .1 .0) (omega (arith, start .pre .0 .1, start .pre .1 .1)) r
+          (called (c .before .before))),
       subst (λ (e : ℕ). sum (map Payload·dropped (payloads (drop e s))) ≤ droppedIn s) (sym (end-is i))
           (omega (arith, at .inv .1, dropped-left s (at .code) (passing-code (at .inv .0 .passing) (left i)))),
     )
@@ -167,7 +185,9 @@ same-length-2 : tie.Need-same-length-2 Inv-loop μ-loop
 same-length-2 c = c .before .loop .inv .0 .lengths .long
 
 returns : tie.Need-returns Inv-loop μ-loop
-returns c = copying-done (c .before .loop .inv .0) (let start = c .before .before .before .before .before in omega (arith, start .pre .0 .1, c .loop-test .left))
+returns c =
+    copying-done (c .before .loop .inv .0)
+    (let start = c .before .before .before .before .before in omega (arith, start .pre .0 .1, c .loop-test .left))
 
 pub copy-obus-spec : {M : Type 1} → statement M
 copy-obus-spec =

@@ -29,14 +29,18 @@ abbrev μ-loop : tie.MeasureT-loop
 μ-loop unit ends₀ widths₀ kinds₀ bytes₀ dropped₀ code₀ count₀ ends widths kinds bytes dropped code count = length unit - code
 
 -- ---- in a turn, behind the verdict on its payload
-end-is : (c : tie.After-judge-from Inv-loop μ-loop) → c .judge-from .result .end ≡ nextCode (c .before .before .before .before .before .args .unit .now) (c .before .before .before .loop .code)
+end-is : (c : tie.After-judge-from Inv-loop μ-loop)
+    → c .judge-from .result .end
+    ≡ nextCode (c .before .before .before .before .before .args .unit .now) (c .before .before .before .loop .code)
 end-is c = c .judge-from .ensures .0
 
-here : (c : tie.After-judge-from Inv-loop μ-loop) → atStartCode (drop (c .before .before .before .loop .code) (c .before .before .before .before .before .args .unit .now)) ≡ true
+here : (c : tie.After-judge-from Inv-loop μ-loop)
+    → atStartCode (drop (c .before .before .before .loop .code) (c .before .before .before .before .before .args .unit .now)) ≡ true
 here c = ending-code (c .before .before .before .loop .inv .ending) (c .before .before .loop-test .taken)
 
 fits : (c : tie.After-judge-from Inv-loop μ-loop)
-    → nextCode (c .before .before .before .before .before .args .unit .now) (c .before .before .before .loop .code) ≤ length (c .before .before .before .before .before .args .unit .now)
+    → nextCode (c .before .before .before .before .before .args .unit .now) (c .before .before .before .loop .code) ≤ length
+    (c .before .before .before .before .before .args .unit .now)
 fits c = next-fits (c .before .before .before .before .before .args .unit .now) (c .before .before .before .loop .code) (here c)
 
 few : (c : tie.After-judge-from Inv-loop μ-loop) → c .before .before .before .loop .count < 64
@@ -44,8 +48,12 @@ few c = omega (arith, c .before .if1 .left)
 
 -- what was said of the payload
 said : (c : tie.After-judge-from Inv-loop μ-loop)
-    → tsobuSays (c .judge-from .result .tsobu) ≡ tsobuFigures (payloadAt (c .before .before .before .before .before .args .unit .now) (c .before .before .before .loop .code))
-said c = c .judge-from .ensures .1 ∙ ap tsobuFigures (sym (payload-is (c .before .before .before .before .before .args .unit .now) (c .before .before .before .loop .code)))
+    → tsobuSays (c .judge-from .result .tsobu)
+    ≡ tsobuFigures (payloadAt (c .before .before .before .before .before .args .unit .now) (c .before .before .before .loop .code))
+said c =
+    c .judge-from .ensures .1
+    ∙ ap tsobuFigures (sym
+    (payload-is (c .before .before .before .before .before .args .unit .now) (c .before .before .before .loop .code)))
 
 -- a payload that passed
 fine : (c : tie.After-judge-from Inv-loop μ-loop) (f : Figures) → c .judge-from .result .tsobu ≡ TsObu.Passed f
@@ -62,7 +70,8 @@ fewer c f e =
 
 -- the payloads of the unit, counted: those before this one, it, and those behind it
 counted : (c : tie.After-judge-from Inv-loop μ-loop)
-    → c .before .before .before .loop .count + 1 + length (payloads (drop (c .judge-from .result .end) (c .before .before .before .before .before .args .unit .now)))
+    → c .before .before .before .loop .count + 1 + length
+    (payloads (drop (c .judge-from .result .end) (c .before .before .before .before .before .args .unit .now)))
     ≡ length (payloads (c .before .before .before .before .before .args .unit .now))
 counted c =
     let s = c .before .before .before .before .before .args .unit .now in
@@ -77,12 +86,17 @@ stopped-requires c κs = search needs
 
 returns : tie.Need-returns Inv-loop μ-loop
 returns c =
-    refused-judges _ _ _ (c .stopped .ensures) (judging-past (c .before .before .before .loop .inv) (c .before .before .loop-test .taken) (c .before .if1 .taken))
+    refused-judges _ _ _ (c .stopped .ensures)
+    (judging-past (c .before .before .before .loop .inv) (c .before .before .loop-test .taken) (c .before .if1 .taken))
 
 add-start : tie.Need-add-start Inv-loop μ-loop
 add-start c =
     let s = c .before .before .before .before .args .unit .now in
-    omega (arith, code-fits s (c .before .before .loop .code) (ending-code (c .before .before .loop .inv .ending) (c .before .loop-test .taken)))
+    omega (
+      arith,
+      code-fits s (c .before .before .loop .code)
+          (ending-code (c .before .before .loop .inv .ending) (c .before .loop-test .taken)),
+    )
 
 judge-from-requires : tie.Need-judge-from-requires Inv-loop μ-loop
 judge-from-requires c κs = search needs
@@ -117,11 +131,13 @@ returns-3 : tie.Need-returns-3 Inv-loop μ-loop
 returns-3 c =
     let i = c .before .before .before .before .before .before .before in
     let at = i .before .before .before .loop in
-    let n = at .count + 1 + length (payloads (drop (i .judge-from .result .end) (i .before .before .before .before .before .args .unit .now))) in
+    let n = at .count + 1 + length
+    (payloads (drop (i .judge-from .result .end) (i .before .before .before .before .before .args .unit .now))) in
     let most = ltb-false mostObus n (sym (c .before .before .before .too-many .ensures) ∙ c .before .before .if2 .left) in
     let r = tsobu-refused _ _ _ (said i) (c .before .before .before .before .before .judged .given .1) in
     refused-judges _ _ _ (c .stopped3 .ensures)
-    (judging-refused (at .inv) (i .before .before .loop-test .taken) (c .before .before .before .before .before .judged .given .0 .0) r (omega (arith, counted i, most)))
+    (judging-refused (at .inv) (i .before .before .loop-test .taken) (c .before .before .before .before .before .judged .given .0 .0) r
+    (omega (arith, counted i, most)))
 
 enum-known-judged-2 : tie.Need-enum-known-judged-2 Inv-loop μ-loop
 enum-known-judged-2 c = search needs
@@ -139,33 +155,59 @@ mul-widths : tie.Need-mul-widths Inv-loop μ-loop
 mul-widths c = omega (arith, few (c .before .before .before .before .before .before))
 
 element-write-widths : tie.Need-element-write-widths Inv-loop μ-loop
-element-write-widths c = omega (arith, few (c .before .before .before .before .before .before), c .before .before .before .before .before .before .before .before .before .loop .inv .widths-noted .long)
+element-write-widths c =
+    omega (
+      arith,
+      few (c .before .before .before .before .before .before),
+      c .before .before .before .before .before .before .before .before .before .loop .inv .widths-noted .long,
+    )
 
 mul-ends : tie.Need-mul-ends Inv-loop μ-loop
 mul-ends c = omega (arith, few (c .before .before .before .before .before .before))
 
 element-write-ends : tie.Need-element-write-ends Inv-loop μ-loop
-element-write-ends c = omega (arith, few (c .before .before .before .before .before .before), c .before .before .before .before .before .before .before .before .before .loop .inv .ending .long)
+element-write-ends c =
+    omega (
+      arith,
+      few (c .before .before .before .before .before .before),
+      c .before .before .before .before .before .before .before .before .before .loop .inv .ending .long,
+    )
 
 sub-bytes : tie.Need-sub-bytes Inv-loop μ-loop
 sub-bytes c = omega (arith, end-is (c .before .before .before .before .before .before))
 
 sub-bytes-2 : tie.Need-sub-bytes-2 Inv-loop μ-loop
-sub-bytes-2 c = omega (arith, fewer (c .before .before .before .before .before .before .before) _ (c .before .before .before .before .before .judged2 .given .1))
+sub-bytes-2 c =
+    omega (
+      arith,
+      fewer (c .before .before .before .before .before .before .before) _
+          (c .before .before .before .before .before .judged2 .given .1),
+    )
 
 add-bytes : tie.Need-add-bytes Inv-loop μ-loop
-add-bytes c = let i = c .before .before .before .before .before .before .before in omega (arith, end-is i, fits i, i .before .before .before .loop .inv .small)
+add-bytes c =
+    let i = c .before .before .before .before .before .before .before in omega
+    (arith, end-is i, fits i, i .before .before .before .loop .inv .small)
 
 add-dropped : tie.Need-add-dropped Inv-loop μ-loop
 add-dropped c =
     let i = c .before .before .before .before .before .before .before .before in
-    omega (arith, end-is i, fits i, i .before .before .before .loop .inv .small, fewer i _ (c .before .before .before .before .before .before .judged2 .given .1))
+    omega (
+      arith,
+      end-is i,
+      fits i,
+      i .before .before .before .loop .inv .small,
+      fewer i _
+          (c .before .before .before .before .before .before .judged2 .given .1),
+    )
 
 add-count : tie.Need-add-count Inv-loop μ-loop
 add-count c = omega (arith, few (c .before .before .before .before .before .before .before .before))
 
 loop-less : tie.Need-loop-less Inv-loop μ-loop
-loop-less c = let i = c .before .before .before .before .before .before .before .before in omega (arith, end-is i, fits i, i .before .before .loop-test .taken)
+loop-less c =
+    let i = c .before .before .before .before .before .before .before .before in omega
+    (arith, end-is i, fits i, i .before .before .loop-test .taken)
 
 loop-again : tie.Need-loop-again Inv-loop μ-loop
 loop-again c =
@@ -179,7 +221,9 @@ loop-again c =
     (λ (e : ℕ). Judging s (set (at .ends) (at .count) e) (set (at .kinds) (at .count) kind) (set (at .widths) (at .count) width)
     (at .bytes + (e - (at .code + 3) - f .dropped)) (at .dropped + f .dropped) e (at .count + 1))
     (sym (end-is i))
-    (judging-step (at .inv) (i .before .before .loop-test .taken) f (fine i f (c .before .before .before .before .before .before .judged2 .given .1)) (few i) kind width (c .before .before .before .kind-number .ensures)
+    (judging-step (at .inv) (i .before .before .loop-test .taken) f
+    (fine i f (c .before .before .before .before .before .before .judged2 .given .1)) (few i) kind width
+    (c .before .before .before .kind-number .ensures)
     (c .before .before .size-bytes .ensures))
 
 returns-4 : tie.Need-returns-4 Inv-loop μ-loop

@@ -28,12 +28,17 @@ refusal-requires-2 c κs = search needs
 
 returns-2 : tie.Need-returns-2
 returns-2 c =
-    let k = check-headless _ (c .before .before .before .if1 .left) (sym (c .before .before .at-start-code .ensures) ∙ not-true _ (c .before .if2 .taken)) in
+    let k = check-headless _ (c .before .before .before .if1 .left)
+    (sym (c .before .before .at-start-code .ensures) ∙ not-true _ (c .before .if2 .taken)) in
     (ap readSays (c .refusal2 .ensures) ∙ k, refused-notes _ _ _ 9 0 k)
 
 judge-payloads-requires : tie.Need-judge-payloads-requires
-judge-payloads-requires c κs =
-    (sym (c .before .before .before .at-start-code .ensures) ∙ not-false _ (c .before .before .if2 .left), c .before .before .before .before .before .before .pre .0, c .before .before .before .before .before .before .pre .1)
+judge-payloads-requires c κs = (
+  sym (c .before .before .before .at-start-code .ensures)
+      ∙ not-false _ (c .before .before .if2 .left),
+  c .before .before .before .before .before .before .pre .0,
+  c .before .before .before .before .before .before .pre .1,
+)
 
 enum-known-found : tie.Need-enum-known-found
 enum-known-found c = search needs
@@ -44,8 +49,10 @@ enum-told c = search needs
 returns-3 : tie.Need-returns-3
 returns-3 c =
     let e = ap readSays (c .enum-told .given .1) in
-    let headed = sym (c .before .before .before .before .before .before .at-start-code .ensures) ∙ not-false _ (c .before .before .before .before .before .if2 .left) in
-    let k = counted-refused _ (c .before .before .before .before .before .before .before .if1 .left) headed _ _ (sym e ∙ c .before .before .judge-payloads .ensures .found) in
+    let headed = sym (c .before .before .before .before .before .before .at-start-code .ensures)
+    ∙ not-false _ (c .before .before .before .before .before .if2 .left) in
+    let k = counted-refused _ (c .before .before .before .before .before .before .before .if1 .left) headed _ _
+    (sym e ∙ c .before .before .judge-payloads .ensures .found) in
     (e ∙ k, refused-notes _ _ _ _ _ k)
 
 judge-whole-requires : tie.Need-judge-whole-requires
@@ -60,10 +67,12 @@ returns-4 c =
     let s = c .before .before .before .before .before .before .before .before .before .before .before .before .args .unit .now in
     let e = ap readSays (c .before .before .before .found .given .1) in
     let judged = c .before .before .before .before .before .judge-payloads .ensures in
-    let headed = sym (c .before .before .before .before .before .before .before .before .before .at-start-code .ensures) ∙ not-false _ (c .before .before .before .before .before .before .before .before .if2 .left) in
+    let headed = sym (c .before .before .before .before .before .before .before .before .before .at-start-code .ensures)
+    ∙ not-false _ (c .before .before .before .before .before .before .before .before .if2 .left) in
     let f = sym e ∙ judged .found in
     let p = counted-passed s _ f in
-    let k = check-whole s (c .before .before .before .before .before .before .before .before .before .before .if1 .left) headed (p .0) _ _ (p .1) (judged .kinds _ (sym f)) in
+    let k = check-whole s (c .before .before .before .before .before .before .before .before .before .before .if1 .left) headed (p .0) _ _
+    (p .1) (judged .kinds _ (sym f)) in
     (c .judge-whole .ensures ∙ k, whole-notes s _ _ _ _ k (counts-obus s _ (p .1)) (judged .ends _ (sym f)) (judged .widths _ (sym f)))
 
 pub judge-unit-spec : {M : Type 1} → statement M

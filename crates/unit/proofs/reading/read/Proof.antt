@@ -14,7 +14,9 @@ use Rattle.unit.proofs.reading.read.Statement.{statement}
 use Rattle.unit.proofs.reading.read.Tie as tie
 
 -- an accepted unit
-accepted : (c : tie.After-known-told) → checking (c .before .before .before .before .before .before .before .before .before .before .args .unit .now) ≡ passed (c .before .answer .given .0 .0)
+accepted : (c : tie.After-known-told)
+    → checking (c .before .before .before .before .before .before .before .before .before .before .args .unit .now)
+    ≡ passed (c .before .answer .given .0 .0)
 accepted c = sym (c .before .before .before .judge-unit .ensures .0) ∙ ap readSays (c .before .answer .given .1)
 
 -- the rooms, where they are not too short
@@ -60,8 +62,10 @@ copy-obus-requires c κs =
     let told = c .before .before .before .before .before in
     let k = accepted told in
     let a = checked _ _ k in
-    let r = room (c .before .before .before) in
-    ((a .headed, a .obus, a .few, told .before .before .before .judge-unit .ensures .1 .ends _ k, a .drops), (omega (arith, a .bytes, r .0), r .1))
+    let r = room (c .before .before .before) in (
+      (a .headed, a .obus, a .few, told .before .before .before .judge-unit .ensures .1 .ends _ k, a .drops),
+      (omega (arith, a .bytes, r .0), r .1),
+    )
 
 copy-widths-requires : tie.Need-copy-widths-requires
 copy-widths-requires c κs =

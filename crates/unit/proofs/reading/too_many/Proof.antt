@@ -22,7 +22,12 @@ returns : tie.Need-returns Inv-loop μ-loop
 returns c = counting-past (c .before .before .loop .inv) (c .before .loop-test .taken) (c .if1 .taken)
 
 add-find : tie.Need-add-find Inv-loop μ-loop
-add-find c = omega (arith, code-fits (c .before .before .before .before .args .unit .now) (c .before .before .loop .code) (place-code _ _ (c .before .before .loop .inv .place) (c .before .loop-test .taken)))
+add-find c =
+    omega (
+      arith,
+      code-fits (c .before .before .before .before .args .unit .now) (c .before .before .loop .code)
+          (place-code _ _ (c .before .before .loop .inv .place) (c .before .loop-test .taken)),
+    )
 
 find-requires : tie.Need-find-requires Inv-loop μ-loop
 find-requires c κs = search needs

@@ -25,7 +25,8 @@ returns c =
     let lens = start .args .lens .now in
     let bytes = start .args .obus .now in
     sym
-    (le-leb (length (carried (obusOf lens bytes))) (start .args .room) (omega (arith, c .if1 .taken, carried-bound lens bytes (start .pre .2))))
+    (le-leb (length (carried (obusOf lens bytes))) (start .args .room)
+    (omega (arith, c .if1 .taken, carried-bound lens bytes (start .pre .2))))
 
 carried-length-requires : tie.Need-carried-length-requires
 carried-length-requires c κs = c .before .before .before .pre

@@ -18,7 +18,8 @@ refuse-requires c κs = search needs
 returns : tie.Need-returns
 returns c =
     let start = c .before .before .before .before .before in
-    refused-answer (start .args .lens .now) (start .args .obus .now) (start .args .out .now) 1 0 (c .refuse .ensures) (no-obu _ _ (c .before .if1 .taken))
+    refused-answer (start .args .lens .now) (start .args .obus .now) (start .args .out .now) 1 0 (c .refuse .ensures)
+    (no-obu _ _ (c .before .if1 .taken))
 
 refuse-requires-2 : tie.Need-refuse-requires-2
 refuse-requires-2 c κs = search needs
@@ -26,7 +27,8 @@ refuse-requires-2 c κs = search needs
 returns-2 : tie.Need-returns-2
 returns-2 c =
     let start = c .before .before .before .before .before .before in
-    refused-answer (start .args .lens .now) (start .args .obus .now) (start .args .out .now) 1 0 (c .refuse2 .ensures) (too-many _ _ (omega arith))
+    refused-answer (start .args .lens .now) (start .args .obus .now) (start .args .out .now) 1 0 (c .refuse2 .ensures)
+    (too-many _ _ (omega arith))
 
 refuse-requires-3 : tie.Need-refuse-requires-3
 refuse-requires-3 c κs = search needs
