@@ -6,16 +6,12 @@ mod descriptor;
 mod explain;
 mod list;
 mod mastering;
+mod mux;
 mod packet;
 mod payload;
-mod units;
-
-#[cfg(feature = "queue")]
-mod mux;
-#[cfg(feature = "salvage")]
 mod salvage;
-#[cfg(feature = "sheet")]
 mod sheet;
+mod units;
 
 use crate::args::{Args, Shape};
 use crate::failure::{Done, Failure, fail};
@@ -57,15 +53,11 @@ pub const COMMANDS: &[Command] = &[
     list::LIST,
     payload::ESCAPE,
     payload::UNESCAPE,
-    #[cfg(feature = "salvage")]
     salvage::SALVAGE,
     descriptor::DESCRIPTOR,
     mastering::MASTERING,
-    #[cfg(feature = "queue")]
     mux::MUX,
-    #[cfg(feature = "sheet")]
     sheet::SHEET,
-    #[cfg(feature = "sheet")]
     sheet::SEEK,
     buffer::BUFFER,
     packet::PACKET,

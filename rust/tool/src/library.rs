@@ -1,10 +1,7 @@
 //! The proved library. All that the tool judges is judged here, and nothing else calls the binding.
 
-#[cfg(feature = "queue")]
 pub mod queue;
-#[cfg(feature = "salvage")]
 pub mod salvage;
-#[cfg(feature = "sheet")]
 pub mod sheet;
 
 use av1ts::{descriptor, mastering, payload, replay, segment, unit, walk};
@@ -103,7 +100,6 @@ pub fn check(edition: Edition, packets: &[u8]) -> Checked {
     }
 }
 
-#[cfg(feature = "edition")]
 fn check_in(
     edition: Edition,
     packets: &[u8],
@@ -114,23 +110,11 @@ fn check_in(
     segment::check_segment_edition(edition_number(edition), packets, out, lengths, times)
 }
 
-#[cfg(feature = "edition")]
 fn edition_number(edition: Edition) -> u64 {
     match edition {
         Edition::Current => 0,
         Edition::Draft => 1,
     }
-}
-
-#[cfg(not(feature = "edition"))]
-fn check_in(
-    _edition: Edition,
-    packets: &[u8],
-    out: &mut [u8],
-    lengths: &mut [usize],
-    times: &mut [u64],
-) -> Segment {
-    segment::check_segment(packets, out, lengths, times)
 }
 
 /// The figures of a unit that reading accepts.
@@ -169,7 +153,6 @@ pub fn read_unit(carried: &[u8]) -> Result<Vec<Vec<u8>>, Refused> {
 }
 
 /// The carried unit of OBUs.
-#[cfg(feature = "queue")]
 pub fn write_unit(obus: &[Vec<u8>]) -> Result<Vec<u8>, Refused> {
     let lengths: Vec<usize> = obus.iter().map(Vec::len).collect();
     let together = obus.concat();

@@ -368,12 +368,6 @@ pub fn name(number: u64) -> &'static str {
     of(number).map_or("no number of the library", |entry| entry.name)
 }
 
-/// What 24 adds where the library accepts a repeated packet.
-pub fn repeats() -> &'static str {
-    if cfg!(feature = "repeat") {
-        "A packet with payload may be sent twice in a row on its PID, all bytes equal but the PCR; \
-         a third copy is refused."
-    } else {
-        ""
-    }
-}
+/// What 24 adds: the library accepts a repeated packet.
+pub const REPEATS: &str = "A packet with payload may be sent twice in a row on its PID, all bytes equal but the PCR; \
+     a third copy is refused.";

@@ -9,8 +9,7 @@ pub use unit::of_unit;
 use super::is_of_unit;
 use super::piece::Piece;
 use crate::library::{Edition, Refused};
-use crate::reading::packet::{SIZE, packet};
-use crate::reading::scan::Scan;
+use crate::reading::packet::SIZE;
 
 /// The hints of a refusal, mostly none.
 pub fn hints(piece: &Piece, edition: Edition, refused: Refused) -> Vec<String> {
@@ -19,7 +18,6 @@ pub fn hints(piece: &Piece, edition: Edition, refused: Refused) -> Vec<String> {
     match refused.number {
         20 => hints.extend(length(piece)),
         21 => hints.extend(format::sync(piece, place)),
-        24 => hints.extend(counter(piece, place, edition)),
         25 => hints.extend(streams::programs(piece, place)),
         28 => hints.extend(streams::av1(piece, place, edition)),
         29 => hints.extend(streams::start(piece, place)),
@@ -55,14 +53,4 @@ fn cut(piece: &Piece, count: u64) -> String {
         "check it in parts: --packets {from}..{0}, then --packets {0}.. --trim",
         from + count
     )
-}
-
-/// A step back in the counter that fits another stream's packets.
-fn counter(piece: &Piece, place: usize, edition: Edition) -> Option<String> {
-    let scan = Scan::over(&piece.bytes, place, edition);
-    let here = packet(&piece.bytes, place);
-    if scan.copies(&piece.bytes, here) > 0 && !cfg!(feature = "repeat") {
-        return Some("a remultiplexer sent the packet twice".to_string());
-    }
-    None
 }

@@ -46,8 +46,8 @@ fn refused(shown: &Shown) -> String {
     let mut text = String::new();
     if let Some(entry) = refusals::of(shown.refused.number) {
         text.push_str(&wrapped("rule: ", entry.rule));
-        if entry.number == 24 && !refusals::repeats().is_empty() {
-            text.push_str(&wrapped("      ", refusals::repeats()));
+        if entry.number == 24 {
+            text.push_str(&wrapped("      ", refusals::REPEATS));
         }
     }
     if !shown.found.is_empty() {

@@ -118,8 +118,7 @@ impl Options {
 fn edition(name: Option<&str>) -> Result<Edition, Failure> {
     match name {
         None | Some("current") => Ok(Edition::Current),
-        Some("draft") if cfg!(feature = "edition") => Ok(Edition::Draft),
-        Some("draft") => fail("--edition: the library of this build knows no draft"),
+        Some("draft") => Ok(Edition::Draft),
         Some(other) => fail(format!("--edition: {other} is neither current nor draft")),
     }
 }

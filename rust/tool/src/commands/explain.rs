@@ -46,8 +46,8 @@ fn run(args: &Args, screen: &mut Screen) -> Done {
 fn text(entry: &Entry) -> String {
     let mut text = format!("{}: {}\n", entry.number, entry.name);
     text.push_str(&wrapped("rule:  ", entry.rule));
-    if entry.number == 24 && !refusals::repeats().is_empty() {
-        text.push_str(&wrapped("       ", refusals::repeats()));
+    if entry.number == 24 {
+        text.push_str(&wrapped("       ", refusals::REPEATS));
     }
     let place = if entry.place.is_empty() {
         "0"

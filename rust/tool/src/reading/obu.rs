@@ -85,7 +85,6 @@ impl Header {
     }
 
     /// Whether it begins a key frame.
-    #[cfg(feature = "queue")]
     pub fn key(&self, obu: &[u8]) -> bool {
         matches!(self.kind, 3 | 6) && byte(self.content(obu), 0) & 0xE0 == 0
     }

@@ -69,9 +69,6 @@ fn codec(stream_type: u8) -> Option<&'static str> {
 /// What a recording of the draft period is told.
 fn draft(piece: &Piece) -> String {
     let known = "the registration is 'AV1 ', that of the 2018 draft";
-    if !cfg!(feature = "edition") {
-        return known.to_string();
-    }
     let again = library::check(Edition::Draft, &piece.bytes).segment;
     match again.number {
         0 => format!("{known}: refused as current, and accepted by --edition draft"),
@@ -99,7 +96,7 @@ pub fn start(piece: &Piece, place: usize) -> Option<String> {
 
 /// 30: a unit without times.
 pub fn untimed(piece: &Piece, edition: Edition) -> Option<String> {
-    if edition == Edition::Draft || !cfg!(feature = "edition") {
+    if edition == Edition::Draft {
         return None;
     }
     let again = library::check(Edition::Draft, &piece.bytes).segment;
