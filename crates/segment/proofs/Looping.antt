@@ -1,15 +1,12 @@
 -- The loop over the packets: k packets have passed, and the run of the rest from here is the whole run (`Running`). Assumes nothing.
-use Prim.Native.Nat.{ℕ, zero, suc, _+_, _*_, _/_, _%_, _≤_, _<_}
+use Prim.Native.Nat.{ℕ, suc, _+_, _/_, _%_, _≤_, _<_}
 use mathlib.Core.Bool.{false, not, _||_}
 use mathlib.Core.Path.{_≡_, refl, sym, ap, subst, _∙_}
-use mathlib.Core.List.{List, [], _∷_}
-use native.Mathlib.Omega.{arith}
-use native.Mathlib.Nat.{not-suc-le-zero, le-of-suc-le-suc}
+use mathlib.Core.List.{List}
 use native.Mathlib.Numerals.{add-one}
 use borrow.Author.Tests.{ltb-false}
 use lib.Dec.{eqb, ltb}
-use lib.ListN.{length, getD, take, drop, drop-of-length-le}
-use lib.Seq.{drop-cons, drop-drop}
+use lib.ListN.{length, drop}
 use Rattle.lists.specs.Lists.{Bytes, pick}
 use Rattle.lists.proofs.Tests.{or-neither}
 use Rattle.refusal.specs.Verdict.{Verdict, passed, _>>=_}
@@ -23,13 +20,14 @@ use Rattle.segment_rules.specs.declared.Totals.{Totals}
 use Rattle.segment_rules.specs.State as state
 use Rattle.segment_rules.specs.State.{State, fresh, noneYet, counting, packetCount, kindOf}
 use Rattle.segment_rules.specs.Rules.{packetRules}
-use Rattle.packet.specs.Header.{packetsOf, packets}
+use Rattle.packet.specs.Header.{packets}
 use Rattle.segment_rules.specs.Check.{Progress, Outputs, roomsOf, holdingFirsts, start, step, run, segmentLengthWrong}
 use Rattle.segment_rules.specs.Named.{Named}
 use Rattle.segment_rules.proofs.Keeping.{Holds}
 use Rattle.segment_rules.proofs.Naming.{packet-named}
 use Rattle.segment_rules.proofs.Growing.{packet-grows}
-use Rattle.segment_rules.proofs.Running.{counting-one, length-packets}
+use Rattle.plain.proofs.Places as places
+use Rattle.segment_rules.proofs.Running.{counting-one}
 use Rattle.tables.specs.declared.state.Outcome.the-variants as outcome
 use Rattle.tables.specs.declared.tables.Tables.{Tables}
 use Rattle.tables.specs.Tables.{Turns, freshTables, kindSays, packetAt}
@@ -50,15 +48,6 @@ unfolding segmentLengthWrong
 count-within s e =
     ltb-false 65535 (length s / packetLength) (or-neither (eqb (length s) 0 || not (eqb (length s % packetLength) 0))
     (ltb 65535 (length s / packetLength)) e .1)
-
-packets-at : (n k : ℕ) (s : Bytes) → k < n → getD (packetsOf n s) k [] ≡ packetAt s k
-unfolding packetsOf
-packets-at zero k s h = absurd (not-suc-le-zero h)
-packets-at (suc n) zero s h = refl
-packets-at (suc n) (suc k) s h =
-    let j : 188 + k * 188 ≡ suc k * 188 = omega arith in
-    packets-at n k (drop packetLength s) (le-of-suc-le-suc h) ∙ ap (take packetLength)
-    (drop-drop (k * 188) 188 s ∙ ap (λ (m : ℕ). drop m s) j)
 
 pub record Running (edition : Edition) (segment : Bytes) (before now : Outputs) (old firsts : List ℕ) (c : Tables) (e : Extraction)
     (totals : Totals) (k : ℕ) : Type 0 where
@@ -112,9 +101,7 @@ module _ (edition : Edition) (segment : Bytes) (before now : Outputs) (old first
   unfolding run step
   next-packet =
       inv .rest
-      ∙ ap (run edition (roomsOf before) (record { index = k; state = here; totals = totals }))
-      (drop-cons (packets segment) k [] (subst (λ (n : ℕ). k < n) (sym (length-packets (length segment / packetLength) segment)) h)
-      ∙ ap (λ (p : Bytes). p ∷ drop (suc k) (packets segment)) (packets-at (length segment / packetLength) k segment h))
+      ∙ ap (run edition (roomsOf before) (record { index = k; state = here; totals = totals })) (places.next-packet segment k h)
 
   module _ (r : Stepped) (after : Outputs) (turn : PacketTurn edition segment k c e now r after) where
     turned : Turns (r .outcome) stepped (λ st′. StateStands edition segment before after (r .tables) (r .extraction) st′ ×
@@ -168,9 +155,7 @@ module _ (edition : Edition) (segment : Bytes) (before now : Outputs) (old first
   unfolding run
   all-passed =
       inv .rest
-      ∙ ap (run edition (roomsOf before) last)
-      (drop-of-length-le (packets segment) {i = k} (subst (λ (n : ℕ). n ≤ k) (sym (length-packets (length segment / packetLength) segment))
-      h))
+      ∙ ap (run edition (roomsOf before) last) (places.no-packet segment k h)
 
   pub comes-to-end : RunTurn edition segment before (record { tables = c; extraction = e; totals = totals; outcome = outcome.Passed }) now
   comes-to-end = (last, all-passed, (inv .stands, refl))

@@ -1,6 +1,6 @@
 -- What the promises of private functions cite; no public promise does: what the code's state stands for. No rule is
 -- said again here: a private function is promised by the rules of segment_rules that it carries out. Assumes nothing.
-use Prim.Native.Nat.{ℕ, _+_, _*_, _≤_, _<_}
+use Prim.Native.Nat.{ℕ, zero, suc, _+_, _*_, _≤_, _<_}
 use mathlib.Core.Bool.{Bool, true, false}
 use mathlib.Core.Path.{_≡_}
 use mathlib.Core.List.{List, [], _∷_}
@@ -15,6 +15,9 @@ use Rattle.descriptor.specs.Descriptor.{videoTag, videoLength, fieldsOf}
 use Rattle.comparison.specs.declared.Disagreement.{Disagreement}
 use Rattle.comparison.specs.Comparison.{firstFrom}
 use Rattle.packet.specs.Header.{fields, headerOf, pid, hasPayload, payload, payloadUnitStartIndicator}
+use Rattle.packet.specs.declared.counter.Stream.{Stream}
+use Rattle.packet.specs.declared.counter.Last.the-variants as last
+use Rattle.packet.specs.Streams.{recordAt}
 use Rattle.pmt.specs.declared.loops.Video.{Video}
 use Rattle.pmt.specs.declared.loops.Video.the-variants as video
 use Rattle.pes.specs.Pes.{pesData}
@@ -31,13 +34,18 @@ use Rattle.tables.specs.declared.state.Packet.{Packet}
 use Rattle.tables.specs.declared.state.Outcome.{Outcome}
 use Rattle.tables.specs.declared.state.Outcome.the-variants.{Passed, Refused}
 use Rattle.tables.specs.declared.tables.Tables.{Tables}
-use Rattle.tables.specs.Tables.{Turns, packetAt, TablesStand, kindSays, SlotOf}
+use Rattle.tables.specs.declared.state.Kind.the-variants as kinds
+use Rattle.tables.specs.Tables.{Turns, packetAt, TablesStand, kindSays, SlotOf, KindTurn}
+use Rattle.tables.specs.Parts.{withListedRecord}
 use Rattle.segment.specs.declared.state.PesFound.{PesFound}
 use Rattle.segment.specs.declared.state.PesSeen.{PesSeen}
 use Rattle.segment.specs.declared.state.PesSeen.the-variants as seen
 use Rattle.segment.specs.declared.outputs.Rooms as outputs
 use Rattle.segment.specs.declared.extraction.Extraction.{Extraction}
 use Rattle.segment.specs.declared.extraction.ExtractionTurn.{ExtractionTurn}
+use Rattle.segment.specs.declared.going.Due.{Due}
+use Rattle.segment.specs.declared.going.Due.the-variants as due
+use Rattle.segment.specs.declared.going.Went.{Went}
 use Rattle.segment.specs.declared.packets.Stepped.{Stepped}
 use Rattle.segment.specs.declared.whole.Ran.{Ran}
 use Rattle.segment.specs.declared.whole.SegmentCheck.{SegmentCheck}
@@ -164,6 +172,35 @@ module _ (edition : Edition) where
       → UnitsStand before now e (st .extraction)
       → PesTurn before (pesRules edition (roomsOf before) i p state.Av1) st r after
 
+-- ---- packets that go on with the open PES
+-- a PES is open, a PCR has counted, and n is the AV1 PID, whose record has this slot and whose last packet this counter
+pub record MayGoOn (c : Tables) (e : Extraction) (n slot counter : ℕ) : Type 0 where
+  pub opened : (f : PesFound) × (e .pes ≡ seen.Open f)
+  pub clocked : isPcr (c .pcr) ≡ true
+  pub kind : (edition : Edition) → KindTurn edition c n (kinds.Av1 slot)
+  pub seen : (at : ℕ) × (repeat : Bool) × (recordAt (c .counters .listed) slot .last ≡ last.Packet counter at repeat)
+
+abbrev pub DueTurn : Tables → Extraction → ℕ → Due → Type 0
+DueTurn c e n due.None = Unit {0}
+DueTurn c e n (due.After slot counter) = MayGoOn c e n slot counter
+
+-- the record of a packet that is no repeat, after the one in this slot
+abbrev pub lastAt : Tables → ℕ → ℕ → ℕ → Stream
+lastAt c slot counter at =
+    record { pid = recordAt (c .counters .listed) slot .pid; last = last.Packet counter at false }
+
+-- the tables with it
+abbrev pub withLast : Tables → ℕ → ℕ → ℕ → Tables
+withLast c slot counter at =
+    record {
+      edition = c .edition;
+      pat = c .pat;
+      pmt = c .pmt;
+      map = c .map;
+      counters = withListedRecord (c .counters) slot (lastAt c slot counter at);
+      pcr = c .pcr;
+    }
+
 -- ---- both
 pub record StateStands (edition : Edition) (segment : Bytes) (before now : Outputs) (c : Tables) (e : Extraction)
     (st : State) : Type 0 where
@@ -199,6 +236,23 @@ module _ (edition : Edition) (segment : Bytes) where
       (packetRules edition (roomsOf before) i (packetAt segment i) (kindOf (st .tables) (pid (packetAt segment i))) st)
       (λ st′. StateStands edition segment before after (r .tables) (r .extraction) st′
       × (kindSays (r .kind) ≡ kindOf (st .tables) (pid (packetAt segment i))))
+
+  -- so many packets in turn from an index on are of this kind and pass, each by its rules, and no unit closes
+  abbrev pub Pass : Rooms → state.Kind → ℕ → ℕ → State → State → Type 0
+  Pass rooms kind zero i st st′ = st′ ≡ st
+  Pass rooms kind (suc n) i st st′ =
+      (next : State)
+      × (kindOf (st .tables) (pid (packetAt segment i)) ≡ kind)
+      × (packetRules edition rooms i (packetAt segment i) kind st ≡ verdict.passed next)
+      × (next .extraction .units ≡ st .extraction .units)
+      × Pass rooms kind n (i + 1) next st′
+
+  -- packets that go on with the open PES
+  abbrev pub GoOnTurn : ℕ → Tables → Extraction → Outputs → Went → Outputs → Type 0
+  GoOnTurn i c e now r after =
+      (before : Outputs) (st : State) → Named (st .tables) → StateStands edition segment before now c e st
+      → (st′ : State) × Pass (roomsOf before) state.Av1 (r .packets) i st st′
+      × StateStands edition segment before after (r .tables) (r .extraction) st′
 
   -- all packets
   abbrev pub RunTurn : Outputs → Ran → Outputs → Type 0

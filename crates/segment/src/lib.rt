@@ -1,6 +1,7 @@
 // The check of a segment and the extraction of its access units (document 01, "A segment").
 mod comparing;
 mod extraction;
+mod going;
 mod outputs;
 mod packets;
 mod state;

@@ -29,6 +29,7 @@ use crate::extraction::Extraction;
 use crate::extraction::close;
 use crate::extraction::fresh_extraction;
 use crate::extraction::note_first;
+use crate::going::go_on;
 use crate::outputs::clear;
 use crate::packets::count_packet;
 use crate::packets::step;
@@ -36,6 +37,7 @@ use crate::state::none_yet;
 use descriptor::Edition;
 use descriptor::Named;
 use packet::PACKET_LENGTH;
+use plain::nulls;
 use pmt::ProgramMap;
 use refusal::Refusal;
 use refusal::Refused;
@@ -91,6 +93,19 @@ fn length_wrong(segment: &[u8]) -> bool
     MOST_PACKETS < length / PACKET_LENGTH
 }
 
+// All packets have passed.
+fn all_passed(tables: Tables, extraction: Extraction, totals: Totals) -> Ran
+    ensures { λ r. ⌜ r
+        ≡ record { tables = tables; extraction = extraction; totals = totals; outcome = Outcome.Passed } ⌝ }
+{
+    Ran {
+        tables,
+        extraction,
+        totals,
+        outcome: Outcome::Passed,
+    }
+}
+
 // The packets in order.
 fn run(
     edition: Edition,
@@ -114,6 +129,17 @@ fn run(
     let mut totals = none_yet();
     let mut index: usize = 0;
     while index < count {
+        let skipped = nulls(segment, index);
+        totals.null += skipped;
+        index += skipped;
+        let went = go_on(segment, index, tables, extraction, out);
+        tables = went.tables;
+        extraction = went.extraction;
+        totals.av1 += went.packets;
+        index += went.packets;
+        if count <= index {
+            continue;
+        }
         let stepped = step(segment, index, tables, extraction, out, lens, times);
         let outcome = stepped.outcome;
         let Outcome::Passed = outcome else {
@@ -132,12 +158,7 @@ fn run(
         totals = count_packet(kind, totals);
         index += 1;
     }
-    Ran {
-        tables,
-        extraction,
-        totals,
-        outcome: Outcome::Passed,
-    }
+    all_passed(tables, extraction, totals)
 }
 
 fn refuse(refused: Refused) -> Checked

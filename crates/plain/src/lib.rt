@@ -1,0 +1,118 @@
+// Runs of packets of a segment that ask nothing of its tables: null packets, and packets of one PID that go on with a
+// PES.
+ghost use mathlib.Core.Path.{_≡_};
+ghost use lib.ListN.{length, drop};
+ghost use Rattle.lists.specs.Lists.{over};
+ghost use Rattle.packet.specs.Header.{pid, packets};
+ghost use Rattle.plain.specs.Runs.{isNull, nullsIn, nextCounter, goesOn, goingOn, payloads};
+use lists::byte_at;
+use lists::copy;
+use lists::part;
+use lists::rest;
+use packet::NULL_PID;
+use packet::PACKET_LENGTH;
+
+// The length of a packet's header, and of the payload of a packet that has no adaptation field.
+const HEADER_LENGTH: usize = 4;
+
+const PAYLOAD_LENGTH: usize = 184;
+
+// The PID of a packet.
+pub fn pid_of(packet: &[u8]) -> u16
+    ensures { λ r. ⌜ r ≡ pid (now (packet .entry)) ⌝ }
+{
+    (byte_at(packet, 1) % 32) as u16 * 256 + byte_at(packet, 2) as u16
+}
+
+// A null packet that passes 21 and 22.
+fn is_null(packet: &[u8]) -> bool
+    ensures { λ r. ⌜ r ≡ isNull (now (packet .entry)) ⌝ }
+{
+    if byte_at(packet, 0) != 0x47 {
+        return false;
+    }
+    if byte_at(packet, 1) / 128 % 2 == 1 {
+        return false;
+    }
+    pid_of(packet) == NULL_PID
+}
+
+// How many null packets there are in a row from this index on.
+pub fn nulls(segment: &[u8], from: usize) -> usize
+    ensures { λ r. ⌜ r ≡ nullsIn (drop from (packets (now (segment .entry)))) ⌝ }
+{
+    let count = segment.len() / PACKET_LENGTH;
+    if count <= from {
+        return 0;
+    }
+    let mut n: usize = 0;
+    while n < count - from {
+        if !is_null(part(segment, (from + n) * PACKET_LENGTH, PACKET_LENGTH)) {
+            return n;
+        }
+        n += 1;
+    }
+    n
+}
+
+// The counter that is due after this one.
+pub fn next_counter(last: u8) -> u8
+    ensures { λ r. ⌜ r ≡ nextCounter last ⌝ }
+{
+    (last % 16 + 1) % 16
+}
+
+// A packet goes on after one of this PID with this counter.
+fn goes_on(packet: &[u8], pid: u16, last: u8) -> bool
+    ensures { λ r. ⌜ r ≡ goesOn pid last (now (packet .entry)) ⌝ }
+{
+    if byte_at(packet, 0) != 0x47 {
+        return false;
+    }
+    if byte_at(packet, 1) / 128 % 2 == 1 {
+        return false;
+    }
+    if byte_at(packet, 1) / 64 % 2 == 1 {
+        return false;
+    }
+    if pid_of(packet) != pid {
+        return false;
+    }
+    if byte_at(packet, 3) / 64 % 4 != 0 {
+        return false;
+    }
+    if byte_at(packet, 3) / 16 % 4 != 1 {
+        return false;
+    }
+    byte_at(packet, 3) % 16 == next_counter(last)
+}
+
+// How many packets in a row from this index on go on after one of this PID with this counter, as far as their payloads
+// have room; these are written over the front of the output.
+pub fn follow(segment: &[u8], from: usize, pid: u16, last: u8, out: &mut [u8]) -> usize
+    ensures { λ r. ⌜ r ≡ goingOn (length (now (out .entry))) pid last (drop from (packets (now (segment .entry)))) ⌝ }
+    ensures { λ r. ⌜ now (out .exit)
+        ≡ over (payloads r (drop from (packets (now (segment .entry))))) (now (out .entry)) ⌝ }
+{
+    let count = segment.len() / PACKET_LENGTH;
+    if count <= from {
+        return 0;
+    }
+    let mut n: usize = 0;
+    let mut counter = last;
+    let mut written: usize = 0;
+    while n < count - from {
+        if out.len() - written < PAYLOAD_LENGTH {
+            return n;
+        }
+        let packet = part(segment, (from + n) * PACKET_LENGTH, PACKET_LENGTH);
+        if !goes_on(packet, pid, counter) {
+            return n;
+        }
+        copy(rest(packet, HEADER_LENGTH), &mut out[written..]);
+        counter = next_counter(counter);
+        written += PAYLOAD_LENGTH;
+        n += 1;
+    }
+    n
+}

@@ -1,0 +1,188 @@
+-- The packets that `follow` counts and copies pass one after the other, each by its rules (`goes` in Continuing.antt).
+use borrow.Author.Needs.{needs}
+use native.Mathlib.Omega.{arith}
+use Prim.Native.Nat.{ℕ, _+_}
+use mathlib.Core.Path.{refl, sym, subst, _∙_}
+use mathlib.Core.List.{List}
+use lib.ListN.{drop}
+use Rattle.lists.proofs.Parts.{tail-placed}
+use Rattle.packet.specs.Header.{packets}
+use Rattle.plain.specs.Runs.{payloads}
+use Rattle.segment_rules.specs.Check.{outputsOf}
+use Rattle.segment.specs.declared.going.Due.{Due}
+use Rattle.segment.specs.Parts.{DueTurn, StateStands}
+use Rattle.segment.proofs.Continuing.{lent-many, none-kept, bounded, went}
+use Rattle.segment.proofs.going.go_on.Statement.{statement}
+use Rattle.segment.proofs.going.go_on.Tie as tie
+
+mul-part : tie.Need-mul-part
+mul-part c = search needs
+
+part-requires : tie.Need-part-requires
+part-requires c κs = search needs
+
+pid-of-requires : tie.Need-pid-of-requires
+pid-of-requires c κs = search needs
+
+due-after-requires : tie.Need-due-after-requires
+due-after-requires c κs = search needs
+
+enum-known-may : tie.Need-enum-known-may
+enum-known-may c = search needs
+
+enum-told : tie.Need-enum-told
+enum-told c = search needs
+
+returns : tie.Need-returns
+returns c = search needs
+
+add-written : tie.Need-add-written
+add-written c = search needs
+
+sub-follow : tie.Need-sub-follow
+sub-follow c = search needs
+
+part-follow-start : tie.Need-part-follow-start
+part-follow-start c = search needs
+
+part-follow-end : tie.Need-part-follow-end
+part-follow-end c = search needs
+
+follow-requires : tie.Need-follow-requires
+follow-requires c κs = search needs
+
+same-length : tie.Need-same-length
+same-length c = search needs
+
+returns-2 : tie.Need-returns-2
+returns-2 c = let a = c .before .before .before .before .before .before .before .before .before .before .before .before .before .before .args in
+    let pre = c .before .before .before .before .before .before .before .before .before .before .before .before .before .before .pre in
+    let at = a .extraction .start + a .extraction .bytes in
+    let l = drop (a .index) (packets (a .segment .now)) in
+    let m = c .before .before .before .follow .result in
+    let may = subst (λ (d : Due). DueTurn (a .tables) (a .extraction) (c .before .before .before .before .before .before .before .before .before .before .pid-of .result) d) (c .before .before .before .before .before .before .before .may .given .1) (c .before .before .before .before .before .before .before .before .before .due-after .ensures) in
+    let many = lent-many _ _ l (a .out .now) at m (pre .1) (c .before .before .before .follow .ensures .0) in
+    let kept = tail-placed at (a .out .now) (payloads m l) _ (pre .1) (c .before .before .before .follow .ensures .1)
+    ∙ none-kept (a .out .now) at l m (c .if1 .taken) in (
+      λ edition lens times before st named s. (
+        st,
+        refl,
+        subst (λ (w : List ℕ). StateStands edition (a .segment .now) before (outputsOf w lens times)
+            (a .tables) (a .extraction) st) (sym kept) s,
+      ),
+      omega (arith, pre .0),
+    )
+
+cast-last : tie.Need-cast-last
+cast-last c = search needs
+
+add-last : tie.Need-add-last
+add-last c = let a = c .before .before .before .before .before .before .before .before .before .before .before .before .before .before .args in
+    let pre = c .before .before .before .before .before .before .before .before .before .before .before .before .before .before .pre in
+    let at = a .extraction .start + a .extraction .bytes in
+    let l = drop (a .index) (packets (a .segment .now)) in
+    let m = c .before .before .before .follow .result in
+    let may = subst (λ (d : Due). DueTurn (a .tables) (a .extraction) (c .before .before .before .before .before .before .before .before .before .before .pid-of .result) d) (c .before .before .before .before .before .before .before .may .given .1) (c .before .before .before .before .before .before .before .before .before .due-after .ensures) in
+    let many = lent-many _ _ l (a .out .now) at m (pre .1) (c .before .before .before .follow .ensures .0) in
+    let within = bounded (a .segment .now) (a .index) (a .tables) (a .extraction) _ _ _ may (a .out .now) (pre .0) (pre .1) m many in
+    omega (arith, within .0, within .1, c .before .before .before .before .before .before .before .before .before .before .before .before .before .before .good)
+
+cast-last-2 : tie.Need-cast-last-2
+cast-last-2 c = search needs
+
+add-at : tie.Need-add-at
+add-at c = let a = c .before .before .before .before .before .before .before .before .before .before .before .before .before .before .args in
+    let pre = c .before .before .before .before .before .before .before .before .before .before .before .before .before .before .pre in
+    let at = a .extraction .start + a .extraction .bytes in
+    let l = drop (a .index) (packets (a .segment .now)) in
+    let m = c .before .before .before .follow .result in
+    let may = subst (λ (d : Due). DueTurn (a .tables) (a .extraction) (c .before .before .before .before .before .before .before .before .before .before .pid-of .result) d) (c .before .before .before .before .before .before .before .may .given .1) (c .before .before .before .before .before .before .before .before .before .due-after .ensures) in
+    let many = lent-many _ _ l (a .out .now) at m (pre .1) (c .before .before .before .follow .ensures .0) in
+    let within = bounded (a .segment .now) (a .index) (a .tables) (a .extraction) _ _ _ may (a .out .now) (pre .0) (pre .1) m many in
+    omega (arith, within .0, within .1, c .before .before .before .before .before .before .before .before .before .before .before .before .before .before .good)
+
+sub-at : tie.Need-sub-at
+sub-at c = search needs
+
+mul-at : tie.Need-mul-at
+mul-at c = let a = c .before .before .before .before .before .before .before .before .before .before .before .before .before .before .args in
+    let pre = c .before .before .before .before .before .before .before .before .before .before .before .before .before .before .pre in
+    let at = a .extraction .start + a .extraction .bytes in
+    let l = drop (a .index) (packets (a .segment .now)) in
+    let m = c .before .before .before .follow .result in
+    let may = subst (λ (d : Due). DueTurn (a .tables) (a .extraction) (c .before .before .before .before .before .before .before .before .before .before .pid-of .result) d) (c .before .before .before .before .before .before .before .may .given .1) (c .before .before .before .before .before .before .before .before .before .due-after .ensures) in
+    let many = lent-many _ _ l (a .out .now) at m (pre .1) (c .before .before .before .follow .ensures .0) in
+    let within = bounded (a .segment .now) (a .index) (a .tables) (a .extraction) _ _ _ may (a .out .now) (pre .0) (pre .1) m many in
+    omega (arith, within .0, within .1, c .before .before .before .before .before .before .before .before .before .before .before .before .before .before .good)
+
+mul-t22 : tie.Need-mul-t22
+mul-t22 c = let a = c .before .before .before .before .before .before .before .before .before .before .before .before .before .before .args in
+    let pre = c .before .before .before .before .before .before .before .before .before .before .before .before .before .before .pre in
+    let at = a .extraction .start + a .extraction .bytes in
+    let l = drop (a .index) (packets (a .segment .now)) in
+    let m = c .before .before .before .follow .result in
+    let may = subst (λ (d : Due). DueTurn (a .tables) (a .extraction) (c .before .before .before .before .before .before .before .before .before .before .pid-of .result) d) (c .before .before .before .before .before .before .before .may .given .1) (c .before .before .before .before .before .before .before .before .before .due-after .ensures) in
+    let many = lent-many _ _ l (a .out .now) at m (pre .1) (c .before .before .before .follow .ensures .0) in
+    let within = bounded (a .segment .now) (a .index) (a .tables) (a .extraction) _ _ _ may (a .out .now) (pre .0) (pre .1) m many in
+    omega (arith, within .0, within .1, c .before .before .before .before .before .before .before .before .before .before .before .before .before .before .good)
+
+add-t23 : tie.Need-add-t23
+add-t23 c = let a = c .before .before .before .before .before .before .before .before .before .before .before .before .before .before .before .args in
+    let pre = c .before .before .before .before .before .before .before .before .before .before .before .before .before .before .before .pre in
+    let at = a .extraction .start + a .extraction .bytes in
+    let l = drop (a .index) (packets (a .segment .now)) in
+    let m = c .before .before .before .before .follow .result in
+    let may = subst (λ (d : Due). DueTurn (a .tables) (a .extraction) (c .before .before .before .before .before .before .before .before .before .before .before .pid-of .result) d) (c .before .before .before .before .before .before .before .before .may .given .1) (c .before .before .before .before .before .before .before .before .before .before .due-after .ensures) in
+    let many = lent-many _ _ l (a .out .now) at m (pre .1) (c .before .before .before .before .follow .ensures .0) in
+    let within = bounded (a .segment .now) (a .index) (a .tables) (a .extraction) _ _ _ may (a .out .now) (pre .0) (pre .1) m many in
+    omega (arith, within .0, within .1, c .before .before .before .before .before .before .before .before .before .before .before .before .before .before .before .good)
+
+with-last-requires : tie.Need-with-last-requires
+with-last-requires c κs = search needs
+
+same-length-2 : tie.Need-same-length-2
+same-length-2 c = search needs
+
+returns-3 : tie.Need-returns-3
+returns-3 c = let a = c .before .before .before .before .before .before .before .before .before .before .before .before .before .before .before .before .args in
+    let pre = c .before .before .before .before .before .before .before .before .before .before .before .before .before .before .before .before .pre in
+    let at = a .extraction .start + a .extraction .bytes in
+    let l = drop (a .index) (packets (a .segment .now)) in
+    let m = c .before .before .before .before .before .follow .result in
+    let may = subst (λ (d : Due). DueTurn (a .tables) (a .extraction) (c .before .before .before .before .before .before .before .before .before .before .before .before .pid-of .result) d) (c .before .before .before .before .before .before .before .before .before .may .given .1) (c .before .before .before .before .before .before .before .before .before .before .before .due-after .ensures) in
+    let many = lent-many _ _ l (a .out .now) at m (pre .1) (c .before .before .before .before .before .follow .ensures .0) in (
+      λ edition lens times before st named s. went (a .segment .now) (a .index) (a .tables) (a .extraction) _ _ _ may (a .out .now) (pre .0) (pre .1)
+          m many (c .before .before .if1 .left) edition lens times before st named s _ _
+          (tail-placed at (a .out .now) (payloads m l) _ (pre .1) (c .before .before .before .before .before .follow .ensures .1)) (c .with-last .ensures),
+      bounded (a .segment .now) (a .index) (a .tables) (a .extraction) _ _ _ may (a .out .now) (pre .0) (pre .1) m many .0,
+    )
+
+pub go-on-spec : {M : Type 1} → statement M
+go-on-spec =
+    tie.close
+    (tie.spec
+    mul-part
+    part-requires
+    pid-of-requires
+    due-after-requires
+    enum-known-may
+    enum-told
+    returns
+    add-written
+    sub-follow
+    part-follow-start
+    part-follow-end
+    follow-requires
+    same-length
+    returns-2
+    cast-last
+    add-last
+    cast-last-2
+    add-at
+    sub-at
+    mul-at
+    mul-t22
+    add-t23
+    with-last-requires
+    same-length-2
+    returns-3)

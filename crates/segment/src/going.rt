@@ -1,0 +1,140 @@
+// Packets that go on with the open PES, without the tables being asked of each.
+ghost use mathlib.Core.Path.{_≡_};
+ghost use mathlib.Core.List.{List};
+ghost use Prim.Native.Nat.{ℕ, _+_, _/_, _≤_};
+ghost use lib.ListN.{length};
+ghost use Rattle.descriptor.specs.Edition.{Edition};
+ghost use Rattle.segment_rules.specs.Check.{outputsOf};
+ghost use Rattle.segment.specs.Parts.{withLast, DueTurn, GoOnTurn};
+use crate::extraction::Extraction;
+use crate::state::PesSeen;
+use lists::part;
+use packet::Last;
+use packet::PACKET_LENGTH;
+use packet::Stream;
+use plain::follow;
+use plain::pid_of;
+use tables::Counters;
+use tables::Kind;
+use tables::Tables;
+use tables::is_pcr;
+use tables::kind_of;
+
+// The length of the payload of a packet that has no adaptation field.
+const PAYLOAD_LENGTH: usize = 184;
+
+// Whether packets of a PID may go on with the open PES: the slot of its record, and the counter of its last packet.
+pub(crate) enum Due {
+    None,
+    After { slot: usize, counter: u8 },
+}
+
+// The tables and the units after so many packets.
+pub(crate) struct Went {
+    pub tables: Tables,
+    pub extraction: Extraction,
+    pub packets: usize,
+}
+
+// A PES is open, a PCR has counted, and this is the AV1 PID, of which a packet was seen.
+fn due_after(pid: u16, tables: Tables, extraction: Extraction) -> Due
+    ensures { λ r. ⌜ DueTurn tables extraction pid r ⌝ }
+{
+    let pes = extraction.pes;
+    let PesSeen::Open(_) = pes else {
+        return Due::None;
+    };
+    let pcr = tables.pcr;
+    if !is_pcr(pcr) {
+        return Due::None;
+    }
+    let kind = kind_of(tables, pid);
+    let Kind::Av1(slot) = kind else {
+        return Due::None;
+    };
+    let counters = tables.counters;
+    let streams = counters.listed;
+    let stream = streams.at(slot);
+    let last = stream.last;
+    let Last::Packet {
+        counter,
+        at: _,
+        repeat: _,
+    } = last
+    else {
+        return Due::None;
+    };
+    Due::After { slot, counter }
+}
+
+// The tables, where the last packet of the PID in this slot is another one, which is no repeat.
+fn with_last(tables: Tables, slot: usize, counter: u8, at: usize) -> Tables
+    ensures { λ r. ⌜ r ≡ withLast tables slot counter at ⌝ }
+{
+    let old = tables.counters;
+    let streams = old.listed;
+    let stream = streams.at(slot);
+    let next = Stream {
+        pid: stream.pid,
+        last: Last::Packet {
+            counter,
+            at,
+            repeat: false,
+        },
+    };
+    let pat = old.pat;
+    let map = old.map;
+    let listed = streams.put_back(slot, next);
+    let counters = Counters { pat, map, listed };
+    let mut after = tables;
+    after.counters = counters;
+    after
+}
+
+// The packets from this index on that go on with the open PES, one after the other: their payloads behind what is there
+// of its unit.
+pub(crate) fn go_on(
+    segment: &[u8],
+    index: usize,
+    tables: Tables,
+    extraction: Extraction,
+    out: &mut [u8],
+) -> Went
+    requires { ⌜ (index ≤ length (now segment) / 188) × (extraction .start + extraction .bytes ≤ length (now out)) ⌝ }
+    ensures { λ r. ⌜ ((edition : Edition) (lens times : List ℕ) → GoOnTurn edition (now (segment .entry)) index tables
+        extraction (outputsOf (now (out .entry)) lens times) r (outputsOf (now (out .exit)) lens times)) ⌝ }
+    ensures { λ r. ⌜ index + r .packets ≤ length (now (segment .entry)) / 188 ⌝ }
+{
+    let pid = pid_of(part(segment, index * PACKET_LENGTH, PACKET_LENGTH));
+    let may = due_after(pid, tables, extraction);
+    let Due::After { slot, counter } = may else {
+        return Went {
+            tables,
+            extraction,
+            packets: 0,
+        };
+    };
+    let written = extraction.start + extraction.bytes;
+    let packets = follow(segment, index, pid, counter, &mut out[written..]);
+    if packets == 0 {
+        return Went {
+            tables,
+            extraction,
+            packets: 0,
+        };
+    }
+    let last = ((counter as usize + packets) % 16) as u8;
+    let at = (index + packets - 1) * PACKET_LENGTH;
+    let pes = extraction.pes;
+    let longer = Extraction {
+        pes,
+        units: extraction.units,
+        start: extraction.start,
+        bytes: extraction.bytes + packets * PAYLOAD_LENGTH,
+    };
+    Went {
+        tables: with_last(tables, slot, last, at),
+        extraction: longer,
+        packets,
+    }
+}
