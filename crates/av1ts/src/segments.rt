@@ -117,7 +117,8 @@ pub extern "C" fn av1ts_check_segment(
     ensures { λ r. ⌜ r ≡ segmentAnswer (checking 0
         (roomsOf (outputsOf (now (out .entry)) (now (lengths .entry)) (now (times .entry)))) (now (segment .entry)))
         (disagreementOf (checkCompared 0
-        (roomsOf (outputsOf (now (out .entry)) (now (lengths .entry)) (now (times .entry)))) (now (segment .entry)))) ⌝ }
+        (roomsOf (outputsOf (now (out .entry)) (now (lengths .entry)) (now (times .entry))))
+        (now (segment .entry)))) ⌝ }
     ensures { λ _. ⌜ outputsOf (now (out .exit)) (now (lengths .exit)) (now (times .exit))
         ≡ outputsAfter (checkIn 0
         (roomsOf (outputsOf (now (out .entry)) (now (lengths .entry)) (now (times .entry)))) (now (segment .entry)))
@@ -141,7 +142,8 @@ pub extern "C" fn av1ts_check_segment_edition(
     ensures { λ r. ⌜ r ≡ segmentAnswer (checking edition
         (roomsOf (outputsOf (now (out .entry)) (now (lengths .entry)) (now (times .entry)))) (now (segment .entry)))
         (disagreementOf (checkCompared edition
-        (roomsOf (outputsOf (now (out .entry)) (now (lengths .entry)) (now (times .entry)))) (now (segment .entry)))) ⌝ }
+        (roomsOf (outputsOf (now (out .entry)) (now (lengths .entry)) (now (times .entry))))
+        (now (segment .entry)))) ⌝ }
     ensures { λ _. ⌜ outputsOf (now (out .exit)) (now (lengths .exit)) (now (times .exit))
         ≡ outputsAfter (checkIn edition
         (roomsOf (outputsOf (now (out .entry)) (now (lengths .entry)) (now (times .entry)))) (now (segment .entry)))
