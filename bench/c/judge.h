@@ -83,4 +83,54 @@ static inline int start_code_at(const uint8_t *bytes)
     return bytes[0] == 0 && bytes[1] == 0 && bytes[2] == 1;
 }
 
+/* A payload: where it begins in its unit, how long it is, and the bytes to drop. */
+typedef struct {
+    size_t from, len, dropped;
+} payload_part;
+
+/* Tries 4, 5, 6, 42 on the OBU in a legal payload, of which the front is unescaped. */
+static inline uint64_t try_escaped(const uint8_t *payload, const payload_part *part, uint8_t *kind)
+{
+    uint8_t head[MAX_ESCAPED_JUDGED_BYTES];
+    plain_write_unescaped(payload, part->len < sizeof head ? part->len : sizeof head, head);
+    return try_obu(head, part->len - part->dropped, kind);
+}
+
+/* The figures of a unit's payloads. */
+static inline plain_answer figures_of(const payload_part *parts, size_t n)
+{
+    plain_answer a = {0, 0, n, 0, 0};
+    for (size_t k = 0; k < n; k++) {
+        a.bytes += parts[k].len - parts[k].dropped;
+        a.dropped += parts[k].dropped;
+    }
+    return a;
+}
+
+/* Where the OBUs of a unit go, and their lengths. */
+typedef struct {
+    uint8_t *out;
+    size_t room;
+    size_t *lengths;
+    size_t n;
+} unit_outputs;
+
+typedef void (*write_part)(const uint8_t *payload, const payload_part *part, uint8_t *out);
+
+/* Reads a unit whose check gave `a` and these payloads. */
+static inline plain_answer read_parts(const uint8_t *unit, const payload_part *parts, plain_answer a,
+                                      unit_outputs to, write_part write)
+{
+    if (a.number != 0)
+        return a;
+    if (a.bytes > to.room || a.count > to.n)
+        return plain_refused(8, 0);
+    for (size_t k = 0; k < a.count; k++) {
+        write(unit + parts[k].from, &parts[k], to.out);
+        to.lengths[k] = parts[k].len - parts[k].dropped;
+        to.out += to.lengths[k];
+    }
+    return a;
+}
+
 #endif

@@ -82,16 +82,7 @@ static inline void copy(uint8_t *out, const uint8_t *bytes, size_t len)
 
 #include "one_pass.h"
 
-plain_answer lavc_check_unit(const uint8_t *unit, size_t len)
-{
-    return check_in_one_pass(unit, len);
-}
-
-plain_answer lavc_read_unit(const uint8_t *unit, size_t len, uint8_t *out, size_t room,
-                            size_t *lengths, size_t n)
-{
-    return read_in_one_pass(unit, len, out, room, lengths, n);
-}
+ONE_PASS_FUNCTIONS(lavc)
 
 /* Writes while it looks: what is refused has left bytes in `out`. */
 plain_answer lavc_unescape(const uint8_t *payload, size_t len, uint8_t *out, size_t room)

@@ -11,20 +11,12 @@
 
 #include "judge.h"
 
-typedef struct {
-    size_t from, len, dropped;
-} payload_part;
-
 /* Judges the OBU in a payload, which is legal, and gives its kind. */
 static inline uint64_t judge_part(const uint8_t *payload, const payload_part *part, uint8_t *kind)
 {
-    uint8_t head[MAX_ESCAPED_JUDGED_BYTES];
     if (part->len == 0)
         return 3;
-    if (part->dropped == 0)
-        return try_obu(payload, part->len, kind);
-    plain_write_unescaped(payload, part->len < sizeof head ? part->len : sizeof head, head);
-    return try_obu(head, part->len - part->dropped, kind);
+    return part->dropped == 0 ? try_obu(payload, part->len, kind) : try_escaped(payload, part, kind);
 }
 
 /* Finds the payloads of a unit that begins with a start code, and judges them; gives how many, or 0
@@ -49,40 +41,42 @@ static inline size_t judge_parts(const uint8_t *unit, size_t len, payload_part *
 }
 
 /* The answer of the check; also gives the payloads. */
-static inline plain_answer judge_unit(const uint8_t *unit, size_t len, payload_part *parts)
+static inline plain_answer judge_in_one_pass(const uint8_t *unit, size_t len, payload_part *parts)
 {
-    plain_answer a = {0, 0, 0, 0, 0};
-    if (len <= MAX_UNIT_BYTES && len >= 3 && start_code_at(unit))
-        a.count = judge_parts(unit, len, parts);
-    for (size_t k = 0; k < a.count; k++) {
-        a.bytes += parts[k].len - parts[k].dropped;
-        a.dropped += parts[k].dropped;
-    }
-    return a.count == 0 || a.bytes > MAX_OBU_BYTES ? plain_check_unit(unit, len) : a;
+    size_t n = len <= MAX_UNIT_BYTES && len >= 3 && start_code_at(unit) ? judge_parts(unit, len, parts) : 0;
+    plain_answer a = figures_of(parts, n);
+    return n == 0 || a.bytes > MAX_OBU_BYTES ? plain_check_unit(unit, len) : a;
 }
 
 static inline plain_answer check_in_one_pass(const uint8_t *unit, size_t len)
 {
     payload_part parts[MAX_OBUS];
-    return judge_unit(unit, len, parts);
+    return judge_in_one_pass(unit, len, parts);
 }
 
-static inline plain_answer read_in_one_pass(const uint8_t *unit, size_t len, uint8_t *out,
-                                            size_t room, size_t *lengths, size_t n)
+static inline void write_one(const uint8_t *payload, const payload_part *part, uint8_t *out)
+{
+    if (part->dropped == 0)
+        copy(out, payload, part->len);
+    else
+        write_unescaped(payload, part->len, out, part->len - part->dropped);
+}
+
+static inline plain_answer read_in_one_pass(const uint8_t *unit, size_t len, unit_outputs to)
 {
     payload_part parts[MAX_OBUS];
-    plain_answer a = judge_unit(unit, len, parts);
-    if (a.number != 0)
-        return a;
-    if (a.bytes > room || a.count > n)
-        return plain_refused(8, 0);
-    for (size_t k = 0; k < a.count; k++) {
-        lengths[k] = parts[k].len - parts[k].dropped;
-        if (parts[k].dropped == 0)
-            copy(out, unit + parts[k].from, lengths[k]);
-        else
-            write_unescaped(unit + parts[k].from, parts[k].len, out, lengths[k]);
-        out += lengths[k];
-    }
-    return a;
+    plain_answer a = judge_in_one_pass(unit, len, parts);
+    return read_parts(unit, parts, a, to, write_one);
 }
+
+/* The two functions of a peer. */
+#define ONE_PASS_FUNCTIONS(peer)                                                                   \
+    plain_answer peer##_check_unit(const uint8_t *unit, size_t len)                                \
+    {                                                                                              \
+        return check_in_one_pass(unit, len);                                                       \
+    }                                                                                              \
+    plain_answer peer##_read_unit(const uint8_t *unit, size_t len, uint8_t *out, size_t room,      \
+                                  size_t *lengths, size_t n)                                       \
+    {                                                                                              \
+        return read_in_one_pass(unit, len, (unit_outputs){out, room, lengths, n});                 \
+    }

@@ -7,19 +7,11 @@
 
 #include "judge.h"
 
-plain_answer lavc_unescape(const uint8_t *payload, size_t len, uint8_t *out, size_t room);
-plain_answer lavc_read_unit(const uint8_t *unit, size_t len, uint8_t *out, size_t room,
-                            size_t *lengths, size_t n);
-plain_answer lavc_check_unit(const uint8_t *unit, size_t len);
-uint64_t lavc_crc32(const uint8_t *bytes, size_t len);
-
-plain_answer sse2_escape(const uint8_t *obu, size_t len, uint8_t *out, size_t room);
-plain_answer sse2_unescape(const uint8_t *payload, size_t len, uint8_t *out, size_t room);
-plain_answer sse2_write_unit(const uint8_t *obus, size_t len, const size_t *lengths, size_t n,
-                             uint8_t *out, size_t room);
-plain_answer sse2_read_unit(const uint8_t *unit, size_t len, uint8_t *out, size_t room,
-                            size_t *lengths, size_t n);
-plain_answer sse2_check_unit(const uint8_t *unit, size_t len);
+recoding_function lavc_unescape, sse2_escape, sse2_unescape;
+writing_function sse2_write_unit;
+reading_function lavc_read_unit, sse2_read_unit;
+checking_function lavc_check_unit, sse2_check_unit;
+summing_function lavc_crc32;
 
 /* A segment, the PID of its AV1, which the packet loops are told, and room for units, lengths and
    times. */

@@ -18,21 +18,25 @@ typedef struct {
     uint64_t number, place, count, bytes, dropped;
 } plain_answer;
 
-plain_answer plain_escape(const uint8_t *obu, size_t len, uint8_t *out, size_t room);
-plain_answer plain_unescape(const uint8_t *payload, size_t len, uint8_t *out, size_t room);
+/* The types of the functions that several peers have. */
+typedef plain_answer recoding_function(const uint8_t *bytes, size_t len, uint8_t *out, size_t room);
+typedef plain_answer writing_function(const uint8_t *obus, size_t len, const size_t *lengths, size_t n,
+                                      uint8_t *out, size_t room);
+typedef plain_answer reading_function(const uint8_t *unit, size_t len, uint8_t *out, size_t room,
+                                      size_t *lengths, size_t n);
+typedef plain_answer checking_function(const uint8_t *unit, size_t len);
+typedef uint64_t summing_function(const uint8_t *bytes, size_t len);
 
-plain_answer plain_write_unit(const uint8_t *obus, size_t len, const size_t *lengths, size_t n,
-                              uint8_t *out, size_t room);
-plain_answer plain_read_unit(const uint8_t *unit, size_t len, uint8_t *out, size_t room,
-                             size_t *lengths, size_t n);
-plain_answer plain_check_unit(const uint8_t *unit, size_t len);
+recoding_function plain_escape, plain_unescape;
+writing_function plain_write_unit;
+reading_function plain_read_unit;
+checking_function plain_check_unit;
+summing_function plain_crc32;
 
 size_t plain_copy_payloads(const uint8_t *segment, size_t len, unsigned pid, uint8_t *out,
                            size_t room);
 
 size_t plain_copy_into_packets(const uint8_t *bytes, size_t len, uint8_t *out, size_t room);
-
-uint64_t plain_crc32(const uint8_t *bytes, size_t len);
 
 /* The struct of measured_header: number 0 is success; in a refusal all else is 0. */
 typedef struct {
@@ -48,7 +52,7 @@ typedef struct {
 plain_packet_header plain_header(const uint8_t packet[PACKET_BYTES]);
 
 /* How many packets of a segment pass 21, 22, 23. */
-uint64_t plain_headers(const uint8_t *segment, size_t len);
+summing_function plain_headers;
 
 /* CPU time of this thread: time that other processes take does not count. */
 uint64_t plain_cpu_nanoseconds(void);

@@ -138,18 +138,28 @@ static size_t payload_end(const uint8_t *unit, size_t i, size_t len, size_t *dro
 
 /* Unescaping. Stores of 16 bytes go over the end of a run, never over the end of what is written. */
 
-/* Writes 16 bytes without those to drop and gives how many are kept. */
-static inline size_t keep_16(const uint8_t *s, unsigned drop, uint8_t *out)
+/* Writes 16 bytes and gives how many were written: of the places `at`, each is left out, or 03 is put
+   in before it. */
+static inline size_t recode_16(const uint8_t *s, unsigned at, int insert, uint8_t *out)
 {
     size_t n = 0, from = 0;
-    for (; drop != 0; drop &= drop - 1) {
-        size_t k = (size_t)__builtin_ctz(drop);
+    for (; at != 0; at &= at - 1) {
+        size_t k = (size_t)__builtin_ctz(at);
         store(out + n, load(s + from));
         n += k - from;
         from = k + 1;
+        if (insert) {
+            out[n++] = 3;
+            from = k;
+        }
     }
     store(out + n, load(s + from));
     return n + 16 - from;
+}
+
+static inline size_t keep_16(const uint8_t *s, unsigned drop, uint8_t *out)
+{
+    return recode_16(s, drop, 0, out);
 }
 
 static void write_unescaped(const uint8_t *s, size_t len, uint8_t *out, size_t kept)
@@ -218,19 +228,9 @@ static size_t length_escaped(const uint8_t *obu, size_t len)
     return n;
 }
 
-/* Writes 16 bytes with the insertions and gives how many were written. */
 static inline size_t insert_16(const uint8_t *s, unsigned here, uint8_t *out)
 {
-    size_t n = 0, from = 0;
-    for (; here != 0; here &= here - 1) {
-        size_t k = (size_t)__builtin_ctz(here);
-        store(out + n, load(s + from));
-        n += k - from;
-        out[n++] = 3;
-        from = k;
-    }
-    store(out + n, load(s + from));
-    return n + 16 - from;
+    return recode_16(s, here, 1, out);
 }
 
 static size_t escape_into(const uint8_t *obu, size_t len, uint8_t *out)
@@ -301,16 +301,7 @@ plain_answer sse2_write_unit(const uint8_t *obus, size_t len, const size_t *leng
     return write_unit(obus, len, lengths, n, out, room, length_escaped, escape_into);
 }
 
-plain_answer sse2_read_unit(const uint8_t *unit, size_t len, uint8_t *out, size_t room,
-                            size_t *lengths, size_t n)
-{
-    return read_in_one_pass(unit, len, out, room, lengths, n);
-}
-
-plain_answer sse2_check_unit(const uint8_t *unit, size_t len)
-{
-    return check_in_one_pass(unit, len);
-}
+ONE_PASS_FUNCTIONS(sse2)
 
 static int unit_taken(const uint8_t *unit, size_t len)
 {

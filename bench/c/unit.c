@@ -13,24 +13,21 @@ static size_t find_start_codes(const uint8_t *unit, size_t len, size_t *places)
 }
 
 /* Tries 3, 10, 4, 5, 6, 42 on one payload; also gives the bytes to drop and the OBU's kind. */
-static uint64_t try_payload(const uint8_t *payload, size_t len, size_t *dropped, uint8_t *kind)
+static uint64_t try_payload(const uint8_t *payload, payload_part *part, uint8_t *kind)
 {
-    uint8_t head[MAX_ESCAPED_JUDGED_BYTES];
-    size_t head_len = len < MAX_ESCAPED_JUDGED_BYTES ? len : MAX_ESCAPED_JUDGED_BYTES;
-    if (len == 0)
+    if (part->len == 0)
         return 3;
-    if (plain_judge(payload, len, dropped) != len)
+    if (plain_judge(payload, part->len, &part->dropped) != part->len)
         return 10;
-    plain_write_unescaped(payload, head_len, head);
-    return try_obu(head, len - *dropped, kind);
+    return try_escaped(payload, part, kind);
 }
 
-/* Tries all refusals of reading but 8; also gives the start codes' places, and then the length. */
-static plain_answer judge_unit(const uint8_t *unit, size_t len, size_t *places)
+/* Tries all refusals of reading but 8; also gives the payloads. */
+static plain_answer judge_unit(const uint8_t *unit, size_t len, payload_part *parts)
 {
-    plain_answer a = {0, 0, 0, 0, 0};
+    plain_answer a;
     uint8_t kinds[MAX_OBUS];
-    size_t n, breaks;
+    size_t places[MAX_OBUS + 1], n, breaks;
     if (len > MAX_UNIT_BYTES)
         return plain_refused(2, 0);
     if (len < 3 || !start_code_at(unit))
@@ -40,44 +37,37 @@ static plain_answer judge_unit(const uint8_t *unit, size_t len, size_t *places)
         return plain_refused(1, 0);
     places[n] = len;
     for (size_t k = 0; k < n; k++) {
-        size_t payload_len = places[k + 1] - places[k] - 3, dropped;
-        uint64_t number = try_payload(unit + places[k] + 3, payload_len, &dropped, &kinds[k]);
+        uint64_t number;
+        parts[k].from = places[k] + 3;
+        parts[k].len = places[k + 1] - parts[k].from;
+        number = try_payload(unit + parts[k].from, &parts[k], &kinds[k]);
         if (number != 0)
             return plain_refused(number, k);
-        a.bytes += payload_len - dropped;
-        a.dropped += dropped;
     }
+    a = figures_of(parts, n);
     if (a.bytes > MAX_OBU_BYTES)
         return plain_refused(2, 0);
     breaks = order_breaks(kinds, n);
-    if (breaks <= n)
-        return plain_refused(7, breaks);
-    a.count = n;
-    return a;
+    return breaks <= n ? plain_refused(7, breaks) : a;
 }
 
 plain_answer plain_check_unit(const uint8_t *unit, size_t len)
 {
-    size_t places[MAX_OBUS + 1];
-    return judge_unit(unit, len, places);
+    payload_part parts[MAX_OBUS];
+    return judge_unit(unit, len, parts);
+}
+
+static inline void write_one(const uint8_t *payload, const payload_part *part, uint8_t *out)
+{
+    plain_write_unescaped(payload, part->len, out);
 }
 
 plain_answer plain_read_unit(const uint8_t *unit, size_t len, uint8_t *out, size_t room,
                              size_t *lengths, size_t n)
 {
-    size_t places[MAX_OBUS + 1], at = 0;
-    plain_answer a = judge_unit(unit, len, places);
-    if (a.number != 0)
-        return a;
-    if (a.bytes > room || a.count > n)
-        return plain_refused(8, 0);
-    for (size_t k = 0; k < a.count; k++) {
-        const uint8_t *payload = unit + places[k] + 3;
-        size_t payload_len = places[k + 1] - places[k] - 3;
-        lengths[k] = plain_write_unescaped(payload, payload_len, out + at);
-        at += lengths[k];
-    }
-    return a;
+    payload_part parts[MAX_OBUS];
+    plain_answer a = judge_unit(unit, len, parts);
+    return read_parts(unit, parts, a, (unit_outputs){out, room, lengths, n}, write_one);
 }
 
 plain_answer plain_write_unit(const uint8_t *obus, size_t len, const size_t *lengths, size_t n,

@@ -7,8 +7,11 @@ use std::slice::Iter;
 
 const CLIP: &[u8] = include_bytes!("../../samples/clip.ts");
 
-const MAX_UNITS: usize = 1_024;
-const MAX_OBUS: usize = 64;
+/// As many units as a segment can have.
+pub const MAX_UNITS: usize = 1_024;
+
+/// As many OBUs as a unit can have.
+pub const MAX_OBUS: usize = 64;
 
 /// splitmix64.
 struct Random(u64);

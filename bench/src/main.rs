@@ -15,6 +15,7 @@ mod payload;
 mod peers;
 mod segment;
 mod sending;
+mod sheet;
 mod table;
 mod unit;
 
@@ -46,7 +47,8 @@ fn main() -> ExitCode {
 fn run(plan: &Plan) -> Result<(), String> {
     let clip = Clip::read()?;
     if plan.counted {
-        return pass(plan, &clip).map(|_| ());
+        pass(plan, &clip)?;
+        return sheet::measure(plan, &clip).map(|_| ());
     }
     let mut tables = Tables::measure(plan, &clip)?;
     for _ in 1..plan.passes {
@@ -56,7 +58,7 @@ fn run(plan: &Plan) -> Result<(), String> {
     Ok(())
 }
 
-/// All rows once.
+/// All rows of the first table once.
 pub fn pass(plan: &Plan, clip: &Clip) -> Result<Vec<Row>, String> {
     let mut rows = Vec::new();
     payload::measure(plan, clip, &mut rows)?;

@@ -71,9 +71,14 @@ pub enum Peer {
     PacketLoop,
     Sse2,
     Memcpy,
+    /// The library's own check of a segment, which the writing of a sheet does too.
+    Check,
 }
 
-pub const PEERS: usize = 5;
+/// How many peers have a column in the first table.
+pub const COLUMNS: usize = Peer::Check as usize;
+
+pub const PEERS: usize = COLUMNS + 1;
 
 /// A line of the table: nanoseconds of CPU time per byte of the input, or per packet header.
 pub struct Row {

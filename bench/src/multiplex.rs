@@ -1,7 +1,7 @@
 //! Segments to measure on: one program with AV1 and audio, put together by the second program.
 
 use crate::access_unit::Units;
-use crate::input::{Clip, Kind};
+use crate::input::{Clip, Kind, MAX_UNITS};
 use av1ts::segment::Segment;
 use reference::compose::{BEHIND_HEADER, Entry, Load, Packet, Pes, pat, pmt, segment};
 
@@ -13,9 +13,6 @@ pub const PACKETS: usize = 12_000_000 / PACKET_BYTES;
 /// 240 units of 40,000 bytes are 9.6 seconds of video at 8 Mbit/s.
 const UNITS: usize = 240;
 const UNIT_BYTES: usize = 40_000;
-
-/// As many units as a segment can have.
-pub const MAX_UNITS: usize = 1_024;
 
 const PROGRAM: u16 = 1;
 const PAT_PID: u16 = 0;

@@ -1,23 +1,21 @@
 //! Checking a segment.
 
-use crate::input::{Clip, Kind, Size};
+use crate::input::{Clip, Kind, MAX_UNITS, Size};
 use crate::measure::{Case, Peer, Plan, Row, copy, touched};
-use crate::multiplex::{
-    AV1_PID, MAX_UNITS, Multiplex, PACKETS, long_units, nulls, of_packets, small_units,
-};
+use crate::multiplex::{AV1_PID, Multiplex, PACKETS, long_units, nulls, of_packets, small_units};
 use crate::peers::{Job, Packets, packets, plain, sse2};
 use av1ts::segment::{Segment, check_segment};
 
 /// Room for any segment of a length.
 #[derive(PartialEq)]
-struct Outputs {
-    bytes: Vec<u8>,
-    lengths: Vec<usize>,
-    times: Vec<u64>,
+pub struct Outputs {
+    pub bytes: Vec<u8>,
+    pub lengths: Vec<usize>,
+    pub times: Vec<u64>,
 }
 
 impl Outputs {
-    fn touched(len: usize) -> Outputs {
+    pub fn touched(len: usize) -> Outputs {
         Outputs {
             bytes: touched(len),
             lengths: vec![usize::MAX; MAX_UNITS],
@@ -26,7 +24,7 @@ impl Outputs {
     }
 
     /// What the check of a segment has to leave in them.
-    fn expected(multiplex: &Multiplex) -> Outputs {
+    pub fn expected(multiplex: &Multiplex) -> Outputs {
         let mut out = Outputs::touched(multiplex.segment.len());
         out.bytes[..multiplex.units.len()].copy_from_slice(&multiplex.units);
         out.lengths[..multiplex.lengths.len()].copy_from_slice(&multiplex.lengths);
@@ -35,20 +33,26 @@ impl Outputs {
     }
 }
 
+/// A row of a function on a segment, with the names of its kind and its size.
+pub type SegmentRow = fn(&Plan, &'static str, &'static str, Multiplex) -> Result<Row, String>;
+
 pub fn measure(plan: &Plan, clip: &Clip, rows: &mut Vec<Row>) -> Result<(), String> {
+    rows.extend(each(plan, clip, row)?);
+    Ok(())
+}
+
+/// The rows of a function on each segment that is measured.
+pub fn each(plan: &Plan, clip: &Clip, row: SegmentRow) -> Result<Vec<Row>, String> {
+    let mut rows = Vec::new();
     for kind in Kind::ALL {
         let segment = long_units(kind, plan.part, clip);
         rows.push(row(plan, kind.name(), plan.segment_size, segment)?);
     }
-    rows.push(row(
-        plan,
-        Kind::RealAv1.name(),
-        "1,024 small units",
-        small_units(clip),
-    )?);
+    let (small, name) = (small_units(clip), Kind::RealAv1.name());
+    rows.push(row(plan, name, "1,024 small units", small)?);
     let nulls = nulls(PACKETS / plan.part, clip);
     rows.push(row(plan, "null packets", plan.segment_size, nulls)?);
-    Ok(())
+    Ok(rows)
 }
 
 /// The rows of numbers of packets doubled.
@@ -64,18 +68,8 @@ fn row(
     size: &'static str,
     segment: Multiplex,
 ) -> Result<Row, String> {
-    let case = Case {
-        plan,
-        function: "check_segment",
-        kind,
-        size,
-        amount: segment.segment.len(),
-        inputs: &[segment],
-        repeats: plan.segment,
-    };
-    for segment in case.inputs {
-        same(&case, segment)?;
-    }
+    let case = case(plan, "check_segment", (kind, size), &segment);
+    same(&case, &segment)?;
     let peers = vec![
         (Peer::PlainC, case.run(&copy_payloads)),
         (Peer::PacketLoop, case.run(&read_packets)),
@@ -83,6 +77,24 @@ fn row(
         (Peer::Memcpy, case.run(&copy_segment)),
     ];
     Ok(case.row(&mut Outputs::touched(case.amount), case.run(&check), peers))
+}
+
+/// A function on a segment.
+pub fn case<'a>(
+    plan: &'a Plan,
+    function: &'static str,
+    (kind, size): (&'static str, &'static str),
+    segment: &'a Multiplex,
+) -> Case<'a, Multiplex> {
+    Case {
+        plan,
+        function,
+        kind,
+        size,
+        amount: segment.segment.len(),
+        inputs: std::slice::from_ref(segment),
+        repeats: plan.segment,
+    }
 }
 
 /// Checks that the library gives what was multiplexed, and each peer as much of it as it gives.
@@ -119,7 +131,7 @@ fn packets_of(multiplex: &Multiplex) -> Packets {
     }
 }
 
-fn check(multiplex: &Multiplex, out: &mut Outputs) -> Segment {
+pub fn check(multiplex: &Multiplex, out: &mut Outputs) -> Segment {
     check_segment(
         &multiplex.segment,
         &mut out.bytes,

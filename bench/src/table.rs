@@ -1,12 +1,13 @@
 //! The output: how it was measured, and Markdown tables.
 
 use crate::input::Clip;
-use crate::measure::{Plan, Row};
-use crate::{growth, pass};
+use crate::measure::{COLUMNS, Peer, Plan, Row};
+use crate::{growth, pass, sheet};
 
 /// All that is printed.
 pub struct Tables {
     rows: Vec<Row>,
+    sheets: Vec<Row>,
     /// How cost grows: of each function the rows of its sizes.
     units: Vec<Vec<Row>>,
     segments: Vec<Vec<Row>>,
@@ -16,6 +17,7 @@ impl Tables {
     pub fn measure(plan: &Plan, clip: &Clip) -> Result<Tables, String> {
         Ok(Tables {
             rows: pass(plan, clip)?,
+            sheets: sheet::measure(plan, clip)?,
             units: growth::of_units(plan, clip)?,
             segments: growth::of_segments(plan, clip)?,
         })
@@ -29,17 +31,19 @@ impl Tables {
 
     fn all(&self) -> impl Iterator<Item = &Row> {
         let growth = self.units.iter().chain(&self.segments);
-        self.rows.iter().chain(growth.flatten())
+        self.rows.iter().chain(&self.sheets).chain(growth.flatten())
     }
 
     fn all_mut(&mut self) -> impl Iterator<Item = &mut Row> {
         let growth = self.units.iter_mut().chain(&mut self.segments);
-        self.rows.iter_mut().chain(growth.flatten())
+        let rows = self.rows.iter_mut().chain(&mut self.sheets);
+        rows.chain(growth.flatten())
     }
 
     pub fn print(&self, plan: &Plan) {
         print_head(plan);
         print_rows(&self.rows);
+        print_sheets(&self.sheets);
         println!("How cost grows: the library's ns/byte at sizes doubled.");
         println!();
         print_growth(&self.units);
@@ -55,6 +59,22 @@ fn print_rows(rows: &[Row]) {
     println!("|---|---|---|{}", "---:|".repeat(6));
     for row in rows {
         println!("{}", line(row));
+    }
+    println!();
+}
+
+/// What the sheet adds to the check.
+fn print_sheets(rows: &[Row]) {
+    println!("Writing the sheet, which checks the segment too, beside the check alone.");
+    println!();
+    println!("| Function | Input | Size | Library ns/byte | / check_segment |");
+    println!("|---|---|---|{}", "---:|".repeat(2));
+    for row in rows {
+        println!(
+            "{} {} |",
+            names_and_time(row),
+            ratio(row, row.peers[Peer::Check as usize])
+        );
     }
     println!();
 }
@@ -126,22 +146,21 @@ fn print_inputs() {
 }
 
 fn line(row: &Row) -> String {
-    let ratios: Vec<String> = row
-        .peers
-        .iter()
-        .map(|peer| match peer {
-            Some(time) => format!("{:.2}", row.library / time),
-            None => "-".to_string(),
-        })
-        .collect();
+    let peers = &row.peers[..COLUMNS];
+    let ratios: Vec<String> = peers.iter().map(|&time| ratio(row, time)).collect();
+    format!("{} {} |", names_and_time(row), ratios.join(" | "))
+}
+
+fn names_and_time(row: &Row) -> String {
     format!(
-        "| {} | {} | {} | {:.3} | {} |",
-        row.function,
-        row.kind,
-        row.size,
-        row.library,
-        ratios.join(" | ")
+        "| {} | {} | {} | {:.3} |",
+        row.function, row.kind, row.size, row.library
     )
+}
+
+/// The library's time divided by a peer's.
+fn ratio(row: &Row, time: Option<f64>) -> String {
+    time.map_or("-".to_string(), |time| format!("{:.2}", row.library / time))
 }
 
 /// A line for each function, a column for each size.

@@ -1,13 +1,11 @@
 //! Reading, checking and writing one access unit.
 
 use crate::access_unit::{ObuList, Units};
-use crate::input::{Clip, Kind, Size};
+use crate::input::{Clip, Kind, MAX_OBUS, Size};
 use crate::measure::{Case, Peer, Plan, Row, copy, touched};
 use crate::peers::{lavc, plain, sse2};
 use av1ts::Answer;
 use av1ts::unit::{check_unit, read_unit, write_unit};
-
-const MAX_OBUS: usize = 64;
 
 /// Room for any unit of a size, and its OBUs' lengths.
 #[derive(Clone, PartialEq)]

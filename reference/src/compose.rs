@@ -95,6 +95,13 @@ impl Packet {
         Packet::new(pid, true, Load::Section(Section::new(body)))
     }
 
+    /// A packet without payload that has a PCR: its base and its extension.
+    pub fn clock(pid: u16, pcr: (u64, u64)) -> Packet {
+        let mut packet = Packet::new(pid, false, Load::Nothing);
+        packet.pcr = Some(pcr);
+        packet
+    }
+
     pub fn null() -> Packet {
         Packet::new(NULL, false, Load::Bytes(vec![0xFF; BEHIND_HEADER]))
     }
@@ -264,6 +271,16 @@ pub fn pmt(program: u16, pcr_pid: u16, info: &[u8], entries: &[Entry]) -> Vec<u8
     section.body
 }
 
+/// What comes before the units: the PAT of one program, by its number and its map's PID, its PMT, and
+/// a packet with a PCR.
+pub fn head((program, map): (u16, u16), pmt: Vec<u8>, clock: Packet) -> Vec<Packet> {
+    vec![
+        Packet::section(0, pat(&[(program, map)])),
+        Packet::section(map, pmt),
+        clock,
+    ]
+}
+
 /// A PES and its header's variations.
 #[derive(Clone, Debug)]
 pub struct Pes {
@@ -353,8 +370,12 @@ pub fn sample() -> Vec<u8> {
     const UNLISTED: u16 = 0x0042;
     let video = [0x80, 0x04, 0x81, 0x08, 0x0C, 0xC0];
     let entries = [Entry::av1(AV1, &video), Entry::new(0x0F, OTHER, &[])];
-    let pat = Packet::section(0, pat(&[(1, MAP)]));
-    let pmt = Packet::section(MAP, pmt(1, AV1, &[], &entries));
+    let head = head(
+        (1, MAP),
+        pmt(1, AV1, &[], &entries),
+        Packet::clock(AV1, (900_000, 0)),
+    );
+    let tables = head[..2].to_vec();
     let other = |start, fill| Packet::new(OTHER, start, Load::Bytes(vec![fill; BEHIND_HEADER]));
     let unlisted = Packet::new(UNLISTED, true, Load::Bytes(vec![0x55; BEHIND_HEADER]));
 
@@ -363,17 +384,14 @@ pub fn sample() -> Vec<u8> {
     let inter = sample_unit(&[&[0x12, 0x00], &frame(0x30, 420)]);
     let last = sample_unit(&[&[0x12, 0x00], &frame(0x50, 100)]);
 
-    let mut clock = Packet::new(AV1, false, Load::Nothing);
-    clock.pcr = Some((900_000, 0));
-    let mut packets = vec![pat.clone(), pmt.clone(), clock];
+    let mut packets = head;
     packets.extend(Pes::new(990_000, Some(986_997), &key).packets(AV1));
     packets.insert(5, other(true, 0xA0));
     packets.insert(8, unlisted);
     packets.push(Packet::null());
     packets.extend(Pes::new(993_003, None, &inter).packets(AV1));
     packets.push(other(false, 0xA1));
-    packets.push(pat);
-    packets.push(pmt);
+    packets.extend(tables);
     let mut third = Pes::new(996_006, None, &last).packets(AV1);
     third[0].pcr = Some((906_006, 150));
     packets.extend(third);

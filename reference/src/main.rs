@@ -3,6 +3,7 @@
 //! With names of suites on the command line only those run. With `--self` in front, the suites of
 //! descriptors, salvaging and segments run with the second implementation in both roles.
 
+mod helpers;
 mod kit;
 mod suites;
 
@@ -26,7 +27,7 @@ fn main() -> ExitCode {
     let itself = matches!(chosen.first(), Some(first) if first == "--self");
     if itself {
         chosen.remove(0);
-        suites::under_test::choose_itself();
+        helpers::under_test::choose_itself();
     }
     let all = suites::all(itself);
     for name in &chosen {

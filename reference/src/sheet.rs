@@ -90,11 +90,19 @@ impl Sheet {
         ]
     }
 
+    pub fn counts(&self) -> [u64; 3] {
+        [self.streams.len(), self.units.len(), self.obus.len()].map(|count| count as u64)
+    }
+
     pub fn bytes(&self) -> Vec<u8> {
-        let counts = [self.streams.len(), self.units.len(), self.obus.len()];
+        self.bytes_with(self.counts())
+    }
+
+    /// The bytes with these counts, be they right or not.
+    pub fn bytes_with(&self, counts: [u64; 3]) -> Vec<u8> {
         let mut bytes = Vec::new();
         for (count, numbers) in counts.into_iter().zip(self.numbers()) {
-            bytes.extend((count as u64).to_be_bytes());
+            bytes.extend(count.to_be_bytes());
             for number in numbers {
                 bytes.extend(number.to_be_bytes());
             }
@@ -168,17 +176,25 @@ impl Numbers<'_> {
         Some(u64::from_be_bytes(number.try_into().ok()?))
     }
 
-    /// So many lists of `N` numbers.
-    fn lists<const N: usize>(&mut self, count: u64) -> Option<Vec<[u64; N]>> {
+    /// A section: its count, which may not pass a limit, and so many lists of `N` numbers.
+    fn section<const N: usize>(
+        &mut self,
+        most: usize,
+        passed: &'static str,
+    ) -> Result<Vec<[u64; N]>, &'static str> {
+        let count = self.next().ok_or("45: a count is cut off")?;
+        if count > most as u64 {
+            return Err(passed);
+        }
         let mut lists = Vec::new();
         for _ in 0..count {
             let mut list = [0; N];
             for number in &mut list {
-                *number = self.next()?;
+                *number = self.next().ok_or("45: shorter than the counts give")?;
             }
             lists.push(list);
         }
-        Some(lists)
+        Ok(lists)
     }
 }
 
@@ -186,19 +202,12 @@ impl Numbers<'_> {
 fn sections(bytes: &[u8]) -> Result<Sheet, &'static str> {
     let mut numbers = Numbers { rest: bytes };
     let mut sheet = Sheet::default();
-    let count = numbers.next().ok_or("45: a count is cut off")?;
-    if count > MOST_STREAMS as u64 {
-        return Err("45: more than 12 streams");
-    }
-    let short = "45: shorter than the counts give";
-    for [pid, stream_type] in numbers.lists(count).ok_or(short)? {
+    for [pid, stream_type] in numbers.section(MOST_STREAMS, "45: more than 12 streams")? {
         sheet.streams.push(Stream { pid, stream_type });
     }
-    let count = numbers.next().ok_or("45: a count is cut off")?;
-    if count > MOST_UNITS as u64 {
-        return Err("45: more than 1,024 units");
-    }
-    for [first_packet, length, pts, dts] in numbers.lists(count).ok_or(short)? {
+    for [first_packet, length, pts, dts] in
+        numbers.section(MOST_UNITS, "45: more than 1,024 units")?
+    {
         sheet.units.push(Unit {
             first_packet,
             length,
@@ -206,11 +215,9 @@ fn sections(bytes: &[u8]) -> Result<Sheet, &'static str> {
             dts,
         });
     }
-    let count = numbers.next().ok_or("45: a count is cut off")?;
-    if count > MOST_LISTED_OBUS as u64 {
-        return Err("45: more than 65,536 OBUs");
-    }
-    for [unit, obu_type, offset, length] in numbers.lists(count).ok_or(short)? {
+    for [unit, obu_type, offset, length] in
+        numbers.section(MOST_LISTED_OBUS, "45: more than 65,536 OBUs")?
+    {
         sheet.obus.push(Obu {
             unit,
             obu_type,

@@ -38,7 +38,7 @@ extern "C" {
 /// The values of a video descriptor, which is given with tag and length.
 pub fn read_descriptor(bytes: &[u8]) -> Descriptor {
     // SAFETY: the slice is valid for its length.
-    unsafe { av1ts_read_descriptor(bytes.as_ptr(), bytes.len()) }
+    unsafe { call!(av1ts_read_descriptor(in bytes)) }
 }
 
 /// Writes a video descriptor without delay to the front of `out`; `count` is the number of bytes
@@ -46,11 +46,11 @@ pub fn read_descriptor(bytes: &[u8]) -> Descriptor {
 pub fn write_descriptor(field: &[u8; 10], out: &mut [u8]) -> Answer {
     // SAFETY: the C side reads ten bytes of `field`, and `out` is valid for its length; the two do
     // not overlap.
-    unsafe { av1ts_write_descriptor(field.as_ptr(), out.as_mut_ptr(), out.len()) }
+    unsafe { call!(av1ts_write_descriptor(field.as_ptr(), out out)) }
 }
 
 /// Reads a video descriptor and writes it without delay to the front of `out`.
 pub fn rewrite_descriptor(bytes: &[u8], out: &mut [u8]) -> Rewritten {
     // SAFETY: both slices are valid for their lengths and do not overlap.
-    unsafe { av1ts_rewrite_descriptor(bytes.as_ptr(), bytes.len(), out.as_mut_ptr(), out.len()) }
+    unsafe { call!(av1ts_rewrite_descriptor(in bytes, out out)) }
 }

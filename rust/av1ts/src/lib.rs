@@ -16,6 +16,22 @@
 //! one lends whole slices: the C side gets each slice's own address and length, inputs are shared and
 //! outputs exclusive, so no safe call can misuse it.
 
+/// Calls a C function. Of a slice behind `in`, which is shared, and behind `out`, which is exclusive,
+/// it gets the address and the length.
+macro_rules! call {
+    ($name:ident($($arguments:tt)*)) => { call!(@ $name() $($arguments)*) };
+    (@ $name:ident($($done:expr),*)) => { $name($($done),*) };
+    (@ $name:ident($($done:expr),*) in $slice:ident $(, $($rest:tt)*)?) => {
+        call!(@ $name($($done,)* $slice.as_ptr(), $slice.len()) $($($rest)*)?)
+    };
+    (@ $name:ident($($done:expr),*) out $slice:ident $(, $($rest:tt)*)?) => {
+        call!(@ $name($($done,)* $slice.as_mut_ptr(), $slice.len()) $($($rest)*)?)
+    };
+    (@ $name:ident($($done:expr),*) $value:expr $(, $($rest:tt)*)?) => {
+        call!(@ $name($($done,)* $value) $($($rest)*)?)
+    };
+}
+
 pub mod descriptor;
 pub mod mastering;
 pub mod payload;

@@ -20,7 +20,7 @@ extern "C" {
 /// The figures of a content, from its metadata type on.
 pub fn read_mastering(content: &[u8]) -> Mastering {
     // SAFETY: the slice is valid for its length.
-    unsafe { av1ts_read_mastering(content.as_ptr(), content.len()) }
+    unsafe { call!(av1ts_read_mastering(in content)) }
 }
 
 /// Writes the content of ten values of ST 2086, in the content's order, to the front of `out`;
@@ -28,5 +28,5 @@ pub fn read_mastering(content: &[u8]) -> Mastering {
 pub fn write_mastering(value: &[u64; 10], out: &mut [u8]) -> Answer {
     // SAFETY: the C side reads ten numbers of `value`, and `out` is valid for its length; the two do
     // not overlap.
-    unsafe { av1ts_write_mastering(value.as_ptr(), out.as_mut_ptr(), out.len()) }
+    unsafe { call!(av1ts_write_mastering(value.as_ptr(), out out)) }
 }

@@ -10,12 +10,12 @@ extern "C" {
 /// Writes the escaped OBU to the front of `out`; `count` is the number of bytes written.
 pub fn escape(obu: &[u8], out: &mut [u8]) -> Answer {
     // SAFETY: both slices are valid for their lengths and do not overlap.
-    unsafe { av1ts_escape(obu.as_ptr(), obu.len(), out.as_mut_ptr(), out.len()) }
+    unsafe { call!(av1ts_escape(in obu, out out)) }
 }
 
 /// Writes the unescaped payload to the front of `out`; `count` is the number of bytes written,
 /// `dropped` the number of bytes dropped.
 pub fn unescape(payload: &[u8], out: &mut [u8]) -> Answer {
     // SAFETY: both slices are valid for their lengths and do not overlap.
-    unsafe { av1ts_unescape(payload.as_ptr(), payload.len(), out.as_mut_ptr(), out.len()) }
+    unsafe { call!(av1ts_unescape(in payload, out out)) }
 }

@@ -89,24 +89,13 @@ pub fn add(
 ) -> Queued {
     // SAFETY: both slices are valid for their lengths and do not overlap; the C side takes any
     // queue.
-    unsafe {
-        av1ts_queue_add(
-            queue,
-            store.as_mut_ptr(),
-            store.len(),
-            unit.as_ptr(),
-            unit.len(),
-            pts,
-            dts,
-            u64::from(marked),
-        )
-    }
+    unsafe { call!(av1ts_queue_add(queue, out store, in unit, pts, dts, u64::from(marked))) }
 }
 
 /// Takes out the oldest unit; the bytes of the others move to the front of `store`.
 pub fn drop_oldest(queue: Queue, store: &mut [u8]) -> Queued {
     // SAFETY: the slice is valid for its length; the C side takes any queue.
-    unsafe { av1ts_queue_drop(queue, store.as_mut_ptr(), store.len()) }
+    unsafe { call!(av1ts_queue_drop(queue, out store)) }
 }
 
 /// Takes out all units.
@@ -131,16 +120,5 @@ pub fn send(
 ) -> Sent {
     // SAFETY: the slices are valid for their lengths and the output overlaps no other; the C side
     // takes any queue.
-    unsafe {
-        av1ts_queue_send(
-            queue,
-            store.as_ptr(),
-            store.len(),
-            channel,
-            descriptor.as_ptr(),
-            descriptor.len(),
-            out.as_mut_ptr(),
-            out.len(),
-        )
-    }
+    unsafe { call!(av1ts_queue_send(queue, in store, channel, in descriptor, out out)) }
 }

@@ -38,14 +38,5 @@ extern "C" {
 /// A state that no run reaches is number 47 at place 0.
 pub fn replay(state: ReplayState, rate: u64, times: &[u64], counts: &[u64]) -> Replayed {
     // SAFETY: both slices are valid for their lengths.
-    unsafe {
-        av1ts_replay(
-            state,
-            rate,
-            times.as_ptr(),
-            times.len(),
-            counts.as_ptr(),
-            counts.len(),
-        )
-    }
+    unsafe { call!(av1ts_replay(state, rate, in times, in counts)) }
 }

@@ -30,14 +30,5 @@ extern "C" {
 /// number that it was dropped with.
 pub fn salvage(unit: &[u8], out: &mut [u8], marks: &mut [u8]) -> Salvaged {
     // SAFETY: the slices are valid for their lengths and none overlaps another.
-    unsafe {
-        av1ts_salvage(
-            unit.as_ptr(),
-            unit.len(),
-            out.as_mut_ptr(),
-            out.len(),
-            marks.as_mut_ptr(),
-            marks.len(),
-        )
-    }
+    unsafe { call!(av1ts_salvage(in unit, out out, out marks)) }
 }

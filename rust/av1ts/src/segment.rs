@@ -55,18 +55,7 @@ pub fn check_segment(
     times: &mut [u64],
 ) -> Segment {
     // SAFETY: the slices are valid for their lengths and none overlaps another.
-    unsafe {
-        av1ts_check_segment(
-            segment.as_ptr(),
-            segment.len(),
-            out.as_mut_ptr(),
-            out.len(),
-            lengths.as_mut_ptr(),
-            lengths.len(),
-            times.as_mut_ptr(),
-            times.len(),
-        )
-    }
+    unsafe { call!(av1ts_check_segment(in segment, out out, out lengths, out times)) }
 }
 
 /// The same in an edition: 0 current, 1 draft, any other is number 44. Under draft a unit without
@@ -81,16 +70,6 @@ pub fn check_segment_edition(
     // SAFETY: the slices are valid for their lengths and none overlaps another; the C side takes any
     // edition.
     unsafe {
-        av1ts_check_segment_edition(
-            edition,
-            segment.as_ptr(),
-            segment.len(),
-            out.as_mut_ptr(),
-            out.len(),
-            lengths.as_mut_ptr(),
-            lengths.len(),
-            times.as_mut_ptr(),
-            times.len(),
-        )
+        call!(av1ts_check_segment_edition(edition, in segment, out out, out lengths, out times))
     }
 }

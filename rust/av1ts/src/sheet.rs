@@ -75,19 +75,7 @@ pub fn write_sheet(
     // SAFETY: the slices are valid for their lengths and none overlaps another; the C side takes
     // any edition.
     unsafe {
-        av1ts_write_sheet(
-            edition,
-            segment.as_ptr(),
-            segment.len(),
-            out.as_mut_ptr(),
-            out.len(),
-            lengths.as_mut_ptr(),
-            lengths.len(),
-            times.as_mut_ptr(),
-            times.len(),
-            sheet.as_mut_ptr(),
-            sheet.len(),
-        )
+        call!(av1ts_write_sheet(edition, in segment, out out, out lengths, out times, out sheet))
     }
 }
 
@@ -95,22 +83,11 @@ pub fn write_sheet(
 /// a stream, four a unit, four an OBU.
 pub fn read_sheet(sheet: &[u8], streams: &mut [u64], units: &mut [u64], obus: &mut [u64]) -> Sheet {
     // SAFETY: the slices are valid for their lengths and none overlaps another.
-    unsafe {
-        av1ts_read_sheet(
-            sheet.as_ptr(),
-            sheet.len(),
-            streams.as_mut_ptr(),
-            streams.len(),
-            units.as_mut_ptr(),
-            units.len(),
-            obus.as_mut_ptr(),
-            obus.len(),
-        )
-    }
+    unsafe { call!(av1ts_read_sheet(in sheet, out streams, out units, out obus)) }
 }
 
 /// The unit of a number, from 0.
 pub fn sheet_unit(sheet: &[u8], unit: u64) -> SheetFound {
     // SAFETY: the slice is valid for its length; the C side takes any number.
-    unsafe { av1ts_sheet_unit(sheet.as_ptr(), sheet.len(), unit) }
+    unsafe { call!(av1ts_sheet_unit(in sheet, unit)) }
 }

@@ -36,16 +36,7 @@ extern "C" {
 /// `count` is the number of bytes written.
 pub fn write_unit(obus: &[u8], lengths: &[usize], out: &mut [u8]) -> Answer {
     // SAFETY: the slices are valid for their lengths and the output overlaps no other.
-    unsafe {
-        av1ts_write_unit(
-            obus.as_ptr(),
-            obus.len(),
-            lengths.as_ptr(),
-            lengths.len(),
-            out.as_mut_ptr(),
-            out.len(),
-        )
-    }
+    unsafe { call!(av1ts_write_unit(in obus, in lengths, out out)) }
 }
 
 /// Writes the OBUs of a carried unit back to back to the front of `out` and their lengths to the
@@ -53,16 +44,7 @@ pub fn write_unit(obus: &[u8], lengths: &[usize], out: &mut [u8]) -> Answer {
 /// dropped in all.
 pub fn read_unit(unit: &[u8], out: &mut [u8], lengths: &mut [usize]) -> Answer {
     // SAFETY: the slices are valid for their lengths and none overlaps another.
-    unsafe {
-        av1ts_read_unit(
-            unit.as_ptr(),
-            unit.len(),
-            out.as_mut_ptr(),
-            out.len(),
-            lengths.as_mut_ptr(),
-            lengths.len(),
-        )
-    }
+    unsafe { call!(av1ts_read_unit(in unit, out out, out lengths)) }
 }
 
 /// The same, and how many bytes the size of each OBU takes to the front of `widths`, 0 where it has
@@ -74,22 +56,11 @@ pub fn read_unit_widths(
     widths: &mut [usize],
 ) -> Answer {
     // SAFETY: the slices are valid for their lengths and none overlaps another.
-    unsafe {
-        av1ts_read_unit_widths(
-            unit.as_ptr(),
-            unit.len(),
-            out.as_mut_ptr(),
-            out.len(),
-            lengths.as_mut_ptr(),
-            lengths.len(),
-            widths.as_mut_ptr(),
-            widths.len(),
-        )
-    }
+    unsafe { call!(av1ts_read_unit_widths(in unit, out out, out lengths, out widths)) }
 }
 
 /// Tries all refusals of reading but 8; the figures are those of `read_unit`.
 pub fn check_unit(unit: &[u8]) -> Answer {
     // SAFETY: the slice is valid for its length.
-    unsafe { av1ts_check_unit(unit.as_ptr(), unit.len()) }
+    unsafe { call!(av1ts_check_unit(in unit)) }
 }

@@ -21,11 +21,11 @@ extern "C" {
 /// Number 9, or `next_at` of the first step.
 pub fn walk_start(unit: &[u8]) -> Step {
     // SAFETY: the slice is valid for its length.
-    unsafe { av1ts_walk_start(unit.as_ptr(), unit.len()) }
+    unsafe { call!(av1ts_walk_start(in unit)) }
 }
 
 /// The step at the place `at`, which is any number: one that no walk reaches is no misuse.
 pub fn walk_step(unit: &[u8], at: usize) -> Step {
     // SAFETY: the slice is valid for its length; the C side takes any place.
-    unsafe { av1ts_walk_step(unit.as_ptr(), unit.len(), at) }
+    unsafe { call!(av1ts_walk_step(in unit, at)) }
 }

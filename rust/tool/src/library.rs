@@ -4,11 +4,12 @@ pub mod queue;
 pub mod salvage;
 pub mod sheet;
 
-use av1ts::{descriptor, mastering, payload, replay, segment, unit, walk};
+use av1ts::{MasteringFigures, VideoDescriptor, descriptor, mastering, replay, segment, walk};
 
 pub use av1ts::replay::{ReplayState, Replayed};
 pub use av1ts::segment::Segment;
 pub use av1ts::walk::Step;
+pub use av1ts::{Edition, NO_TIME, UnitFigures};
 
 /// The most packets that a check takes.
 pub const MOST_PACKETS: usize = 65_535;
@@ -22,8 +23,6 @@ pub const MOST_UNIT: usize = 1_048_576;
 pub const MOST_OBUS: usize = 64;
 /// The most bytes of one payload.
 pub const MOST_PAYLOAD: usize = 1_572_864;
-/// The time of a unit that has none, as the draft has it.
-pub const NO_TIME: u64 = 8_589_934_592;
 
 /// The version of the interface, as its header has it.
 pub const INTERFACE: &str = env!("AV1TS_INTERFACE");
@@ -35,19 +34,21 @@ pub struct Refused {
     pub place: u64,
 }
 
+impl From<av1ts::Refused> for Refused {
+    fn from(refused: av1ts::Refused) -> Refused {
+        Refused {
+            number: refused.why.number(),
+            place: refused.place,
+        }
+    }
+}
+
 fn refusal(number: u64, place: u64) -> Result<(), Refused> {
     if number == 0 {
         Ok(())
     } else {
         Err(Refused { number, place })
     }
-}
-
-/// The edition that a segment is checked by.
-#[derive(Clone, Copy, Debug, PartialEq, Eq)]
-pub enum Edition {
-    Current,
-    Draft,
 }
 
 /// A checked segment with its units.
@@ -91,7 +92,9 @@ pub fn check(edition: Edition, packets: &[u8]) -> Checked {
     let mut out = vec![0; packets.len().min(MOST_PACKETS * 188)];
     let mut lengths = vec![0; MOST_UNITS];
     let mut times = vec![0; 2 * MOST_UNITS];
-    let segment = check_in(edition, packets, &mut out, &mut lengths, &mut times);
+    let number = edition.number();
+    let segment =
+        segment::check_segment_edition(number, packets, &mut out, &mut lengths, &mut times);
     Checked {
         segment,
         out,
@@ -100,67 +103,20 @@ pub fn check(edition: Edition, packets: &[u8]) -> Checked {
     }
 }
 
-fn check_in(
-    edition: Edition,
-    packets: &[u8],
-    out: &mut [u8],
-    lengths: &mut [usize],
-    times: &mut [u64],
-) -> Segment {
-    segment::check_segment_edition(edition_number(edition), packets, out, lengths, times)
-}
-
-fn edition_number(edition: Edition) -> u64 {
-    match edition {
-        Edition::Current => 0,
-        Edition::Draft => 1,
-    }
-}
-
-/// The figures of a unit that reading accepts.
-#[derive(Clone, Copy, Debug)]
-pub struct Figures {
-    pub obus: u64,
-    pub bytes: u64,
-    pub dropped: u64,
-}
-
 /// Whether reading accepts a carried unit.
-pub fn check_unit(carried: &[u8]) -> Result<Figures, Refused> {
-    let answer = unit::check_unit(carried);
-    refusal(answer.number, answer.place)?;
-    Ok(Figures {
-        obus: answer.count,
-        bytes: answer.bytes,
-        dropped: answer.dropped,
-    })
+pub fn check_unit(carried: &[u8]) -> Result<UnitFigures, Refused> {
+    Ok(av1ts::check_unit(carried)?)
 }
 
 /// The OBUs of a carried unit.
 pub fn read_unit(carried: &[u8]) -> Result<Vec<Vec<u8>>, Refused> {
-    let mut out = vec![0; carried.len().min(MOST_UNIT)];
-    let mut lengths = [0; MOST_OBUS];
-    let answer = unit::read_unit(carried, &mut out, &mut lengths);
-    refusal(answer.number, answer.place)?;
-    let mut rest = out.as_slice();
-    let mut obus = Vec::new();
-    for length in lengths.iter().take(answer.count as usize) {
-        let (obu, behind) = rest.split_at(*length);
-        obus.push(obu.to_vec());
-        rest = behind;
-    }
-    Ok(obus)
+    let unit = av1ts::read_unit(carried)?;
+    Ok(unit.obus().map(<[u8]>::to_vec).collect())
 }
 
 /// The carried unit of OBUs.
 pub fn write_unit(obus: &[Vec<u8>]) -> Result<Vec<u8>, Refused> {
-    let lengths: Vec<usize> = obus.iter().map(Vec::len).collect();
-    let together = obus.concat();
-    let mut out = vec![0; together.len() + together.len() / 2 + 3 * obus.len()];
-    let answer = unit::write_unit(&together, &lengths, &mut out);
-    refusal(answer.number, answer.place)?;
-    out.truncate(answer.count as usize);
-    Ok(out)
+    Ok(av1ts::write_unit(obus)?)
 }
 
 /// The step of a walk over a carried unit.
@@ -170,20 +126,13 @@ pub fn step(carried: &[u8], at: usize) -> Step {
 
 /// The payload of an OBU.
 pub fn escape(obu: &[u8]) -> Result<Vec<u8>, Refused> {
-    let mut out = vec![0; obu.len() + obu.len() / 2];
-    let answer = payload::escape(obu, &mut out);
-    refusal(answer.number, answer.place)?;
-    out.truncate(answer.count as usize);
-    Ok(out)
+    Ok(av1ts::escape(obu)?)
 }
 
 /// The OBU of a payload, and how many bytes were dropped.
-pub fn unescape(carried: &[u8]) -> Result<(Vec<u8>, u64), Refused> {
-    let mut out = vec![0; carried.len()];
-    let answer = payload::unescape(carried, &mut out);
-    refusal(answer.number, answer.place)?;
-    out.truncate(answer.count as usize);
-    Ok((out, answer.dropped))
+pub fn unescape(carried: &[u8]) -> Result<(Vec<u8>, usize), Refused> {
+    let unescaped = av1ts::unescape(carried)?;
+    Ok((unescaped.obu, unescaped.dropped))
 }
 
 /// The ten fields of a video descriptor, and its delay where it has one.
@@ -216,10 +165,8 @@ pub fn write_descriptor(field: &[u8; 10]) -> Result<Vec<u8>, Refused> {
 
 /// The descriptor without its delay, and whether it had one.
 pub fn rewrite_descriptor(bytes: &[u8]) -> Result<(Vec<u8>, bool), Refused> {
-    let mut out = vec![0; 6];
-    let answer = descriptor::rewrite_descriptor(bytes, &mut out);
-    refusal(answer.number, answer.place)?;
-    Ok((out, answer.dropped_delay == 1))
+    let rewritten = VideoDescriptor::rewrite(bytes)?;
+    Ok((rewritten.bytes.to_vec(), rewritten.dropped_delay))
 }
 
 pub fn read_mastering(content: &[u8]) -> Result<[f64; 10], Refused> {
@@ -229,10 +176,7 @@ pub fn read_mastering(content: &[u8]) -> Result<[f64; 10], Refused> {
 }
 
 pub fn write_mastering(value: &[u64; 10]) -> Result<Vec<u8>, Refused> {
-    let mut out = vec![0; 26];
-    let answer = mastering::write_mastering(value, &mut out);
-    refusal(answer.number, answer.place)?;
-    Ok(out)
+    Ok(MasteringFigures::write(value)?.to_vec())
 }
 
 /// A run over arrivals from a state on.

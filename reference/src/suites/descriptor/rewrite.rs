@@ -1,7 +1,7 @@
 //! Descriptors rewritten: each field swept by itself, all values of the last two bytes, rooms.
 
-use super::super::payload::rooms;
-use super::{Caller, EXAMPLE};
+use crate::helpers::descriptor::{Caller, EXAMPLE};
+use crate::helpers::payload::rooms;
 use crate::kit::{Definition, Random, Suite, labels};
 use reference::descriptor::CONDITIONS_40;
 

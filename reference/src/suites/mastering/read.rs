@@ -1,8 +1,8 @@
 //! Contents read: every value of each chromaticity, luminances of every magnitude, every form of the
 //! type, and contents of another form.
 
-use super::super::leb128::form;
-use super::{Caller, DISPLAYS};
+use crate::helpers::leb128::form;
+use crate::helpers::mastering::{Caller, DISPLAYS};
 use crate::kit::{Definition, Random, Suite, labels};
 use reference::mastering::{CONDITIONS_48, FIGURES, WRITTEN, double_bits};
 

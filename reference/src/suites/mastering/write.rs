@@ -1,7 +1,8 @@
 //! Values written: every chromaticity, luminances around every rounding boundary and both limits, 49
 //! by each figure, rooms.
 
-use super::{Caller, DISPLAYS};
+use crate::helpers::mastering::{Caller, DISPLAYS};
+use crate::helpers::payload::ROOMS;
 use crate::kit::{Definition, Random, Suite, hex, labels};
 use reference::mastering::{FIGURES, WRITTEN, nearest};
 
@@ -26,13 +27,9 @@ pub const SUITE: Definition = Definition {
             "far past",
             "two past",
             "49 before 8",
-            "8: no room",
-            "8: several bytes short",
-            "8: one byte short",
-            "room exactly enough",
-            "room more than enough",
             "written, then read",
         ]));
+        list.extend(labels(ROOMS));
         list
     },
     run,

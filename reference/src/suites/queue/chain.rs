@@ -1,7 +1,8 @@
 //! Sends one after the other, each with the counters that the one before handed back: together they
 //! are one segment.
 
-use super::{Session, VIDEO, any_channel, any_unit, carried};
+use crate::helpers::queue::{Session, VIDEO, any_channel, any_unit, carried};
+use crate::helpers::segment::wide;
 use crate::kit::{Definition, Random, Suite, labels};
 use av1ts::queue::Channel;
 use reference::packet::SIZE;
@@ -93,7 +94,7 @@ fn chain(suite: &mut Suite, random: &mut Random, sends: usize) {
     session.add(suite, &unit, &[]);
     let sent = session.send(suite, &other, &video, 100 * SIZE, &[]);
     bytes.extend(sent.expect("it can be sent").bytes);
-    let rooms = crate::suites::segment::wide(&bytes);
+    let rooms = wide(&bytes);
     session.check.check_as(
         suite,
         &bytes,

@@ -1,6 +1,6 @@
 //! PES lengths around 65,535, the longest units, and 65,535 packets and one more.
 
-use super::{CHANNEL, Session, VIDEO, plain, queued};
+use crate::helpers::queue::{CHANNEL, Session, VIDEO, plain, queued};
 use crate::kit::{Definition, Suite, labels};
 use reference::packet::SIZE;
 use reference::queue::Queued;

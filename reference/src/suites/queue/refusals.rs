@@ -1,8 +1,8 @@
 //! Refusals of add: by each condition, in pairs, and rooms of the store around the boundary.
 
-use super::{Session, any_unit, plain, queued};
+use crate::helpers::queue::{Session, any_unit, plain, queued};
+use crate::helpers::unit::reading_conditions;
 use crate::kit::{Definition, Random, Suite, labels};
-use crate::suites::unit::READING;
 use reference::queue::{
     DTS_TOO_LONG, FULL, MOST_TIME, NOT_ACCEPTED, PTS_TOO_LONG, Queued, STORE_TOO_SHORT,
 };
@@ -29,7 +29,7 @@ pub const SUITE: Definition = Definition {
             "one byte more",
             "the highest time",
         ]);
-        for condition in READING {
+        for condition in reading_conditions() {
             list.push(format!("51: {condition}"));
         }
         list

@@ -1,6 +1,8 @@
 //! Scripts of operations, any after any.
 
-use super::{CHANNEL, Session, VIDEO, any_channel, any_time, any_unit, plain, queued};
+use crate::helpers::queue::{
+    CHANNEL, Session, VIDEO, any_channel, any_time, any_unit, plain, queued,
+};
 use crate::kit::{Definition, Random, Suite, labels};
 use reference::queue::{
     DTS_TOO_LONG, FULL, MOST_QUEUED, MOST_TIME, NOT_ACCEPTED, PTS_TOO_LONG, STORE_TOO_SHORT,

@@ -1,7 +1,7 @@
 //! Refusals of send: by each condition, at its boundary and past it, in pairs, and rooms of the
 //! output around the boundary.
 
-use super::{CHANNEL, Session, VIDEO, any_channel, any_unit};
+use crate::helpers::queue::{CHANNEL, Session, VIDEO, any_channel, any_unit};
 use crate::kit::{Definition, Random, Suite, labels};
 use av1ts::queue::Channel;
 use reference::descriptor::{self, CONDITIONS_40};

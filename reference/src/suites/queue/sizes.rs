@@ -1,7 +1,7 @@
 //! Sends at every size around a packet's end, marked and not, with DTS and without, and first
 //! frames at every place around the end of the first packet.
 
-use super::{CHANNEL, Session, any_channel, any_unit, plain};
+use crate::helpers::queue::{CHANNEL, Session, any_channel, any_unit, plain};
 use crate::kit::{Definition, Random, Suite, labels};
 use reference::packet::SIZE;
 use reference::queue::Queued;

@@ -1,7 +1,7 @@
 //! Queues that no operation hands back, and stores that were changed: every operation answers, and
 //! nothing outside what it is lent is touched.
 
-use super::{CHANNEL, Session, Store, VIDEO, any_channel, any_unit, plain};
+use crate::helpers::queue::{CHANNEL, Session, Store, VIDEO, any_channel, any_unit, plain};
 use crate::kit::{Definition, Given, Lent, Random, Suite, labels};
 use av1ts::queue::{self, Queue};
 
@@ -31,25 +31,20 @@ fn all(suite: &mut Suite, random: &mut Random, queue: Queue, room: usize, label:
     let mut unit = Given::default();
     let mut store = Store::new(room);
     let mut out = Lent::default();
-    let guards = |store: &Store| {
-        let end = store.whole.len() - super::GUARD;
-        store.whole[..super::GUARD] == store.expected[..super::GUARD]
-            && store.whole[end..] == store.expected[end..]
-    };
     let bytes = plain(4 + random.below(60));
     unit.give(&bytes);
     let _ = queue::add(queue, store.lend(), unit.part(), 5, 4, true);
-    let passed = guards(&store) && unit.unchanged(&bytes);
+    let passed = store.guards_kept() && unit.unchanged(&bytes);
     suite.case(&[label], passed, || {
         format!("add to {queue:?}: guards wrong")
     });
     let _ = queue::drop_oldest(queue, store.lend());
-    suite.case(&[label], guards(&store), || {
+    suite.case(&[label], store.guards_kept(), || {
         format!("drop of {queue:?}: guards wrong")
     });
     let _ = queue::clear(queue);
     let _ = queue::total(queue);
-    suite.case(&[label], guards(&store), || {
+    suite.case(&[label], store.guards_kept(), || {
         format!("clear of {queue:?}: guards wrong")
     });
     let before = store.part().to_vec();
@@ -58,7 +53,7 @@ fn all(suite: &mut Suite, random: &mut Random, queue: Queue, room: usize, label:
     let _ = queue::send(queue, store.part(), channel, &VIDEO, out.lend(out_room));
     // What was written stands inside the output.
     let written = out.part().to_vec();
-    let passed = out.holds(&written) && store.part() == before && guards(&store);
+    let passed = out.holds(&written) && store.part() == before && store.guards_kept();
     suite.case(&[label], passed, || {
         format!("send of {queue:?}: guards wrong")
     });

@@ -1,6 +1,6 @@
 //! Scripts of hundreds of operations, the total asked after each, refused or not.
 
-use super::{CHANNEL, Session, VIDEO, any_channel, any_unit, plain, queued, total};
+use crate::helpers::queue::{CHANNEL, Session, VIDEO, any_channel, any_unit, plain, queued, total};
 use crate::kit::{Definition, Random, Suite, labels};
 use reference::queue::{
     DTS_TOO_LONG, FULL, MOST_TIME, NOT_ACCEPTED, PTS_TOO_LONG, STORE_TOO_SHORT,

@@ -1,6 +1,6 @@
 //! Every number at its boundary and one past it, and refusals in pairs.
 
-use super::{Caller, Trace, in_c};
+use crate::helpers::replay::{Caller, Trace, in_c};
 use crate::kit::{Definition, Suite, labels};
 use av1ts::replay::ReplayState;
 use reference::replay::{

@@ -1,7 +1,7 @@
 //! A trace in two runs, cut at every place: the first run's end state is handed to the second, and
 //! both report as one. Where an arrival is refused, the place is its index in its own run.
 
-use super::{Caller, Trace, any_rate, any_trace};
+use crate::helpers::replay::{Caller, Trace, any_rate, any_trace};
 use crate::kit::{Definition, Random, Suite, labels};
 use av1ts::replay::{ReplayState, Replayed};
 use reference::replay::{SECOND, drain_at_once};

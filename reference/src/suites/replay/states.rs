@@ -1,6 +1,6 @@
 //! States that no run reaches: 47 at place 0, and the state is given back as it was.
 
-use super::{Caller, Trace, answer, any_rate, any_trace, from_c};
+use crate::helpers::replay::{Caller, Trace, answer, any_rate, any_trace, from_c};
 use crate::kit::{Definition, Random, Suite, labels};
 use av1ts::replay::{ReplayState, Replayed};
 use reference::replay::{self, MOST_ARRIVALS, MOST_BYTES, SIZE, drain_at_once, fill_of};

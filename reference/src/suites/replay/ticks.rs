@@ -1,6 +1,6 @@
 //! Ticks taken one by one, on short runs, against the library; and on longer ones all at once.
 
-use super::{Caller, any_rate, any_trace};
+use crate::helpers::replay::{Caller, any_rate, any_trace};
 use crate::kit::{Definition, Random, Suite, labels};
 use av1ts::replay::ReplayState;
 use reference::replay::{SECOND, drain_at_once, drain_by_ticks};

@@ -1,9 +1,9 @@
 //! Units that encoders wrote, and units made up, damaged: every bit flipped, every cut, bytes put in
 //! and taken out at every place, and several damages at once.
 
-use super::super::unit::{any_list, carry_closed, carry_list};
-use super::super::unit_damaged::damage;
-use super::{Caller, DROPPED, NOT_ACCEPTED, RESULTS, encoded};
+use crate::helpers::salvage::{Caller, DROPPED, NOT_ACCEPTED, RESULTS, encoded};
+use crate::helpers::unit::damage::{DAMAGES, damage};
+use crate::helpers::unit::{any_list, carry_closed, carry_list};
 use crate::kit::{Definition, Random, Suite, labels};
 
 pub const SUITE: Definition = Definition {
@@ -12,6 +12,7 @@ pub const SUITE: Definition = Definition {
         let mut list = labels(DROPPED);
         list.extend(labels(NOT_ACCEPTED));
         list.extend(labels(RESULTS));
+        list.extend(labels(DAMAGES));
         list.extend(labels(&[
             "encoded: as written",
             "encoded: bit flipped",
@@ -21,14 +22,6 @@ pub const SUITE: Definition = Definition {
             "encoded: byte put in",
             "encoded: start code put in",
             "made up: as written",
-            "bit flipped",
-            "byte replaced",
-            "cut at the end",
-            "cut at the front",
-            "bytes taken out",
-            "bytes put in",
-            "start code put in",
-            "part repeated",
             "several damages",
             "1: more than 64 tsOBUs",
             "laws",

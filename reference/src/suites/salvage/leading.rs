@@ -1,8 +1,8 @@
 //! Leading bytes of every kind, and every short string over bytes that matter.
 
-use super::super::obu::strings;
-use super::super::unit::carry;
-use super::{Caller, RESULTS, tsobu};
+use crate::helpers::obu::strings;
+use crate::helpers::salvage::{Caller, RESULTS, tsobu};
+use crate::helpers::unit::carry;
 use crate::kit::{Definition, Random, Suite, labels};
 use reference::unit::{START_CODE, start_codes};
 

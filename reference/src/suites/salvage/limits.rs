@@ -1,8 +1,8 @@
 //! The limits, and one more: 64 tsOBUs, an OBU of 1,048,576 bytes, 1,573,056 bytes as carried; and
 //! which refusal comes first.
 
-use super::super::unit::{List, carry, carry_list};
-use super::{Caller, tsobu};
+use crate::helpers::salvage::{Caller, tsobu};
+use crate::helpers::unit::{List, carry, carry_list};
 use crate::kit::{Definition, Suite, labels};
 use reference::payload::escaped;
 use reference::unit::{MOST_BYTES, MOST_CARRIED, MOST_OBUS};

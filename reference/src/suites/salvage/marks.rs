@@ -1,12 +1,12 @@
 //! Every mark by each of its conditions, in every place of a unit; two conditions in one tsOBU; and
 //! the answers that the papers say.
 
-use super::super::faults::{self, all_pairs};
-use super::super::unit::{List, carry, carry_list};
-use super::super::unit_refusals::{bad_obus, illegal_payloads};
-use super::{Caller, DROPPED, NOT_ACCEPTED, RESULTS, tsobu};
+use crate::helpers::salvage::{Caller, DROPPED, NOT_ACCEPTED, RESULTS, tsobu};
+use crate::helpers::under_test;
+use crate::helpers::unit::broken::{bad_obus, illegal_payloads};
+use crate::helpers::unit::faults::{self, all_pairs};
+use crate::helpers::unit::{List, carry, carry_list};
 use crate::kit::{Definition, Suite, hex, labels};
-use crate::suites::under_test;
 use av1ts::salvage::Salvaged;
 use reference::payload;
 use reference::unit::MOST_BYTES;

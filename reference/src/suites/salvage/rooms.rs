@@ -1,8 +1,8 @@
 //! All rooms for bytes and marks around the boundary.
 
-use super::super::unit::{any_list, carry_closed};
-use super::super::unit_damaged::damage;
-use super::Caller;
+use crate::helpers::salvage::Caller;
+use crate::helpers::unit::damage::damage;
+use crate::helpers::unit::{any_list, carry_closed};
 use crate::kit::{Definition, Random, Suite, labels};
 use reference::salvage::salvaged;
 

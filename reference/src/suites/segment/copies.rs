@@ -1,9 +1,11 @@
 //! The repeated packet: copies of every kind of packet, and what is no copy.
 
-use super::super::segment_faults::{self, AV1, MAP, OTHER, PROGRAM, SECOND};
-use super::super::segment_faults::{base, entries, pat_body, unit};
-use super::super::segment_make::make;
-use super::{Caller, exact, wide};
+use crate::helpers::segment::faults::base;
+use crate::helpers::segment::make::make;
+use crate::helpers::segment::set_up::{
+    AV1, MAP, OTHER, PROGRAM, SECOND, entries, head, pat_body, pmt_body, unit,
+};
+use crate::helpers::segment::{Caller, Verdict, exact, wide};
 use crate::kit::{Definition, Random, Suite, labels};
 use reference::compose::{self, Load, Packet, Pes, segment};
 use reference::packet::{NULL, SIZE};
@@ -95,7 +97,7 @@ fn next_of(packets: &[Bytes], at: usize) -> usize {
 }
 
 /// What the check gives for packets, with room for all.
-fn verdict(packets: &[Bytes]) -> super::Verdict {
+fn verdict(packets: &[Bytes]) -> Verdict {
     let bytes = packets.concat();
     check(&bytes, wide(&bytes))
 }
@@ -212,17 +214,6 @@ impl Kind {
     }
 }
 
-/// PAT, PMT and a PCR; then all is listed.
-fn head() -> Vec<Packet> {
-    let mut clock = Packet::new(AV1, false, Load::Nothing);
-    clock.pcr = Some((1, 1));
-    vec![
-        Packet::section(0, pat_body()),
-        Packet::section(MAP, segment_faults::pmt_body(&entries())),
-        clock,
-    ]
-}
-
 /// A PES in three packets with payloads of these lengths.
 fn pes(sizes: [usize; 3]) -> Vec<Packet> {
     let total: usize = sizes.iter().sum();
@@ -311,7 +302,7 @@ fn kinds() -> Vec<Kind> {
         let body = if pid == 0 {
             pat_body()
         } else {
-            segment_faults::pmt_body(&entries())
+            pmt_body(&entries())
         };
         let plain = Packet::section(pid, body);
         let mut beside = plain.clone();
@@ -392,7 +383,7 @@ fn copies_of_kinds(suite: &mut Suite, caller: &mut Caller) {
 fn with_payload(pid: u16) -> Packet {
     match pid {
         0 => Packet::section(0, pat_body()),
-        MAP => Packet::section(MAP, segment_faults::pmt_body(&entries())),
+        MAP => Packet::section(MAP, pmt_body(&entries())),
         AV1 => Packet::new(
             AV1,
             true,

@@ -1,18 +1,20 @@
 //! The check with an edition: every fault of a segment in both, the registrations, PES headers with
 //! and without times, and unknown editions.
 
-use super::super::segment_faults::{self, AV1, Base, MAP, OTHER, PMT, PMT_AGAIN, SECOND, VIDEO};
-use super::super::segment_faults::{base, entries, pat_body, pmt_body, unit};
-use super::super::segment_make::{Made, make};
-use super::super::unit::READING;
-use super::{Caller, Verdict, exact, wide};
+use crate::helpers::segment::draft::{draft_bytes, draft_of, draft_packets};
+use crate::helpers::segment::faults::{Base, PMT, PMT_AGAIN, base};
+use crate::helpers::segment::make::make;
+use crate::helpers::segment::set_up::{
+    AV1, MAP, OTHER, SECOND, VIDEO, entries, head_of, pat_body, pmt_body, unit,
+};
+use crate::helpers::segment::{Caller, Verdict, exact, faults as segment_faults, wide};
+use crate::helpers::unit::reading_conditions;
 use crate::kit::{Definition, Random, Suite, labels};
 use reference::compose::{Entry, Load, Packet, Pes, repair_crc, segment};
 use reference::descriptor::REGISTRATION;
 use reference::edition::{DRAFT_REGISTRATION, NO_TIME};
-use reference::packet::{self, SIZE};
-use reference::segment::{CONDITIONS_8, CONDITIONS_24, MOST_PACKETS, Unit};
-use reference::{pes, section};
+use reference::packet::SIZE;
+use reference::segment::{MOST_PACKETS, Unit};
 
 pub const SUITE: Definition = Definition {
     name: "segment-editions",
@@ -48,34 +50,15 @@ pub const SUITE: Definition = Definition {
             "made: current",
             "damaged",
         ]);
-        for conditions in [
-            packet::CONDITIONS,
-            CONDITIONS_24,
-            CONDITIONS_8,
-            section::CONDITIONS_25,
-            section::CONDITIONS_26,
-            section::CONDITIONS_28,
-            pes::CONDITIONS,
-            &[
-                "20: not a multiple of 188",
-                "29: before any start",
-                "31: no PCR yet",
-                "32: PES longer than its length",
-                "32: PES shorter than its length",
-                "33: no PAT",
-                "33: no PMT",
-            ],
-        ] {
-            for condition in conditions {
-                list.push(format!("current: {condition}"));
-                // These are not of the draft.
-                if !condition.starts_with("30") && !condition.contains("video descriptor") {
-                    list.push(format!("draft: {condition}"));
-                }
+        for condition in segment_faults::conditions() {
+            list.push(format!("current: {condition}"));
+            // These are not of the draft.
+            if !condition.starts_with("30") && !condition.contains("video descriptor") {
+                list.push(format!("draft: {condition}"));
             }
         }
         for condition in ["6: tile list", "9: no start code at the head"] {
-            assert!(READING.contains(&condition));
+            assert!(reading_conditions().contains(&condition));
             list.push(format!("draft: {condition}"));
         }
         list
@@ -92,28 +75,6 @@ fn name(edition: u64) -> &'static str {
         DRAFT => "draft",
         _ => "unknown",
     }
-}
-
-/// Bytes with the draft's registration wherever the current one stands.
-fn draft_bytes(bytes: &[u8]) -> Vec<u8> {
-    let mut draft = bytes.to_vec();
-    for at in 0..bytes.len() {
-        if bytes[at..].starts_with(&REGISTRATION) {
-            draft[at..at + 6].copy_from_slice(&DRAFT_REGISTRATION);
-        }
-    }
-    draft
-}
-
-/// The same packets as a recording of the draft.
-fn draft_packets(packets: &[Packet]) -> Vec<Packet> {
-    let mut draft = packets.to_vec();
-    for packet in &mut draft {
-        if let Load::Section(section) = &mut packet.load {
-            section.body = draft_bytes(&section.body);
-        }
-    }
-    draft
 }
 
 /// One check, under the label of its verdict; under draft it is never 30.
@@ -275,13 +236,7 @@ fn registrations(suite: &mut Suite, caller: &mut Caller) {
 
 /// A recording of the draft with one PES in these payloads, and one more behind it.
 fn around(payloads: &[&[u8]]) -> Vec<u8> {
-    let mut clock = Packet::new(AV1, false, Load::Nothing);
-    clock.pcr = Some((1, 1));
-    let mut packets = vec![
-        Packet::section(0, pat_body()),
-        Packet::section(MAP, draft_bytes(&pmt_body(&entries()))),
-        clock,
-    ];
+    let mut packets = head_of(draft_bytes(&pmt_body(&entries())));
     for (index, payload) in payloads.iter().enumerate() {
         packets.push(Packet::new(AV1, index == 0, Load::Bytes(payload.to_vec())));
     }
@@ -465,38 +420,6 @@ fn unknown(suite: &mut Suite, caller: &mut Caller) {
                 });
             }
         }
-    }
-}
-
-/// A made segment as a recording of the draft; times are taken from some units or from all.
-pub fn draft_of(random: &mut Random, made: &Made, taken: usize) -> Made {
-    let mut packets = draft_packets(&made.packets);
-    let mut accepted = made.accepted.clone();
-    // "2026-04 answers none"
-    accepted.comparison = None;
-    // The units start after the PMT, which is the first section on its PID.
-    let pmt = packets
-        .iter()
-        .position(|packet| packet.pid == made.map_pid && matches!(packet.load, Load::Section(_)))
-        .expect("there is a PMT");
-    let mut at = 0;
-    for packet in &mut packets[pmt + 1..] {
-        if packet.pid == accepted.pid && packet.start && packet.has_payload() {
-            if taken == 2 || taken == 1 && random.one_in(2) {
-                packet.bytes_mut()[7] &= 0x3F;
-                accepted.units[at].pts = NO_TIME;
-                accepted.units[at].dts = NO_TIME;
-            }
-            at += 1;
-        }
-    }
-    Made {
-        packets,
-        accepted,
-        listing: made.listing.clone(),
-        map_pid: made.map_pid,
-        pids: made.pids.clone(),
-        features: Vec::new(),
     }
 }
 

@@ -1,11 +1,13 @@
 //! Headers cut at every byte, and at every bit with each fill of the byte in which the cut lies.
 
-use super::{Expected, FEATURES, Header, Made, another, bytes_of, check, obu, unit_of, video};
-use super::{packets, segment, wide};
+use crate::helpers::obu::build;
+use crate::helpers::segment::{Caller, wide};
+use crate::helpers::sequence::{
+    Expected, FEATURES, Header, Made, another, bytes_of, check, obu, packets, unit_of, video,
+};
 use crate::kit::{Definition, Random, Suite, labels};
-use crate::suites::obu::build;
-use crate::suites::segment::Caller;
 use reference::comparison::Found;
+use reference::compose::segment;
 
 pub const SUITE: Definition = Definition {
     name: "sequence-cuts",

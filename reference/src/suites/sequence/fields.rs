@@ -1,9 +1,11 @@
 //! Headers of every kind against a descriptor that agrees, that differs in one field alone, by each
 //! value of it, and that differs in two.
 
-use super::{FEATURES, FOUND, Header, another, check, most, obu, unit_of, video, with};
+use crate::helpers::segment::Caller;
+use crate::helpers::sequence::{
+    FEATURES, FOUND, Header, another, check, most, obu, unit_of, video, with,
+};
 use crate::kit::{Definition, Random, Suite, labels};
-use crate::suites::segment::Caller;
 use reference::comparison::Found;
 use reference::sequence;
 

@@ -1,9 +1,9 @@
 //! Sequence headers of encoders, with what ffmpeg's trace_headers prints of them: against a
 //! descriptor that agrees, with each field changed alone, and cut at every byte.
 
-use super::{FOUND, another, check, obu, packets, unit_of, video};
+use crate::helpers::segment::{Caller, wide};
+use crate::helpers::sequence::{FOUND, another, check, obu, packets, unit_of, video};
 use crate::kit::{Definition, Random, Suite, hex, labels};
-use crate::suites::segment::{Caller, wide};
 use reference::comparison::Found;
 use reference::compose::segment;
 use reference::sequence::{self, Fields};

@@ -1,11 +1,12 @@
 //! Several headers in a unit and in several units: the first in stream order that disagrees or is
 //! cut short; and what is not compared.
 
-use super::registered;
-use super::{Expected, FOUND, Header, Made, another, check, is, obu, packets, unit_of, video};
+use crate::helpers::segment::{Caller, wide};
+use crate::helpers::sequence::{
+    Expected, FOUND, Header, Made, another, check, is, obu, packets, registered, unit_of, video,
+};
+use crate::helpers::unit::{carry, carry_closed, content, right_content};
 use crate::kit::{Definition, Random, Suite, labels};
-use crate::suites::segment::{Caller, wide};
-use crate::suites::unit::{carry, carry_closed, content, right_content};
 use reference::comparison::Found;
 use reference::compose::{Packet, segment};
 use reference::edition::DRAFT_REGISTRATION;

@@ -1,6 +1,6 @@
 //! The conditions of 45: each by itself, at its boundary and past it, and in pairs.
 
-use super::Caller;
+use crate::helpers::sheet::Caller;
 use crate::kit::{Definition, Suite, labels};
 use reference::sheet::{CONDITIONS, MOST_LISTED_TIME, Obu, Sheet, Stream, Unit, accept};
 
@@ -38,16 +38,11 @@ struct Raw {
 
 impl Raw {
     fn bytes(&self) -> Vec<u8> {
-        let sheet = &self.sheet;
-        let counts = [sheet.streams.len(), sheet.units.len(), sheet.obus.len()];
-        let mut bytes = Vec::new();
-        for (index, numbers) in sheet.numbers().into_iter().enumerate() {
-            let count = (counts[index] as u64).wrapping_add(self.counts[index]);
-            bytes.extend(count.to_be_bytes());
-            for number in numbers {
-                bytes.extend(number.to_be_bytes());
-            }
+        let mut counts = self.sheet.counts();
+        for (count, added) in counts.iter_mut().zip(self.counts) {
+            *count = count.wrapping_add(added);
         }
+        let mut bytes = self.sheet.bytes_with(counts);
         bytes.resize(bytes.len() + self.more, 0);
         bytes.truncate(bytes.len().saturating_sub(self.less));
         bytes
@@ -97,49 +92,47 @@ fn base() -> Raw {
 
 type Change = Box<dyn Fn(&mut Raw)>;
 
+/// A number of a sheet.
+type Number = fn(&mut Sheet) -> &mut u64;
+
+/// Of some numbers of the base the highest value that passes.
+const HIGHEST: &[(u64, Number)] = &[
+    (0x1FFE, |sheet| &mut sheet.streams[0].pid),
+    (0x1FFE, |sheet| &mut sheet.streams[1].pid),
+    (0x1FFE, |sheet| &mut sheet.streams[2].pid),
+    (255, |sheet| &mut sheet.streams[0].stream_type),
+    (255, |sheet| &mut sheet.streams[2].stream_type),
+    (65_534, |sheet| &mut sheet.units[2].first_packet),
+    (19, |sheet| &mut sheet.units[1].first_packet),
+    (6, |sheet| &mut sheet.units[0].first_packet),
+    (1_573_056, |sheet| &mut sheet.units[0].length),
+    (1_573_056, |sheet| &mut sheet.units[2].length),
+    (MOST_LISTED_TIME, |sheet| &mut sheet.units[0].pts),
+    (MOST_LISTED_TIME, |sheet| &mut sheet.units[1].dts),
+    (MOST_LISTED_TIME, |sheet| &mut sheet.units[2].pts),
+    (MOST_LISTED_TIME, |sheet| &mut sheet.units[2].dts),
+    (15, |sheet| &mut sheet.obus[0].obu_type),
+    (15, |sheet| &mut sheet.obus[5].obu_type),
+    // Payloads: the one before touches, the last ends with its unit.
+    (5, |sheet| &mut sheet.obus[0].length),
+    (92, |sheet| &mut sheet.obus[1].length),
+    (10, |sheet| &mut sheet.obus[1].offset),
+    (39, |sheet| &mut sheet.obus[5].length),
+    (30, |sheet| &mut sheet.obus[5].offset),
+    (13, |sheet| &mut sheet.obus[3].length),
+    (6, |sheet| &mut sheet.obus[3].offset),
+];
+
 /// Changes after which the sheet is still right, and changes after which it is not.
 fn changes() -> (Vec<Change>, Vec<Change>) {
     let mut at: Vec<Change> = Vec::new();
     let mut past: Vec<Change> = Vec::new();
-    // A number's highest value that passes, and those above it.
-    let mut most = |most: u64, set: fn(&mut Sheet, u64)| {
-        at.push(Box::new(move |raw| set(&mut raw.sheet, most)));
+    for &(most, number) in HIGHEST {
+        at.push(Box::new(move |raw| *number(&mut raw.sheet) = most));
         for value in [most + 1, 1 << 34, 1 << 63, u64::MAX] {
-            past.push(Box::new(move |raw| set(&mut raw.sheet, value)));
-        }
-    };
-    for index in 0..3 {
-        match index {
-            0 => most(0x1FFE, |sheet, value| sheet.streams[0].pid = value),
-            1 => most(0x1FFE, |sheet, value| sheet.streams[1].pid = value),
-            _ => most(0x1FFE, |sheet, value| sheet.streams[2].pid = value),
+            past.push(Box::new(move |raw| *number(&mut raw.sheet) = value));
         }
     }
-    most(255, |sheet, value| sheet.streams[0].stream_type = value);
-    most(255, |sheet, value| sheet.streams[2].stream_type = value);
-    most(65_534, |sheet, value| sheet.units[2].first_packet = value);
-    most(19, |sheet, value| sheet.units[1].first_packet = value);
-    most(6, |sheet, value| sheet.units[0].first_packet = value);
-    most(1_573_056, |sheet, value| sheet.units[0].length = value);
-    most(1_573_056, |sheet, value| sheet.units[2].length = value);
-    for index in [0, 1, 2] {
-        match index {
-            0 => most(MOST_LISTED_TIME, |sheet, value| sheet.units[0].pts = value),
-            1 => most(MOST_LISTED_TIME, |sheet, value| sheet.units[1].dts = value),
-            _ => most(MOST_LISTED_TIME, |sheet, value| sheet.units[2].pts = value),
-        }
-    }
-    most(MOST_LISTED_TIME, |sheet, value| sheet.units[2].dts = value);
-    most(15, |sheet, value| sheet.obus[0].obu_type = value);
-    most(15, |sheet, value| sheet.obus[5].obu_type = value);
-    // Payloads: the one before touches, the last ends with its unit.
-    most(5, |sheet, value| sheet.obus[0].length = value);
-    most(92, |sheet, value| sheet.obus[1].length = value);
-    most(10, |sheet, value| sheet.obus[1].offset = value);
-    most(39, |sheet, value| sheet.obus[5].length = value);
-    most(30, |sheet, value| sheet.obus[5].offset = value);
-    most(13, |sheet, value| sheet.obus[3].length = value);
-    most(6, |sheet, value| sheet.obus[3].offset = value);
 
     // Lowest values.
     let mut right = |change: fn(&mut Raw)| at.push(Box::new(change));

@@ -1,8 +1,7 @@
 //! Counts whose products and sums would wrap, so that a length in 64 bits would come out right.
 
-use super::{Caller, any_sheet};
+use crate::helpers::sheet::{Caller, any_sheet};
 use crate::kit::{Definition, Random, Suite, labels};
-use reference::sheet::Sheet;
 
 pub const SUITE: Definition = Definition {
     name: "sheet-counts",
@@ -29,28 +28,13 @@ fn wrapped(counts: [u64; 3]) -> u64 {
         .wrapping_add(counts[2].wrapping_mul(32))
 }
 
-/// The sheet's bytes with other counts at the places where its own are.
-fn with(sheet: &Sheet, counts: [u64; 3]) -> Vec<u8> {
-    let mut bytes = sheet.bytes();
-    let second = 8 + 16 * sheet.streams.len();
-    let third = second + 8 + 32 * sheet.units.len();
-    for (at, count) in [0, second, third].into_iter().zip(counts) {
-        bytes[at..at + 8].copy_from_slice(&count.to_be_bytes());
-    }
-    bytes
-}
-
 fn run(suite: &mut Suite) {
     let mut caller = Caller::default();
     let mut random = Random::new(603);
     for _ in 0..400 {
         let (streams, units) = (random.below(4), random.below(4));
         let sheet = any_sheet(&mut random, streams, units, 2);
-        let own = [
-            sheet.streams.len() as u64,
-            sheet.units.len() as u64,
-            sheet.obus.len() as u64,
-        ];
+        let own = sheet.counts();
         let length = sheet.bytes().len() as u64;
         let high = [0, 1 << 58, 1 << 59, 1 << 60, 1 << 61, 1 << 63, u64::MAX];
         for first in high {
@@ -66,7 +50,7 @@ fn run(suite: &mut Suite) {
                     } else {
                         "other counts"
                     };
-                    let bytes = with(&sheet, counts);
+                    let bytes = sheet.bytes_with(counts);
                     caller.read_wide(suite, &bytes, &[label]);
                     caller.find(suite, &bytes, 0, &[label]);
                 }
@@ -79,7 +63,7 @@ fn run(suite: &mut Suite) {
             [own[0], own[1] + 1, own[2].wrapping_sub(1)],
             [own[0], own[1].wrapping_sub(1), own[2] + 1],
         ] {
-            let bytes = with(&sheet, counts);
+            let bytes = sheet.bytes_with(counts);
             caller.all(suite, &bytes, &["other counts"]);
         }
     }

@@ -1,6 +1,6 @@
 //! The most streams, units and OBUs that a sheet can have, and one more.
 
-use super::Caller;
+use crate::helpers::sheet::Caller;
 use crate::kit::{Definition, Suite, labels};
 use reference::sheet::{Obu, Sheet, Stream, Unit};
 

@@ -1,6 +1,6 @@
 //! Rooms of reading around the boundary of each of the three outputs.
 
-use super::{Caller, any_sheet};
+use crate::helpers::sheet::{Caller, any_sheet};
 use crate::kit::{Definition, Random, Suite, labels};
 use reference::refusal::OUTPUT_TOO_SHORT;
 

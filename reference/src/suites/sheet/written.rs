@@ -1,13 +1,13 @@
 //! Sheets of segments: written, read back, and each unit found by it; refusals of the check, and
 //! rooms of the sheet around the boundary.
 
-use super::Caller;
+use crate::helpers::segment::draft::draft_of;
+use crate::helpers::segment::make::{Made, make};
+use crate::helpers::segment::set_up::{AV1, head_of, pmt_body};
+use crate::helpers::segment::{exact, faults as segment_faults, wide};
+use crate::helpers::sheet::Caller;
 use crate::kit::{Definition, Random, Suite, labels};
-use crate::suites::segment::editions::draft_of;
-use crate::suites::segment::{exact, wide};
-use crate::suites::segment_faults;
-use crate::suites::segment_make::{Made, make};
-use reference::compose::{Entry, Load, Packet, Pes, pat, pmt, sample, segment};
+use reference::compose::{Entry, Pes, sample, segment};
 use reference::payload::unescaped;
 use reference::segment::{Rooms, check_listing};
 use reference::sheet::{self, Sheet};
@@ -181,16 +181,7 @@ fn refusals(suite: &mut Suite, caller: &mut Caller) {
 
 /// 1,024 units, and units of 64 OBUs.
 fn many(suite: &mut Suite, caller: &mut Caller) {
-    let head = || {
-        let mut clock = Packet::new(0x0101, false, Load::Nothing);
-        clock.pcr = Some((1, 1));
-        let entries = [Entry::av1(0x0101, &[]), Entry::new(0xFF, 0x1FFE, &[])];
-        vec![
-            Packet::section(0, pat(&[(9, 0x0456)])),
-            Packet::section(0x0456, pmt(9, 0x0101, &[], &entries)),
-            clock,
-        ]
-    };
+    let entries = [Entry::av1(AV1, &[]), Entry::new(0xFF, 0x1FFE, &[])];
     let mut unit = Vec::new();
     for _ in 0..63 {
         unit.extend([0, 0, 1, 0x78, 0x80]);
@@ -201,9 +192,9 @@ fn many(suite: &mut Suite, caller: &mut Caller) {
         (1024, &unit[..], "64 OBUs a unit"),
         (2, &unit[..], "64 OBUs a unit"),
     ] {
-        let mut packets = head();
+        let mut packets = head_of(pmt_body(&entries));
         for index in 0..count {
-            packets.extend(Pes::new(index, None, unit).packets(0x0101));
+            packets.extend(Pes::new(index, None, unit).packets(AV1));
         }
         one(suite, caller, 0, &segment(&packets), None, &[label]);
     }

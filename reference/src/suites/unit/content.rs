@@ -1,8 +1,8 @@
 //! What reading and writing look at in an OBU's content: every first byte of it, and none, of
 //! sequence headers and frame headers; and that nothing is looked at in other types.
 
-use super::super::obu::build;
-use super::{Caller, List, carry_list, lengths};
+use crate::helpers::obu::build;
+use crate::helpers::unit::{Caller, List, carry_list, lengths};
 use crate::kit::{Definition, Suite, labels};
 use reference::obu::{self, CONDITIONS_42};
 

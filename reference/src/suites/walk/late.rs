@@ -1,7 +1,7 @@
 //! A receiver that joins in the middle of a unit: the writer's string cut at every offset, searched
 //! for start codes and walked over from the first of them.
 
-use super::super::unit::{List, any_list, lengths};
+use crate::helpers::unit::{List, any_list, lengths};
 use crate::kit::{Definition, Given, Random, Suite, hex, labels};
 use reference::payload;
 use reference::unit::{START_CODE, start_codes};

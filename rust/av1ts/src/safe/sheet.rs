@@ -7,10 +7,6 @@ use crate::sheet;
 /// The most streams of a sheet.
 const MOST_STREAMS: usize = 12;
 
-/// The most bytes of a sheet: three counts, two numbers a stream, four a unit and four an OBU.
-const MOST_SHEET_BYTES: usize =
-    8 * (3 + 2 * MOST_STREAMS + 4 * MOST_UNITS + 4 * MOST_OBUS * MOST_UNITS);
-
 /// A stream that the program map lists.
 #[derive(Clone, Copy, Debug, PartialEq, Eq)]
 pub struct SheetStream {
@@ -46,6 +42,10 @@ pub struct Sheet {
 }
 
 impl Sheet {
+    /// The most bytes of a sheet: three counts, two numbers a stream, four a unit and four an OBU.
+    pub const MOST_BYTES: usize =
+        8 * (3 + 2 * MOST_STREAMS + 4 * MOST_UNITS + 4 * MOST_OBUS * MOST_UNITS);
+
     /// The bytes of the sheet of a segment that the check accepts.
     ///
     /// ```
@@ -72,7 +72,7 @@ impl Sheet {
         let mut out = vec![0; packets.len().min(MOST_SEGMENT_BYTES)];
         let mut lengths = vec![0; MOST_UNITS];
         let mut times = vec![0; 2 * MOST_UNITS];
-        let mut bytes = vec![0; MOST_SHEET_BYTES];
+        let mut bytes = vec![0; Sheet::MOST_BYTES];
         let answer = sheet::write_sheet(
             edition.number(),
             packets,

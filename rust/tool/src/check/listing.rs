@@ -1,6 +1,6 @@
 //! A carried unit, OBU by OBU.
 
-use crate::library::{self, Figures, Refused};
+use crate::library::{self, Refused, UnitFigures};
 use crate::reading::counted;
 use crate::reading::finding::Finding;
 use crate::reading::obu::{self, Header, type_name};
@@ -10,7 +10,7 @@ use crate::reading::order::Position;
 pub struct ObuLine {
     pub header: Header,
     pub obu: Vec<u8>,
-    pub removed: u64,
+    pub removed: usize,
     /// Where its payload begins in the unit.
     pub at: usize,
     /// How many bytes its payload has.
@@ -21,7 +21,7 @@ pub struct ObuLine {
 
 /// The library's verdict on a unit, and the OBUs that its walk hands out.
 pub struct Listing {
-    pub verdict: Result<Figures, Refused>,
+    pub verdict: Result<UnitFigures, Refused>,
     pub obus: Vec<ObuLine>,
     /// Where the walk stopped.
     pub stopped: usize,

@@ -14,7 +14,7 @@ pub struct UnitLine {
     pub dts: u64,
     /// The packet of the piece that began its PES, by the tool's own reading.
     pub first: Option<usize>,
-    pub dropped: u64,
+    pub dropped: usize,
     /// Type and length of each OBU.
     pub obus: Vec<(u8, usize)>,
 }

@@ -115,7 +115,7 @@ fn json(name: &str, unit: &[u8], listing: &Listing) -> Json {
         }
     };
     let figures = listing.verdict.ok();
-    let figure = |value: Option<u64>| Json::option(value.map(Json::Number));
+    let figure = |value: Option<usize>| Json::option(value.map(Json::from));
     Json::Object(vec![
         ("unit", Json::text(name)),
         ("bytes", unit.len().into()),

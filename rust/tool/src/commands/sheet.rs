@@ -8,7 +8,7 @@ use crate::check::text;
 use crate::check::units::shown_time;
 use crate::failure::{Done, Failure, Verdict, fail};
 use crate::files;
-use crate::library::sheet::{self, Found, MOST_SHEET, Sheet};
+use crate::library::sheet::{self, MOST_SHEET, Sheet, SheetUnit};
 use crate::library::{self, MOST_PACKETS};
 use crate::reading::obu::type_name;
 use crate::reading::pid;
@@ -93,22 +93,28 @@ fn show(args: &Args, screen: &mut Screen) -> Done {
 
 fn lines(read: &Sheet) -> String {
     let mut text = String::new();
-    for [number, stream_type] in &read.streams {
+    for stream in &read.streams {
         text.push_str(&format!(
-            "stream PID {} stream_type 0x{stream_type:02X}\n",
-            pid(*number as u16)
+            "stream PID {} stream_type 0x{:02X}\n",
+            pid(stream.pid as u16),
+            stream.stream_type
         ));
     }
-    for (index, [first, length, pts, dts]) in read.units.iter().enumerate() {
+    for (index, unit) in read.units.iter().enumerate() {
         text.push_str(&format!(
-            "unit {index}  first packet {first}  bytes {length}  PTS {}  DTS {}\n",
-            shown_time(*pts),
-            shown_time(*dts)
+            "unit {index}  first packet {}  bytes {}  PTS {}  DTS {}\n",
+            unit.first_packet,
+            unit.length,
+            shown_time(unit.pts),
+            shown_time(unit.dts)
         ));
-        for [_, kind, at, length] in read.obus.iter().filter(|obu| obu[0] == index as u64) {
-            let name = type_name(*kind as u8);
+        for obu in read.obus.iter().filter(|obu| obu.unit == index as u64) {
             text.push_str(&format!(
-                "  type {kind} ({name})  payload at {at}, {length} bytes\n"
+                "  type {} ({})  payload at {}, {} bytes\n",
+                obu.obu_type,
+                type_name(obu.obu_type as u8),
+                obu.offset,
+                obu.length
             ));
         }
     }
@@ -148,7 +154,7 @@ fn run_seek(args: &Args, screen: &mut Screen) -> Done {
 }
 
 /// The unit's line of the sheet; where there is none, that is said.
-fn looked_up(args: &Args, index: u64) -> Result<Option<Found>, Failure> {
+fn looked_up(args: &Args, index: u64) -> Result<Option<SheetUnit>, Failure> {
     let name = shown(&args.words[0]);
     let bytes = files::read_part(&args.words[0], 0, MOST_SHEET as u64 + 1)?.bytes;
     match sheet::unit(&bytes, index) {
@@ -160,7 +166,7 @@ fn looked_up(args: &Args, index: u64) -> Result<Option<Found>, Failure> {
 }
 
 /// The unit that begins in the sheet's packet.
-fn taken(args: &Args, found: &Found) -> Result<Vec<u8>, Failure> {
+fn taken(args: &Args, found: &SheetUnit) -> Result<Vec<u8>, Failure> {
     let range = Range {
         from: found.first_packet,
         to: Some(MOST_PACKETS as u64),
