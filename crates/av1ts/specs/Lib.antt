@@ -1,7 +1,4 @@
-pub mod Answers
-pub mod Rewriting
-pub mod Salvaging
-pub mod Replaying
-pub mod Metadata
+pub mod Units
+pub mod Segments
 pub mod Queueing
 pub mod Sheets

@@ -1,38 +1,23 @@
--- The C structs of a sheet: what writing it, reading it and finding a unit in it answer. Assumes nothing.
+-- Writing and reading a sheet: the answer, and what the outputs then hold. Assumes nothing.
 use Prim.Native.Nat.{ℕ}
-use mathlib.Core.Option.{Option, none, some}
-use Rattle.refusal.specs.Verdict.{Verdict, passed, refused}
-use Rattle.sheet.specs.declared.rows.UnitRow.{UnitRow}
-use Rattle.sheet.specs.declared.rows.Counts.{Counts}
-use Rattle.av1ts.specs.declared.sheets.SheetWritten.{SheetWritten}
-use Rattle.av1ts.specs.declared.sheets.SheetAnswer.{SheetAnswer}
-use Rattle.av1ts.specs.declared.sheets.SheetFound.{SheetFound}
+use mathlib.Core.Path.{_≡_}
+use lib.ListN.{length}
+use Rattle.lists.specs.Lists.{Bytes}
+use Rattle.segment_rules.specs.Check.{Outputs, roomsOf, outputsAfter, checkIn}
+use Rattle.sheet.specs.Answer.{Numbers, readInto, LeavesNumbers}
+use Rattle.segment_sheet.specs.Content.{sheetWriting, sheetAfter}
+use Rattle.answers.specs.declared.sheets.SheetWritten.{SheetWritten}
+use Rattle.answers.specs.declared.sheets.SheetAnswer.{SheetAnswer}
+use Rattle.answers.specs.Sheets.{writtenAnswer, sheetAnswer}
 
--- how many bytes the sheet has
-abbrev pub writtenAnswer : Verdict ℕ → SheetWritten
-writtenAnswer (passed n) = record { number = 0; place = 0; count = n }
-writtenAnswer (refused number place) = record { number = number; place = place; count = 0 }
+-- the check in the edition of this number with its three outputs, and the sheet of an accepted segment
+pub record WritesSheet (edition : ℕ) (segment : Bytes) (before : Outputs) (sheet : Bytes) (r : SheetWritten)
+    (after : Outputs) (sheet′ : Bytes) : Type 0 where
+  pub answers : r ≡ writtenAnswer (sheetWriting edition (roomsOf before) segment (length sheet))
+  pub outputs : after ≡ outputsAfter (checkIn edition (roomsOf before) segment) before
+  pub written : sheet′ ≡ sheetAfter (checkIn edition (roomsOf before) segment) sheet
 
--- how many rows each section has
-abbrev pub sheetAnswer : Verdict Counts → SheetAnswer
-sheetAnswer (passed n) = record { number = 0; place = 0; streams = n .streams; units = n .units; obus = n .obus }
-sheetAnswer (refused number place) = record { number = number; place = place; streams = 0; units = 0; obus = 0 }
-
--- found 1 and the unit's row; or found 0
-abbrev pub noUnit : ℕ → ℕ → SheetFound
-noUnit number place =
-    record { number = number; place = place; found = 0; «first_packet» = 0; length = 0; pts = 0; dts = 0 }
-
-abbrev pub foundAnswer : Verdict (Option UnitRow) → SheetFound
-foundAnswer (passed (some u)) =
-    record {
-      number = 0;
-      place = 0;
-      found = 1;
-      «first_packet» = u .«first_packet»;
-      length = u .length;
-      pts = u .pts;
-      dts = u .dts;
-    }
-foundAnswer (passed none) = noUnit 0 0
-foundAnswer (refused number place) = noUnit number place
+-- reading, with its three outputs
+pub record ReadsSheet (sheet : Bytes) (before : Numbers) (r : SheetAnswer) (after : Numbers) : Type 0 where
+  pub answers : r ≡ sheetAnswer (readInto sheet before)
+  pub outputs : LeavesNumbers (readInto sheet before) sheet before after

@@ -1,31 +1,13 @@
 // Reading, checking and writing an access unit.
 ghost use mathlib.Core.Path.{_≡_};
-ghost use mathlib.Core.List.{map, flatten};
 ghost use lib.ListN.{length};
 ghost use Rattle.refusal.specs.Verdict.{leaves};
-ghost use Rattle.obu.specs.Header.{sizeWidth};
-ghost use Rattle.unit.specs.Unit.{obusIn, obusOf, carried, writeUnit};
-ghost use Rattle.unit.specs.Answer.{checking, reading, readingWidths, readSays};
-ghost use Rattle.av1ts.specs.Answers.{countAnswer, unitAnswer};
-use crate::answer::Answer;
-use crate::answer::refusal;
-use unit::UnitRead;
-use unit::Written;
-
-fn unit_answer(read: UnitRead) -> Answer
-    ensures { λ r. ⌜ r ≡ unitAnswer (readSays read) ⌝ }
-{
-    match read {
-        UnitRead::Obus(counts) => Answer {
-            number: 0,
-            place: 0,
-            count: counts.obus as u64,
-            bytes: counts.bytes as u64,
-            dropped: counts.dropped as u64,
-        },
-        UnitRead::Refused(refused) => refusal(refused),
-    }
-}
+ghost use Rattle.unit.specs.Unit.{obusOf, carried, writeUnit};
+ghost use Rattle.unit.specs.Answer.{checking};
+ghost use Rattle.answers.specs.Answers.{countAnswer, unitAnswer};
+ghost use Rattle.av1ts.specs.Units.{ReadsUnit, ReadsWidths};
+use answers::Answer;
+use answers::unit_answer;
 
 #[no_mangle]
 pub extern "C" fn av1ts_write_unit(obus: &[u8], lengths: &[usize], out: &mut [u8]) -> Answer
@@ -35,29 +17,13 @@ pub extern "C" fn av1ts_write_unit(obus: &[u8], lengths: &[usize], out: &mut [u8
         ≡ leaves (writeUnit (now (lengths .entry)) (now (obus .entry)) (length (now (out .entry))))
         (carried (obusOf (now (lengths .entry)) (now (obus .entry)))) (now (out .entry)) ⌝ }
 {
-    let answer = unit::write(obus, lengths, out);
-    match answer {
-        Written::Bytes(n) => Answer {
-            number: 0,
-            place: 0,
-            count: n as u64,
-            bytes: 0,
-            dropped: 0,
-        },
-        Written::Refused(refused) => refusal(refused),
-    }
+    answers::unit_written(unit::write(obus, lengths, out))
 }
 
 #[no_mangle]
 pub extern "C" fn av1ts_read_unit(unit: &[u8], out: &mut [u8], lengths: &mut [usize]) -> Answer
-    ensures { λ r. ⌜ r
-        ≡ unitAnswer (reading (now (unit .entry)) (length (now (out .entry))) (length (now (lengths .entry)))) ⌝ }
-    ensures { λ r. ⌜ now (out .exit)
-        ≡ leaves (reading (now (unit .entry)) (length (now (out .entry))) (length (now (lengths .entry))))
-        (flatten (obusIn (now (unit .entry)))) (now (out .entry)) ⌝ }
-    ensures { λ r. ⌜ now (lengths .exit)
-        ≡ leaves (reading (now (unit .entry)) (length (now (out .entry))) (length (now (lengths .entry))))
-        (map length (obusIn (now (unit .entry)))) (now (lengths .entry)) ⌝ }
+    ensures { λ r. ⌜ ReadsUnit (now (unit .entry)) (now (out .entry)) (now (lengths .entry)) r
+        (now (out .exit)) (now (lengths .exit)) ⌝ }
 {
     let mut widths = [0usize; 64]; // as many as an accepted unit has OBUs at most
     unit_answer(unit::read(unit, out, lengths, &mut widths))
@@ -70,18 +36,8 @@ pub extern "C" fn av1ts_read_unit_widths(
     lengths: &mut [usize],
     widths: &mut [usize],
 ) -> Answer
-    ensures { λ r. ⌜ r
-        ≡ unitAnswer (readingWidths (now (unit .entry)) (length (now (out .entry))) (length (now (lengths .entry)))
-        (length (now (widths .entry)))) ⌝ }
-    ensures { λ r. ⌜ now (out .exit)
-        ≡ leaves (readingWidths (now (unit .entry)) (length (now (out .entry))) (length (now (lengths .entry)))
-        (length (now (widths .entry)))) (flatten (obusIn (now (unit .entry)))) (now (out .entry)) ⌝ }
-    ensures { λ r. ⌜ now (lengths .exit)
-        ≡ leaves (readingWidths (now (unit .entry)) (length (now (out .entry))) (length (now (lengths .entry)))
-        (length (now (widths .entry)))) (map length (obusIn (now (unit .entry)))) (now (lengths .entry)) ⌝ }
-    ensures { λ r. ⌜ now (widths .exit)
-        ≡ leaves (readingWidths (now (unit .entry)) (length (now (out .entry))) (length (now (lengths .entry)))
-        (length (now (widths .entry)))) (map sizeWidth (obusIn (now (unit .entry)))) (now (widths .entry)) ⌝ }
+    ensures { λ r. ⌜ ReadsWidths (now (unit .entry)) (now (out .entry)) (now (lengths .entry)) (now (widths .entry)) r
+        (now (out .exit)) (now (lengths .exit)) (now (widths .exit)) ⌝ }
 {
     unit_answer(unit::read(unit, out, lengths, widths))
 }

@@ -4,11 +4,8 @@ ghost use lib.ListN.{length};
 ghost use Rattle.refusal.specs.Verdict.{leaves};
 ghost use Rattle.emulation.specs.Payload.{escape, unescape};
 ghost use Rattle.emulation.specs.Answer.{escaping, unescaping};
-ghost use Rattle.av1ts.specs.Answers.{countAnswer, unescapeAnswer};
-use crate::answer::Answer;
-use crate::answer::refusal;
-use emulation::Escaped;
-use emulation::Unescaped;
+ghost use Rattle.answers.specs.Answers.{countAnswer, unescapeAnswer};
+use answers::Answer;
 
 #[no_mangle]
 pub extern "C" fn av1ts_escape(obu: &[u8], out: &mut [u8]) -> Answer
@@ -17,17 +14,7 @@ pub extern "C" fn av1ts_escape(obu: &[u8], out: &mut [u8]) -> Answer
         ≡ leaves (escaping (now (obu .entry)) (length (now (out .entry)))) (escape (now (obu .entry)))
         (now (out .entry)) ⌝ }
 {
-    let answer = emulation::escape(obu, out);
-    match answer {
-        Escaped::Bytes(n) => Answer {
-            number: 0,
-            place: 0,
-            count: n as u64,
-            bytes: 0,
-            dropped: 0,
-        },
-        Escaped::Refused(refused) => refusal(refused),
-    }
+    answers::escape_answer(emulation::escape(obu, out))
 }
 
 #[no_mangle]
@@ -37,15 +24,5 @@ pub extern "C" fn av1ts_unescape(payload: &[u8], out: &mut [u8]) -> Answer
         ≡ leaves (unescaping (now (payload .entry)) (length (now (out .entry)))) (unescape (now (payload .entry)))
         (now (out .entry)) ⌝ }
 {
-    let answer = emulation::unescape(payload, out);
-    match answer {
-        Unescaped::Bytes(counts) => Answer {
-            number: 0,
-            place: 0,
-            count: counts.written as u64,
-            bytes: 0,
-            dropped: counts.dropped as u64,
-        },
-        Unescaped::Refused(refused) => refusal(refused),
-    }
+    answers::unescape_answer(emulation::unescape(payload, out))
 }

@@ -1,109 +1,23 @@
 // Checking a segment and extracting its access units.
-ghost use mathlib.Core.Path.{_≡_};
-ghost use Rattle.refusal.specs.Number.{numberOf};
-ghost use Rattle.segment_rules.specs.Check.{checkIn, outputsOf, roomsOf, outputsAfter};
-ghost use Rattle.segment_rules.specs.Comparison.{checkCompared};
-ghost use Rattle.segment.specs.Answer.{checking, disagreementOf, checkSays};
-ghost use Rattle.comparison.specs.Comparison.{disagreedSays};
-ghost use Rattle.av1ts.specs.Answers.{comparisonAnswer, acceptedAnswer, refusedAnswer, segmentAnswer};
-use comparison::Disagreed;
-use refusal::Refused;
-use segment::SegmentCheck;
-use segment::Summary;
+ghost use Rattle.segment_rules.specs.Check.{outputsOf};
+ghost use Rattle.av1ts.specs.Segments.{ChecksSegment};
+use answers::SegmentAnswer;
 
-// number 0: the segment is accepted. compared 1: a sequence header disagrees with the video descriptor or is cut short.
-#[repr(C)]
-pub struct SegmentAnswer {
-    pub number: u64,
-    pub place: u64,
-    pub program: u64,
-    pub pid: u64,
-    pub units: u64,
-    pub null_packets: u64,
-    pub section: u64,
-    pub av1: u64,
-    pub other_listed: u64,
-    pub unlisted: u64,
-    pub compared: u64,
-    pub unit: u64,
-    pub field: u64,
-}
-
-// The last three fields of the answer.
-struct Comparison {
-    compared: u64,
-    unit: u64,
-    field: u64,
-}
-
-fn compared(disagreement: Disagreed) -> Comparison
-    ensures { λ r. ⌜ r ≡ comparisonAnswer (disagreedSays disagreement) ⌝ }
+fn check_in(
+    edition: u64,
+    segment: &[u8],
+    out: &mut [u8],
+    lengths: &mut [usize],
+    times: &mut [u64],
+) -> SegmentAnswer
+    ensures { λ r. ⌜ ChecksSegment edition (now (segment .entry))
+        (outputsOf (now (out .entry)) (now (lengths .entry)) (now (times .entry))) r
+        (outputsOf (now (out .exit)) (now (lengths .exit)) (now (times .exit))) ⌝ }
 {
-    match disagreement {
-        Disagreed::None => Comparison {
-            compared: 0,
-            unit: 0,
-            field: 0,
-        },
-        Disagreed::First(first) => Comparison {
-            compared: 1,
-            unit: first.unit as u64,
-            field: first.field as u64,
-        },
-    }
-}
-
-fn accepted(summary: Summary, disagreement: Disagreed) -> SegmentAnswer
-    ensures { λ r. ⌜ r ≡ acceptedAnswer summary (disagreedSays disagreement) ⌝ }
-{
-    let totals = summary.totals;
-    let last = compared(disagreement);
-    SegmentAnswer {
-        number: 0,
-        place: 0,
-        program: summary.program as u64,
-        pid: summary.pid as u64,
-        units: summary.units as u64,
-        null_packets: totals.null as u64,
-        section: totals.section as u64,
-        av1: totals.av1 as u64,
-        other_listed: totals.other_listed as u64,
-        unlisted: totals.unlisted as u64,
-        compared: last.compared,
-        unit: last.unit,
-        field: last.field,
-    }
-}
-
-fn segment_refusal(r: Refused) -> SegmentAnswer
-    ensures { λ a. ⌜ a ≡ refusedAnswer (numberOf (r .why)) (r .place) ⌝ }
-{
-    let why = r.why;
-    let number = why.number();
-    SegmentAnswer {
-        number: number as u64,
-        place: r.place as u64,
-        program: 0,
-        pid: 0,
-        units: 0,
-        null_packets: 0,
-        section: 0,
-        av1: 0,
-        other_listed: 0,
-        unlisted: 0,
-        compared: 0,
-        unit: 0,
-        field: 0,
-    }
-}
-
-fn segment_answer(checked: SegmentCheck, disagreement: Disagreed) -> SegmentAnswer
-    ensures { λ r. ⌜ r ≡ segmentAnswer (checkSays checked) (disagreedSays disagreement) ⌝ }
-{
-    match checked {
-        SegmentCheck::Accepted(summary) => accepted(summary, disagreement),
-        SegmentCheck::Refused(refused) => segment_refusal(refused),
-    }
+    let checked = segment::check_compared(edition, segment, out, lengths, times);
+    let answer = checked.answer;
+    let disagreement = checked.disagreement;
+    answers::segment_answer(answer, disagreement)
 }
 
 // The check in edition 0, the current one.
@@ -114,20 +28,11 @@ pub extern "C" fn av1ts_check_segment(
     lengths: &mut [usize],
     times: &mut [u64],
 ) -> SegmentAnswer
-    ensures { λ r. ⌜ r ≡ segmentAnswer (checking 0
-        (roomsOf (outputsOf (now (out .entry)) (now (lengths .entry)) (now (times .entry)))) (now (segment .entry)))
-        (disagreementOf (checkCompared 0
-        (roomsOf (outputsOf (now (out .entry)) (now (lengths .entry)) (now (times .entry))))
-        (now (segment .entry)))) ⌝ }
-    ensures { λ _. ⌜ outputsOf (now (out .exit)) (now (lengths .exit)) (now (times .exit))
-        ≡ outputsAfter (checkIn 0
-        (roomsOf (outputsOf (now (out .entry)) (now (lengths .entry)) (now (times .entry)))) (now (segment .entry)))
-        (outputsOf (now (out .entry)) (now (lengths .entry)) (now (times .entry))) ⌝ }
+    ensures { λ r. ⌜ ChecksSegment 0 (now (segment .entry))
+        (outputsOf (now (out .entry)) (now (lengths .entry)) (now (times .entry))) r
+        (outputsOf (now (out .exit)) (now (lengths .exit)) (now (times .exit))) ⌝ }
 {
-    let checked = segment::check_compared(0, segment, out, lengths, times);
-    let answer = checked.answer;
-    let disagreement = checked.disagreement;
-    segment_answer(answer, disagreement)
+    check_in(0, segment, out, lengths, times)
 }
 
 // The check in the edition of this number: 0 current, 1 draft.
@@ -139,18 +44,9 @@ pub extern "C" fn av1ts_check_segment_edition(
     lengths: &mut [usize],
     times: &mut [u64],
 ) -> SegmentAnswer
-    ensures { λ r. ⌜ r ≡ segmentAnswer (checking edition
-        (roomsOf (outputsOf (now (out .entry)) (now (lengths .entry)) (now (times .entry)))) (now (segment .entry)))
-        (disagreementOf (checkCompared edition
-        (roomsOf (outputsOf (now (out .entry)) (now (lengths .entry)) (now (times .entry))))
-        (now (segment .entry)))) ⌝ }
-    ensures { λ _. ⌜ outputsOf (now (out .exit)) (now (lengths .exit)) (now (times .exit))
-        ≡ outputsAfter (checkIn edition
-        (roomsOf (outputsOf (now (out .entry)) (now (lengths .entry)) (now (times .entry)))) (now (segment .entry)))
-        (outputsOf (now (out .entry)) (now (lengths .entry)) (now (times .entry))) ⌝ }
+    ensures { λ r. ⌜ ChecksSegment edition (now (segment .entry))
+        (outputsOf (now (out .entry)) (now (lengths .entry)) (now (times .entry))) r
+        (outputsOf (now (out .exit)) (now (lengths .exit)) (now (times .exit))) ⌝ }
 {
-    let checked = segment::check_compared(edition, segment, out, lengths, times);
-    let answer = checked.answer;
-    let disagreement = checked.disagreement;
-    segment_answer(answer, disagreement)
+    check_in(edition, segment, out, lengths, times)
 }

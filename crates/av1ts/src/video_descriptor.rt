@@ -3,105 +3,16 @@ ghost use mathlib.Core.Path.{_≡_};
 ghost use lib.ListN.{length};
 ghost use Rattle.refusal.specs.Verdict.{leaves};
 ghost use Rattle.descriptor.specs.Descriptor.{descriptorOf, reading, writing};
-ghost use Rattle.av1ts.specs.Answers.{countAnswer, fieldList, videoAnswer, descriptorAnswer, fieldsFrom};
-use crate::answer::Answer;
-use crate::answer::refusal;
-use descriptor::Delay;
-use descriptor::Fields;
-use descriptor::VideoRead;
-use descriptor::Written;
-
-// The ten fields, in descriptor order; delay_present 1: the delay is present.
-#[repr(C)]
-pub struct VideoDescriptor {
-    pub number: u64,
-    pub place: u64,
-    pub field: [u64; 10],
-    pub delay_present: u64,
-    pub delay: u64,
-}
-
-// The ten fields, in descriptor order.
-fn field_list(fields: Fields) -> [u64; 10]
-    ensures { λ r. ⌜ r ≡ fieldList fields ⌝ }
-{
-    [
-        fields.seq_profile as u64,
-        fields.seq_level_idx_0 as u64,
-        fields.seq_tier_0 as u64,
-        fields.high_bitdepth as u64,
-        fields.twelve_bit as u64,
-        fields.monochrome as u64,
-        fields.chroma_subsampling_x as u64,
-        fields.chroma_subsampling_y as u64,
-        fields.chroma_sample_position as u64,
-        fields.hdr_wcg_idc as u64,
-    ]
-}
-
-fn video_answer(fields: Fields, delay: Delay) -> VideoDescriptor
-    ensures { λ r. ⌜ r ≡ videoAnswer fields delay ⌝ }
-{
-    let field = field_list(fields);
-    match delay {
-        Delay::Absent => VideoDescriptor {
-            number: 0,
-            place: 0,
-            field,
-            delay_present: 0,
-            delay: 0,
-        },
-        Delay::Present(n) => VideoDescriptor {
-            number: 0,
-            place: 0,
-            field,
-            delay_present: 1,
-            delay: n as u64,
-        },
-    }
-}
+ghost use Rattle.answers.specs.Answers.{countAnswer, descriptorAnswer, fieldsFrom};
+use answers::Answer;
+use answers::VideoDescriptor;
+use answers::fields_from;
 
 #[no_mangle]
 pub extern "C" fn av1ts_read_descriptor(bytes: &[u8]) -> VideoDescriptor
     ensures { λ r. ⌜ r ≡ descriptorAnswer (reading (now (bytes .entry))) ⌝ }
 {
-    let read = descriptor::read(bytes);
-    match read {
-        VideoRead::Video(video) => {
-            let fields = video.fields;
-            let delay = video.delay;
-            video_answer(fields, delay)
-        }
-        VideoRead::Refused(refused) => {
-            let why = refused.why;
-            let number = why.number();
-            VideoDescriptor {
-                number: number as u64,
-                place: refused.place as u64,
-                field: [0u64; 10],
-                delay_present: 0,
-                delay: 0,
-            }
-        }
-    }
-}
-
-// The fields, from an array of them.
-fn fields_from(field: &[u8; 10]) -> Fields
-    ensures { λ r. ⌜ r ≡ fieldsFrom (now (field .entry)) ⌝ }
-{
-    Fields {
-        seq_profile: field[0],
-        seq_level_idx_0: field[1],
-        seq_tier_0: field[2],
-        high_bitdepth: field[3],
-        twelve_bit: field[4],
-        monochrome: field[5],
-        chroma_subsampling_x: field[6],
-        chroma_subsampling_y: field[7],
-        chroma_sample_position: field[8],
-        hdr_wcg_idc: field[9],
-    }
+    answers::descriptor_answer(descriptor::read(bytes))
 }
 
 #[no_mangle]
@@ -111,15 +22,5 @@ pub extern "C" fn av1ts_write_descriptor(field: &[u8; 10], out: &mut [u8]) -> An
         ≡ leaves (writing (fieldsFrom (now (field .entry))) (length (now (out .entry))))
         (descriptorOf (fieldsFrom (now (field .entry)))) (now (out .entry)) ⌝ }
 {
-    let answer = descriptor::write(fields_from(field), out);
-    match answer {
-        Written::Bytes(n) => Answer {
-            number: 0,
-            place: 0,
-            count: n as u64,
-            bytes: 0,
-            dropped: 0,
-        },
-        Written::Refused(refused) => refusal(refused),
-    }
+    answers::descriptor_written(descriptor::write(fields_from(field), out))
 }

@@ -1,2 +1,3 @@
 pub mod Firsts
+pub mod Frames
 pub mod Loops

@@ -1,13 +1,15 @@
 // The sequence headers of carried units beside a descriptor's fields (document 02, request 2026-04).
 ghost use mathlib.Core.Path.{_≡_};
+ghost use mathlib.Core.List.{map};
 ghost use lib.ListN.{take, drop};
 ghost use Rattle.emulation.specs.Payload.{unescape};
 ghost use Rattle.obu.specs.Header.{headerOf};
 ghost use Rattle.sequence.specs.Comparison.{comparing};
 ghost use Rattle.unit.specs.Unit.{obusOf};
-ghost use Rattle.comparison.specs.Comparison.{sequenceContent, sequenceHeaders, fieldOf, inUnit};
+ghost use Rattle.comparison.specs.Comparison.{sequenceContent, frameType, headersBeforeFrame, fieldOf, inUnit};
 ghost use Rattle.comparison.specs.Comparison.{firstOf, firstFrom, foundSays, disagreedSays};
 use descriptor::Fields;
+use lists::byte_at;
 use obu::JUDGED_BYTES;
 use sequence::Compared;
 use sequence::Difference;
@@ -65,13 +67,28 @@ fn compare_obu(payload: &[u8], fields: Fields) -> FieldFound
     }
 }
 
-// The sequence headers of a carried unit, in order, whether or not reading accepts it.
-pub fn compare_unit(unit: &[u8], fields: Fields) -> FieldFound
-    ensures { λ r. ⌜ foundSays r ≡ firstOf fields (sequenceHeaders (now (unit .entry))) ⌝ }
+// An OBU with this first byte has type 3 or 6.
+pub fn is_frame(first: u8) -> bool
+    ensures { λ r. ⌜ r ≡ frameType first ⌝ }
+{
+    let kind = first / 8 % 16;
+    if kind == 3 {
+        return true;
+    }
+    kind == 6
+}
+
+// The sequence headers of a carried unit before its frame, in order, whether or not reading accepts it: the frame's
+// bytes are not looked at.
+fn compare_unit(unit: &[u8], fields: Fields) -> FieldFound
+    ensures { λ r. ⌜ foundSays r ≡ firstOf fields (headersBeforeFrame (now (unit .entry))) ⌝ }
 {
     let mut code = tsobu::find(unit, 0);
     while code < unit.len() {
         let start = code + 3;
+        if is_frame(byte_at(unit, start)) {
+            return FieldFound::None;
+        }
         let end = tsobu::find(unit, start);
         let found = compare_obu(&unit[start..end], fields);
         let FieldFound::None = found else {
@@ -91,10 +108,10 @@ fn in_unit(unit: usize, found: FieldFound) -> Disagreed
     }
 }
 
-// The sequence headers of so many carried units, which stand back to back and have these lengths.
+// The sequence headers before the frames of so many carried units, which stand back to back and have these lengths.
 pub fn compare_units(bytes: &[u8], lens: &[usize], count: usize, fields: Fields) -> Disagreed
     ensures { λ r. ⌜ disagreedSays r
-        ≡ firstFrom 0 fields (obusOf (take count (now (lens .entry))) (now (bytes .entry))) ⌝ }
+        ≡ firstFrom 0 fields (map headersBeforeFrame (obusOf (take count (now (lens .entry))) (now (bytes .entry)))) ⌝ }
 {
     let mut at: usize = 0;
     let mut index: usize = 0;

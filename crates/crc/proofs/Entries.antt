@@ -1,37 +1,55 @@
--- The table's rule, by two tests that antt computes: of its first 32 entries, and of each other from the one 32 places before it. Assumes
--- nothing.
-use Prim.Native.Nat.{ℕ, zero, suc, _+_, _*_, _^_, _<_}
-use mathlib.Core.Bool.{Bool, true}
-use mathlib.Core.Path.{_≡_, sym, ap, _∙_}
-use mathlib.Core.List.{List}
+-- The entries of a byte. Where the sixteen arms of a `match` on a half meet, the half is one of sixteen numbers, and the value is that of
+-- its arm; a byte leaves what its halves leave. Assumes nothing.
+use Prim.Native.Nat.{ℕ, zero, suc, _*_, _/_, _%_, _≤_, _<_}
+use mathlib.Core.Path.{_≡_, sym, ap, ap₂, _∙_}
+use mathlib.Core.Logic.{_⊎_, ⊎-elim}
 use native.Mathlib.Omega.{arith}
-use native.Mathlib.Numerals.{add-one}
-use borrow.Author.Tests.{eqb-true}
-use lib.Dec.{eqb}
-use lib.ListN.{getD}
-use Rattle.lists.proofs.Tables.{allBelow, below}
-use Rattle.crc.specs.Crc.{byteStep}
-use Rattle.crc.specs.Parts.{zerosStep, half, IsTable}
+use lib.Bits.{bitXor}
+use Rattle.crc.specs.Parts.{left}
+use Rattle.crc.proofs.Slicing.{halves-leave}
 
-abbrev pub right : List ℕ → ℕ → Bool
-right table j = eqb (getD table j 0) (byteStep (half j * 2 ^ 24) 0)
+-- x is none of the numbers below n
+abbrev NoneBelow : ℕ → ℕ → Type 0
+NoneBelow zero x = Unit {0}
+NoneBelow (suc n) x = NoneBelow n x × (x ≡ n → ⊥)
 
-abbrev pub follows : List ℕ → ℕ → Bool
-follows table i = eqb (getD table (i + 32) 0) (byteStep (getD table i 0) 0)
+none-below : (n x : ℕ) → NoneBelow n x → n ≤ x
+none-below zero x h = omega arith
+none-below (suc n) x h = let before = none-below n x (h .0) in let other = h .1 in omega arith
 
-module _ (table : List ℕ) (first : allBelow (right table) 32 ≡ true) (others : allBelow (follows table) 224 ≡ true) where
-  at : (k j : ℕ) → k < 8 → j < 32 → getD table (32 * k + j) 0 ≡ zerosStep (suc k) (half j * 2 ^ 24)
-  unfolding zerosStep
-  at zero j h l =
-      let e : 32 * 0 + j ≡ j = omega arith in
-      ap (λ (n : ℕ). getD table n 0) e ∙ eqb-true (getD table j 0) (byteStep (half j * 2 ^ 24) 0) (below (right table) 32 first j l)
-  at (suc k) j h l =
-      let e : 32 * suc k + j ≡ 32 * k + j + 32 = omega arith in
-      ap (λ (n : ℕ). getD table n 0) e
-      ∙ eqb-true (getD table (32 * k + j + 32) 0) (byteStep (getD table (32 * k + j) 0) 0)
-      (below (follows table) 224 others (32 * k + j) (omega arith))
-      ∙ ap (λ (r : ℕ). byteStep r 0) (at k j (omega arith) l)
+pub last-number : (x : ℕ) → x < 16 → NoneBelow 15 x → x ≡ 15
+last-number x small none = let from = none-below 15 x none in omega arith
 
-  pub is-table : IsTable table
-  unfolding IsTable
-  is-table k j h l = at k j h l ∙ ap (λ (n : ℕ). zerosStep n (half j * 2 ^ 24)) (sym (add-one k))
+-- ---- where the sixteen arms meet, v is what f has at x
+module _ (f : ℕ → ℕ) (x v : ℕ) (small : x < 16) where
+  -- the arm of i was taken
+  abbrev Taken : ℕ → Type 0
+  Taken i = (x ≡ i) × (v ≡ f i)
+
+  arm : (i : ℕ) → Taken i → v ≡ f x
+  arm i w = w .1 ∙ ap f (sym (w .0))
+
+  last : NoneBelow 15 x × (v ≡ f 15) → v ≡ f x
+  last w = arm 15 (last-number x small (w .0), w .1)
+
+  pub at-half : {A B C D E F G H I J K L M N O Q : Type 0}
+      → (A → Taken 0) → (B → Taken 1) → (C → Taken 2) → (D → Taken 3) → (E → Taken 4) → (F → Taken 5) → (G → Taken 6) → (H → Taken 7)
+      → (I → Taken 8) → (J → Taken 9) → (K → Taken 10) → (L → Taken 11) → (M → Taken 12) → (N → Taken 13) → (O → Taken 14)
+      → (Q → NoneBelow 15 x × (v ≡ f 15))
+      → A ⊎ (B ⊎ (C ⊎ (D ⊎ (E ⊎ (F ⊎ (G ⊎ (H ⊎ (I ⊎ (J ⊎ (K ⊎ (L ⊎ (M ⊎ (N ⊎ (O ⊎ Q)))))))))))))) → v ≡ f x
+  at-half t0 t1 t2 t3 t4 t5 t6 t7 t8 t9 t10 t11 t12 t13 t14 rest =
+      ⊎-elim (λ w. arm 0 (t0 w)) (⊎-elim (λ w. arm 1 (t1 w)) (⊎-elim (λ w. arm 2 (t2 w)) (⊎-elim (λ w. arm 3 (t3 w))
+      (⊎-elim (λ w. arm 4 (t4 w)) (⊎-elim (λ w. arm 5 (t5 w)) (⊎-elim (λ w. arm 6 (t6 w)) (⊎-elim (λ w. arm 7 (t7 w))
+      (⊎-elim (λ w. arm 8 (t8 w)) (⊎-elim (λ w. arm 9 (t9 w)) (⊎-elim (λ w. arm 10 (t10 w)) (⊎-elim (λ w. arm 11 (t11 w))
+      (⊎-elim (λ w. arm 12 (t12 w)) (⊎-elim (λ w. arm 13 (t13 w)) (⊎-elim (λ w. arm 14 (t14 w)) (λ w. last (rest w))))))))))))))))
+
+-- what the lower half and the upper half of a byte leave
+abbrev pub lower : ℕ → ℕ → ℕ
+lower k half = left k half
+
+abbrev pub upper : ℕ → ℕ → ℕ
+upper k half = left k (half * 16)
+
+-- ---- both halves of a byte
+pub both : (k byte low high : ℕ) → byte < 256 → low ≡ lower k (byte % 16) → high ≡ upper k (byte / 16) → bitXor low high ≡ left k byte
+both k byte low high h l u = ap₂ bitXor l u ∙ sym (halves-leave k byte h)

@@ -1,17 +1,15 @@
--- Eight bytes at once. A zero byte's step is linear over the exclusive or, so the register after eight bytes is what each of them leaves,
--- added up; and a byte leaves what its two halves leave. Assumes nothing.
-use Prim.Native.Nat.{ℕ, zero, suc, _+_, _-_, _*_, _/_, _%_, _^_, _≤_, _<_}
+-- Sixteen bytes at once. A zero byte's step is linear over the exclusive or, so the register after sixteen bytes is what each of them
+-- leaves, added up; and a byte leaves what its two halves leave. Assumes nothing.
+use Prim.Native.Nat.{ℕ, zero, suc, _+_, _*_, _/_, _%_, _^_, _≤_, _<_}
 use mathlib.Core.Path.{_≡_, refl, sym, ap, ap₂, _∙_}
-use mathlib.Core.Bool.{Bool}
-use mathlib.Core.List.{List, _∷_}
+use mathlib.Core.List.{_∷_}
 use native.Mathlib.Omega.{arith}
 use lib.Bits.{bitXor, xor-shr, xor-mod, xor-lt, xor-zero-r, xor-shifted, xor-comm}
-use borrow.Author.Tests.{lt-ltb, le-ltb}
 use lib.ListN.{length, getD, drop}
-use Rattle.lists.specs.Lists.{Bytes, pick}
+use Rattle.lists.specs.Lists.{Bytes}
 use Rattle.lists.proofs.Parts.{next}
 use Rattle.crc.specs.Crc.{byteStep, crcFrom}
-use Rattle.crc.specs.Parts.{entry, zerosStep, left, word, wordAt, half, IsTable}
+use Rattle.crc.specs.Parts.{entry, zerosStep, left, word, wordAt}
 use Rattle.crc.proofs.Xor.{xor-assoc, xor-swap, xor-up}
 use Rattle.crc.proofs.Linear.{byte-lt, zero-linear, zero-low, byte-entry}
 
@@ -154,25 +152,18 @@ four-leave n r a b c d hr ha hb hc hd =
     (xor-lt 8 (r / 2 ^ 8 % 256) c (omega arith) hc)
     (xor-lt 8 (r % 256) d (omega arith) hd)
 
--- ---- eight bytes
+-- ---- four bytes more
 word-lt : (a b c d : ℕ) → a < 256 → b < 256 → c < 256 → d < 256 → word a b c d < 2 ^ 32
 word-lt a b c d ha hb hc hd =
     xor-lt 32 (bitXor (a * 2 ^ 24) (b * 2 ^ 16)) (bitXor (c * 2 ^ 8) d) (xor-lt 32 (a * 2 ^ 24) (b * 2 ^ 16) (omega arith) (omega arith))
     (xor-lt 32 (c * 2 ^ 8) d (omega arith) (omega arith))
 
-pub eight-bytes : (r a b c d e f g h : ℕ) (s : Bytes) → r < 2 ^ 32 → a < 256 → b < 256 → c < 256 → d < 256 → e < 256 → f < 256 → g < 256
-    → h < 256
-    → crcFrom r (a ∷ b ∷ c ∷ d ∷ e ∷ f ∷ g ∷ h ∷ s)
-    ≡ crcFrom (bitXor (zerosStep 8 (bitXor r (word a b c d))) (zerosStep 4 (word e f g h))) s
-unfolding crcFrom
-eight-bytes r a b c d e f g h s hr ha hb hc hd he hf hg hh =
-    let w : bitXor r (word a b c d) < 2 ^ 32 = xor-lt 32 r (word a b c d) hr (word-lt a b c d ha hb hc hd) in
-    let m : ℕ = zerosStep 4 (bitXor r (word a b c d)) in
-    ap (λ (x : ℕ). crcFrom (byteStep (byteStep (byteStep (byteStep x e) f) g) h) s) (four-bytes r a b c d hr ha hb hc hd)
-    ∙ ap (λ (x : ℕ). crcFrom x s)
-    (four-bytes m e f g h (zeros-lt 4 (bitXor r (word a b c d)) w) he hf hg hh
-    ∙ zeros-linear 4 m (word e f g h) (zeros-lt 4 (bitXor r (word a b c d)) w) (word-lt e f g h he hf hg hh)
-    ∙ ap (λ (x : ℕ). bitXor x (zerosStep 4 (word e f g h))) (zeros-more 4 4 (bitXor r (word a b c d))))
+-- what they leave is added to what the register leaves
+word-more : (m w : ℕ) → m < 2 ^ 32 → w < 2 ^ 32 → zerosStep 4 (bitXor m w) ≡ bitXor (zerosStep 4 (bitXor 0 w)) (zerosStep 4 m)
+word-more m w hm hw =
+    let none : bitXor 0 w ≡ w = xor-comm 0 w ∙ xor-zero-r w in
+    ap (zerosStep 4) (xor-comm m w ∙ ap (λ (x : ℕ). bitXor x m) (sym none))
+    ∙ zeros-linear 4 (bitXor 0 w) m (xor-lt 32 0 w (omega arith) hw) hm
 
 -- ---- a byte leaves what its halves leave
 pub halves-leave : (k x : ℕ) → x < 256 → left k x ≡ bitXor (left k (x % 16)) (left k (x / 16 * 16))
@@ -188,20 +179,6 @@ pub left-none : (x : ℕ) → left 0 x ≡ entry x
 unfolding zerosStep byteStep entry
 left-none x = refl
 
--- the table's two entries of a byte
-pub entries-leave : (table : List ℕ) → IsTable table → (k x : ℕ) → k < 8 → x < 256
-    → bitXor (getD table (32 * k + x % 16) 0) (getD table (32 * k + 16 + x / 16) 0) ≡ left k x
-unfolding IsTable pick
-entries-leave table t k x h l =
-    let low : half (x % 16) ≡ x % 16 = ap (λ (b : Bool). pick b (x % 16) ((x % 16 - 16) * 16)) (lt-ltb (x % 16) 16 (omega arith)) in
-    let up : half (16 + x / 16) ≡ x / 16 * 16 =
-    ap (λ (b : Bool). pick b (16 + x / 16) ((16 + x / 16 - 16) * 16)) (le-ltb (16 + x / 16) 16 (omega arith)) ∙ omega arith in
-    let e : 32 * k + 16 + x / 16 ≡ 32 * k + (16 + x / 16) = omega arith in
-    ap₂ bitXor
-    (t k (x % 16) h (omega arith) ∙ ap (left k) low)
-    (ap (λ (n : ℕ). getD table n 0) e ∙ t k (16 + x / 16) h (omega arith) ∙ ap (left k) up)
-    ∙ sym (halves-leave k x l)
-
 -- ---- bytes of a string
 next4 : (s : Bytes) (i : ℕ) → i + 4 ≤ length s
     → drop i s ≡ getD s i 0 ∷ getD s (i + 1) 0 ∷ getD s (i + 2) 0 ∷ getD s (i + 3) 0 ∷ drop (i + 4) s
@@ -211,14 +188,6 @@ next4 s i h =
     let e4 : i + 3 + 1 ≡ i + 4 = omega arith in
     rw (next s i (omega arith), next s (i + 1) (omega arith), e2, next s (i + 2) (omega arith), e3, next s (i + 3) (omega arith), e4)
 
-pub next8 : (s : Bytes) (i : ℕ) → i + 8 ≤ length s
-    → drop i s
-    ≡ getD s i 0 ∷ getD s (i + 1) 0 ∷ getD s (i + 2) 0 ∷ getD s (i + 3) 0
-    ∷ getD s (i + 4) 0 ∷ getD s (i + 4 + 1) 0 ∷ getD s (i + 4 + 2) 0 ∷ getD s (i + 4 + 3) 0 ∷ drop (i + 8) s
-next8 s i h =
-    let e : i + 4 + 4 ≡ i + 8 = omega arith in
-    rw (next4 s i (omega arith), next4 s (i + 4) (omega arith), e)
-
 module _ (r : ℕ) (s : Bytes) (i : ℕ) (hr : r < 2 ^ 32) (byte : (j : ℕ) → getD s j 0 < 256) where
   -- four bytes
   pub by-four : i + 4 ≤ length s → crcFrom r (drop i s) ≡ crcFrom (zerosStep 4 (bitXor r (wordAt s i))) (drop (i + 4) s)
@@ -227,13 +196,74 @@ module _ (r : ℕ) (s : Bytes) (i : ℕ) (hr : r < 2 ^ 32) (byte : (j : ℕ) →
       ap (crcFrom r) (next4 s i h)
       ∙ ap (λ (x : ℕ). crcFrom x (drop (i + 4) s)) (four-bytes r _ _ _ _ hr (byte i) (byte (i + 1)) (byte (i + 2)) (byte (i + 3)))
 
-  -- eight bytes: the first four are added to the register, the others to nothing
-  pub by-eight : i + 8 ≤ length s
+-- sixteen bytes: the first four are added to the register, the others to nothing
+module _ (r : ℕ) (s : Bytes) (i : ℕ) (hr : r < 2 ^ 32) (byte : (j : ℕ) → getD s j 0 < 256) where
+  word-at-lt : (j : ℕ) → wordAt s j < 2 ^ 32
+  word-at-lt j = word-lt _ _ _ _ (byte j) (byte (j + 1)) (byte (j + 2)) (byte (j + 3))
+
+  -- the register with the first four, and the others, each four by themselves
+  abbrev w0 : ℕ
+  w0 = bitXor r (wordAt s i)
+
+  abbrev w1 : ℕ
+  w1 = bitXor 0 (wordAt s (i + 4))
+
+  abbrev w2 : ℕ
+  w2 = bitXor 0 (wordAt s (i + 8))
+
+  abbrev w3 : ℕ
+  w3 = bitXor 0 (wordAt s (i + 12))
+
+  w0-lt : w0 < 2 ^ 32
+  w0-lt = xor-lt 32 r (wordAt s i) hr (word-at-lt i)
+
+  alone-lt : (j : ℕ) → bitXor 0 (wordAt s j) < 2 ^ 32
+  alone-lt j = xor-lt 32 0 (wordAt s j) (omega arith) (word-at-lt j)
+
+  -- the register after eight, twelve and sixteen bytes
+  eight : zerosStep 4 (bitXor (zerosStep 4 w0) (wordAt s (i + 4))) ≡ bitXor (zerosStep 4 w1) (zerosStep 8 w0)
+  eight =
+      word-more (zerosStep 4 w0) (wordAt s (i + 4)) (zeros-lt 4 w0 w0-lt) (word-at-lt (i + 4))
+      ∙ ap (bitXor (zerosStep 4 w1)) (zeros-more 4 4 w0)
+
+  eight-lt : bitXor (zerosStep 4 w1) (zerosStep 8 w0) < 2 ^ 32
+  eight-lt = xor-lt 32 (zerosStep 4 w1) (zerosStep 8 w0) (zeros-lt 4 w1 (alone-lt (i + 4))) (zeros-lt 8 w0 w0-lt)
+
+  twelve : zerosStep 4 (bitXor (bitXor (zerosStep 4 w1) (zerosStep 8 w0)) (wordAt s (i + 8)))
+      ≡ bitXor (zerosStep 4 w2) (bitXor (zerosStep 8 w1) (zerosStep 12 w0))
+  twelve =
+      word-more (bitXor (zerosStep 4 w1) (zerosStep 8 w0)) (wordAt s (i + 8)) eight-lt (word-at-lt (i + 8))
+      ∙ ap (bitXor (zerosStep 4 w2))
+      (zeros-linear 4 (zerosStep 4 w1) (zerosStep 8 w0) (zeros-lt 4 w1 (alone-lt (i + 4))) (zeros-lt 8 w0 w0-lt)
+      ∙ ap₂ bitXor (zeros-more 4 4 w1) (zeros-more 4 8 w0))
+
+  twelve-lt : bitXor (zerosStep 4 w2) (bitXor (zerosStep 8 w1) (zerosStep 12 w0)) < 2 ^ 32
+  twelve-lt =
+      xor-lt 32 (zerosStep 4 w2) (bitXor (zerosStep 8 w1) (zerosStep 12 w0)) (zeros-lt 4 w2 (alone-lt (i + 8)))
+      (xor-lt 32 (zerosStep 8 w1) (zerosStep 12 w0) (zeros-lt 8 w1 (alone-lt (i + 4))) (zeros-lt 12 w0 w0-lt))
+
+  sixteen : zerosStep 4 (bitXor (bitXor (zerosStep 4 w2) (bitXor (zerosStep 8 w1) (zerosStep 12 w0))) (wordAt s (i + 12)))
+      ≡ bitXor (zerosStep 4 w3) (bitXor (zerosStep 8 w2) (bitXor (zerosStep 12 w1) (zerosStep 16 w0)))
+  sixteen =
+      word-more (bitXor (zerosStep 4 w2) (bitXor (zerosStep 8 w1) (zerosStep 12 w0))) (wordAt s (i + 12)) twelve-lt (word-at-lt (i + 12))
+      ∙ ap (bitXor (zerosStep 4 w3))
+      (zeros-linear 4 (zerosStep 4 w2) (bitXor (zerosStep 8 w1) (zerosStep 12 w0)) (zeros-lt 4 w2 (alone-lt (i + 8)))
+      (xor-lt 32 (zerosStep 8 w1) (zerosStep 12 w0) (zeros-lt 8 w1 (alone-lt (i + 4))) (zeros-lt 12 w0 w0-lt))
+      ∙ ap₂ bitXor (zeros-more 4 4 w2)
+      (zeros-linear 4 (zerosStep 8 w1) (zerosStep 12 w0) (zeros-lt 8 w1 (alone-lt (i + 4))) (zeros-lt 12 w0 w0-lt)
+      ∙ ap₂ bitXor (zeros-more 4 8 w1) (zeros-more 4 12 w0)))
+
+  pub by-sixteen : i + 16 ≤ length s
       → crcFrom r (drop i s)
-      ≡ crcFrom (bitXor (zerosStep 8 (bitXor r (wordAt s i))) (zerosStep 4 (bitXor 0 (wordAt s (i + 4))))) (drop (i + 8) s)
-  by-eight h =
-      ap (crcFrom r) (next8 s i h)
-      ∙ eight-bytes r _ _ _ _ _ _ _ _ (drop (i + 8) s) hr (byte i) (byte (i + 1)) (byte (i + 2)) (byte (i + 3))
-      (byte (i + 4)) (byte (i + 4 + 1)) (byte (i + 4 + 2)) (byte (i + 4 + 3))
-      ∙ ap (λ (x : ℕ). crcFrom (bitXor (zerosStep 8 (bitXor r (wordAt s i))) (zerosStep 4 x)) (drop (i + 8) s))
-      (sym (xor-comm 0 (wordAt s (i + 4)) ∙ xor-zero-r (wordAt s (i + 4))))
+      ≡ crcFrom (bitXor (bitXor (bitXor (zerosStep 4 w3) (zerosStep 8 w2)) (zerosStep 12 w1)) (zerosStep 16 w0)) (drop (i + 16) s)
+  by-sixteen h =
+      let four : (m n : ℕ) (j k : ℕ) → m < 2 ^ 32 → j + 4 ≡ k → k ≤ length s → zerosStep 4 (bitXor m (wordAt s j)) ≡ n
+      → crcFrom m (drop j s) ≡ crcFrom n (drop k s) =
+      λ m n j k hm e l f. by-four m s j hm byte (omega arith) ∙ ap₂ (λ (x y : ℕ). crcFrom x (drop y s)) f e in
+      four r (zerosStep 4 w0) i (i + 4) hr refl (omega arith) refl
+      ∙ four (zerosStep 4 w0) _ (i + 4) (i + 8) (zeros-lt 4 w0 w0-lt) (omega arith) (omega arith) eight
+      ∙ four _ _ (i + 8) (i + 12) eight-lt (omega arith) (omega arith) twelve
+      ∙ four _ _ (i + 12) (i + 16) twelve-lt (omega arith) (omega arith) sixteen
+      ∙ ap (λ (x : ℕ). crcFrom x (drop (i + 16) s))
+      (sym (xor-assoc (zerosStep 4 w3) (zerosStep 8 w2) (bitXor (zerosStep 12 w1) (zerosStep 16 w0)))
+      ∙ sym (xor-assoc (bitXor (zerosStep 4 w3) (zerosStep 8 w2)) (zerosStep 12 w1) (zerosStep 16 w0)))

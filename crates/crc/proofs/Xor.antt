@@ -40,7 +40,8 @@ differ-self (suc x) = differ-self x
 
 differ-assoc : (x y z : ℕ) → x < 2 → y < 2 → z < 2 → differ (differ x y) z ≡ differ x (differ y z)
 unfolding allBelow
-differ-assoc x y z hx hy hz = at-bits (λ x y z w. differ (differ x y) z) (λ x y z w. differ x (differ y z)) refl x y z 0 hx hy hz (omega arith)
+differ-assoc x y z hx hy hz =
+    at-bits (λ x y z w. differ (differ x y) z) (λ x y z w. differ x (differ y z)) refl x y z 0 hx hy hz (omega arith)
 
 differ-bit : (x y : ℕ) → x < 2 → y < 2 → differ x y % 2 ≡ differ x y
 unfolding allBelow
@@ -63,7 +64,9 @@ xor-assoc =
     xor-step (bitXor n b) c
     ∙ ap₂ (λ (x y : ℕ). x * 2 + y)
     (ap (λ (x : ℕ). bitXor x (c / 2)) (xor-half n b) ∙ ih (b / 2) (c / 2) ∙ ap (bitXor (n / 2)) (sym (xor-half b c)))
-    (ap (λ (x : ℕ). differ x (c % 2)) (xor-odd n b) ∙ differ-assoc (n % 2) (b % 2) (c % 2) (omega arith) (omega arith) (omega arith) ∙ ap (differ (n % 2)) (sym (xor-odd b c)))
+    (ap (λ (x : ℕ). differ x (c % 2)) (xor-odd n b)
+    ∙ differ-assoc (n % 2) (b % 2) (c % 2) (omega arith) (omega arith) (omega arith)
+    ∙ ap (differ (n % 2)) (sym (xor-odd b c)))
     ∙ sym (xor-step n (bitXor b c)))
 
 -- two sums, their middle terms exchanged

@@ -10,7 +10,7 @@ use Rattle.lists.proofs.Tests.{case}
 use Rattle.refusal.specs.declared.Refused.{Refused}
 use Rattle.refusal.specs.Verdict.{passed, refused}
 use Rattle.refusal.specs.Number.{numberOf, refusedBy}
-use Rattle.refusal.proofs.Verdicts.{refuse, pass-on, refuse-at, pass-at, passed-same}
+use Rattle.refusal.proofs.Verdicts.{refuse, pass-on, refuse-at, pass-at, never, passed-same}
 use Rattle.emulation.specs.Payload.{legal, firstForbidden, dropped, unescape}
 use Rattle.emulation.specs.Answer.{mostUnescaped, unescaping, judging, judgedSays}
 use Rattle.emulation.specs.declared.unescaping.Judged.{Judged}
@@ -29,16 +29,18 @@ pub legal-judged : (p : Bytes) (d : ℕ) → passed d ≡ judging p → (legal p
 legal-judged p d e =
     case (legal p)
     (λ t. (t, passed-same d (dropped p) (e ∙ judging-legal p t)))
-    (λ t. let h = e ∙ judging-illegal p t in let z : _≡_ {A = ℕ} 0 1 = cc in absurd (omega arith))
+    (λ t. never (sym (e ∙ judging-illegal p t)))
 
-pub illegal-judged : (p : Bytes) (number place : ℕ) → refused number place ≡ judging p → (legal p ≡ false) × (number ≡ 10) × (place ≡ firstForbidden p)
+pub illegal-judged : (p : Bytes) (number place : ℕ) → refused number place ≡ judging p
+    → (legal p ≡ false) × (number ≡ 10) × (place ≡ firstForbidden p)
 illegal-judged p number place e =
     case (legal p)
-    (λ t. let h = e ∙ judging-legal p t in let z : _≡_ {A = ℕ} 0 1 = cc in absurd (omega arith))
+    (λ t. never (e ∙ judging-legal p t))
     (λ t. let h = e ∙ judging-illegal p t in (t, (cc), (cc)))
 
 -- ---- unescaping, behind the judge's verdict
-pub unescaping-illegal : (p : Bytes) (room : ℕ) (q : Judged) (r : Refused) → length p ≤ mostUnescaped → judgedSays q ≡ judging p → q ≡ judged.Illegal r
+pub unescaping-illegal : (p : Bytes) (room : ℕ) (q : Judged) (r : Refused) → length p ≤ mostUnescaped → judgedSays q ≡ judging p
+    → q ≡ judged.Illegal r
     → refusedBy r ≡ unescaping p room
 unfolding unescaping
 unescaping-illegal p room q r h e k =
@@ -53,17 +55,21 @@ pub judged-illegal : (p : Bytes) (q : Judged) (r : Refused) → judgedSays q ≡
 judged-illegal p q r e k = illegal-judged p (numberOf (r .why)) (r .place) (sym (ap judgedSays k) ∙ e) .0
 
 -- the length of what a legal payload unescapes to
-pub left-after : (p : Bytes) (q : Judged) (d : ℕ) → judgedSays q ≡ judging p → q ≡ judged.Legal d → (d ≤ length p) × (length p - d ≡ length (unescape p))
+pub left-after : (p : Bytes) (q : Judged) (d : ℕ) → judgedSays q ≡ judging p → q ≡ judged.Legal d
+    → (d ≤ length p) × (length p - d ≡ length (unescape p))
 left-after p q d e k =
     let j = judged-legal p q d e k in
     (omega (arith, j .1, given-or-dropped p), omega (arith, j .1, given-or-dropped p))
 
-pub unescaping-short : (p : Bytes) (room : ℕ) → length p ≤ mostUnescaped → legal p ≡ true → room < length (unescape p) → refused 8 0 ≡ unescaping p room
+pub unescaping-short : (p : Bytes) (room : ℕ) → length p ≤ mostUnescaped → legal p ≡ true → room < length (unescape p)
+    → refused 8 0 ≡ unescaping p room
 unfolding unescaping
 unescaping-short p room h l k =
-    pass-on 2 (le-ltb mostUnescaped (length p) h) (pass-at (firstForbidden p) 10 (ap not l) (refuse 8 _ (lt-ltb room (length (unescape p)) k)))
+    pass-on 2 (le-ltb mostUnescaped (length p) h)
+    (pass-at (firstForbidden p) 10 (ap not l) (refuse 8 _ (lt-ltb room (length (unescape p)) k)))
 
-pub unescaping-fits : (p : Bytes) (room n d : ℕ) → length p ≤ mostUnescaped → legal p ≡ true → length (unescape p) ≤ room → n ≡ length (unescape p) → d ≡ dropped p
+pub unescaping-fits : (p : Bytes) (room n d : ℕ) → length p ≤ mostUnescaped → legal p ≡ true → length (unescape p) ≤ room
+    → n ≡ length (unescape p) → d ≡ dropped p
     → passed (record { written = n; dropped = d }) ≡ unescaping p room
 unfolding unescaping
 unescaping-fits p room n d h l k e f =

@@ -2,22 +2,27 @@
 -- unescaping give the byte as it is (`KeepsUncritical`), nothing is dropped and no forbidden sequence begins; so they pass a clean block as
 -- it is. Assumes nothing.
 use Prim.Native.Nat.{ℕ, zero, suc, _+_, _-_, _≤_, _<_}
-use mathlib.Core.Bool.{Bool, true, false, _&&_, _||_, true≢false}
-use mathlib.Core.Path.{_≡_, refl, sym, ap, ap₂, _∙_}
+use mathlib.Core.Bool.{Bool, true, false, _&&_, _||_}
+use mathlib.Core.Path.{_≡_, refl, ap, ap₂, _∙_}
 use mathlib.Core.List.{[], _∷_, _++_}
 use native.Mathlib.Omega.{arith}
 use lib.ListN.{length, take, drop, getD, length-drop}
 use lib.Seq.{drop-drop}
 use lib.Dec.{leb, eqb}
-use borrow.Author.Tests.{eqb-true, leb-true, leb-false, le-leb, lt-leb, ne-eqb}
+use borrow.Author.Tests.{leb-false, lt-leb, ne-eqb}
 use Rattle.lists.specs.Lists.{Bytes}
-use Rattle.lists.proofs.Tests.{case, clash, and-both}
-use Rattle.lists.proofs.Parts.{next, next3}
+use Rattle.lists.proofs.Tests.{case, clash}
+use Rattle.lists.proofs.Parts.{next}
+use Rattle.lists.proofs.Threes.{AsksThree, by-three, three-at, three-fits}
 use Rattle.emulation.specs.Payload.{stuffed, escape, escapeAfter, unescape, forbidden, above3}
-use Rattle.emulation.specs.Parts.{marked, critical, paired, tripled, hits, block, clean, single}
+use Rattle.emulation.specs.Parts.{marked, critical, paired, tripled, hits, block, clean}
 use Rattle.emulation.proofs.Steps.{escape-stuffed, escape-plain, unescape-plain}
-use Rattle.emulation.proofs.Hits.{one, hits-first, none-first, none-keeps}
+use Rattle.emulation.proofs.Hits.{one, hits-first, none-first, none-keeps, is-free}
 use Rattle.emulation.proofs.Machine.{stuffed-is, stuffed-of, marked-of, unmarked-of-plain}
+
+critical-three : AsksThree critical
+unfolding critical
+critical-three = record { none = refl; one = λ a. refl; two = λ a b. refl }
 
 -- ---- what begins at such a place alone
 pub uncritical-unmarked : (l : Bytes) → critical l ≡ false → marked l ≡ false
@@ -42,14 +47,13 @@ uncritical-lawful (a ∷ b ∷ c ∷ s) e = case (eqb a 0 && eqb b 0) (λ t. rw 
 -- where no forbidden sequence begins at such a place, it is 00 00 03
 pub critical-marked : (l : Bytes) → critical l ≡ true → forbidden l ≡ false → marked l ≡ true
 unfolding critical forbidden marked
-critical-marked [] e f = absurd (true≢false (sym e))
-critical-marked (a ∷ []) e f = absurd (true≢false (sym e))
-critical-marked (a ∷ b ∷ []) e f = absurd (true≢false (sym e))
-critical-marked (a ∷ b ∷ c ∷ s) e f =
+critical-marked =
+    by-three critical-three (λ l. forbidden l ≡ false → marked l ≡ true)
+    (λ a b c s e f.
     let h = stuffed-is a b c e in
     case (leb c 2)
     (λ t. let k : forbidden (a ∷ b ∷ c ∷ s) ≡ true = rw (h .0, h .1, t) in clash k f)
-    (λ t. let k = leb-false c 2 t in marked-of a b c (h .0) (h .1) (omega arith))
+    (λ t. let k = leb-false c 2 t in marked-of a b c (h .0) (h .1) (omega arith)))
 
 -- ---- escaping by the bytes to come: `escape` goes by the bytes written last, of which there are none at first
 -- a 03 before the byte written last counts as little as nothing before it
@@ -72,11 +76,11 @@ escape-zeros c s h =
 
 escape-critical : (l : Bytes) → critical l ≡ true → escape l ≡ 0 ∷ 0 ∷ 3 ∷ escape (drop 2 l)
 unfolding critical
-escape-critical [] e = absurd (true≢false (sym e))
-escape-critical (a ∷ []) e = absurd (true≢false (sym e))
-escape-critical (a ∷ b ∷ []) e = absurd (true≢false (sym e))
-escape-critical (a ∷ b ∷ c ∷ s) e =
-    let h = stuffed-is a b c e in ap₂ (λ (x y : ℕ). escape (x ∷ y ∷ c ∷ s)) (h .0) (h .1) ∙ escape-zeros c s (h .2)
+escape-critical =
+    by-three critical-three (λ l. escape l ≡ 0 ∷ 0 ∷ 3 ∷ escape (drop 2 l))
+    (λ a b c s e.
+    let h = stuffed-is a b c e in
+    ap₂ (λ (x y : ℕ). escape (x ∷ y ∷ c ∷ s)) (h .0) (h .1) ∙ escape-zeros c s (h .2))
 
 -- without a third 00, one place puts its own byte and no other
 unpaired-third : (c : ℕ) (s : Bytes) → (c ≡ 0 → ⊥) → critical (0 ∷ c ∷ s) ≡ false
@@ -101,17 +105,10 @@ escape-one a (b ∷ c ∷ s) e =
 -- ---- at the code's place i
 pub critical-at : (s : Bytes) (i : ℕ) → i + 2 < length s → critical (drop i s) ≡ stuffed (getD s i 0) (getD s (i + 1) 0) (getD s (i + 2) 0)
 unfolding critical
-critical-at s i h = rw (next3 s i h)
-
-critical-long : (l : Bytes) → critical l ≡ true → 3 ≤ length l
-unfolding critical
-critical-long [] e = absurd (true≢false (sym e))
-critical-long (a ∷ []) e = absurd (true≢false (sym e))
-critical-long (a ∷ b ∷ []) e = absurd (true≢false (sym e))
-critical-long (a ∷ b ∷ c ∷ s) e = omega arith
+critical-at = three-at critical stuffed (λ a b c s. refl)
 
 pub critical-fits : (s : Bytes) (i : ℕ) → i ≤ length s → critical (drop i s) ≡ true → i + 3 ≤ length s
-critical-fits s i h e = omega (arith, critical-long (drop i s) e, length-drop i s)
+critical-fits = three-fits critical-three
 
 pub escape-at-critical : (s : Bytes) (i : ℕ) → critical (drop i s) ≡ true → escape (drop i s) ≡ 0 ∷ 0 ∷ 3 ∷ escape (drop (i + 2) s)
 escape-at-critical s i e = escape-critical (drop i s) e ∙ rw (drop-drop 2 i s)
@@ -133,7 +130,7 @@ paired-of s i h e f = paired-at s i h ∙ rw (e, f)
 pub tripled-at : (s : Bytes) (i : ℕ) → i + 2 < length s
     → tripled (drop i s) ≡ eqb (getD s i 0) 0 && eqb (getD s (i + 1) 0) 0 && eqb (getD s (i + 2) 0) 0
 unfolding tripled
-tripled-at s i h = rw (next3 s i h)
+tripled-at = three-at tripled (λ a b c. eqb a 0 && eqb b 0 && eqb c 0) (λ a b c s. refl)
 
 -- without 00 00 the place is not critical
 pub unpaired-uncritical : (l : Bytes) → paired l ≡ false → critical l ≡ false
@@ -152,43 +149,12 @@ unpaired-none (suc n) (a ∷ s) e =
     omega (arith, hits-first critical n a s, ap one (unpaired-uncritical (a ∷ s) (m .0)), unpaired-none n s (m .1))
 
 -- ---- a clean block
-pub clean-short : (s : Bytes) (i : ℕ) → length s - i < block + 2 → clean (drop i s) ≡ false
-unfolding clean
-clean-short s i h = rw (length-drop, lt-leb (block + 2) (length s - i) h)
-
-pub clean-counted : (s : Bytes) (i : ℕ) → block + 2 ≤ length s - i → clean (drop i s) ≡ eqb (hits critical block (drop i s)) 0
-unfolding clean
-clean-counted s i h = rw (length-drop, le-leb (block + 2) (length s - i) h)
-
-pub is-clean : (s : Bytes) (i : ℕ) → clean (drop i s) ≡ true → (i + block + 2 ≤ length s) × (hits critical block (drop i s) ≡ 0)
-unfolding clean
-is-clean s i e =
-    let h = and-both (leb (block + 2) (length (drop i s))) (eqb (hits critical block (drop i s)) 0) e in
-    let k = leb-true (block + 2) (length (drop i s)) (h .0) in
-    (omega (arith, length-drop i s), eqb-true (hits critical block (drop i s)) 0 (h .1))
-
 -- what each place that is not critical keeps, a clean block keeps
 pub clean-keeps : (s : Bytes) (P : ℕ → Type 0) → ((j : ℕ) → j < length s → critical (drop j s) ≡ false → P j → P (j + 1))
     → (i : ℕ) → clean (drop i s) ≡ true → P i → P (i + block)
 clean-keeps s P step i e p =
-    let h = is-clean s i e in
+    let h = is-free critical s i e in
     none-keeps critical s P step block i (omega (arith, h .0)) (h .1) p
-
--- ---- a block without 00 00 00
-pub single-short : (s : Bytes) (i : ℕ) → length s - i < block + 2 → single (drop i s) ≡ false
-unfolding single
-single-short s i h = rw (length-drop, lt-leb (block + 2) (length s - i) h)
-
-pub single-counted : (s : Bytes) (i : ℕ) → block + 2 ≤ length s - i → single (drop i s) ≡ eqb (hits tripled block (drop i s)) 0
-unfolding single
-single-counted s i h = rw (length-drop, le-leb (block + 2) (length s - i) h)
-
-pub is-single : (s : Bytes) (i : ℕ) → single (drop i s) ≡ true → (i + block + 2 ≤ length s) × (hits tripled block (drop i s) ≡ 0)
-unfolding single
-is-single s i e =
-    let h = and-both (leb (block + 2) (length (drop i s))) (eqb (hits tripled block (drop i s)) 0) e in
-    let k = leb-true (block + 2) (length (drop i s)) (h .0) in
-    (omega (arith, length-drop i s), eqb-true (hits tripled block (drop i s)) 0 (h .1))
 
 -- ---- what gives each byte as it is where the place is not critical, gives a clean block as it is, and the last two bytes
 pub record KeepsUncritical (f : Bytes → Bytes) : Type 0 where
@@ -212,7 +178,7 @@ module _ (f : Bytes → Bytes) (k : KeepsUncritical f) where
 
   pub clean-passes : (s : Bytes) (i : ℕ) → clean (drop i s) ≡ true → f (drop i s) ≡ take block (drop i s) ++ f (drop (i + block) s)
   clean-passes s i e =
-      let h = is-clean s i e in
+      let h = is-free critical s i e in
       passes block (drop i s) (omega (arith, h .0, length-drop i s)) (h .1)
       ∙ ap (λ (l : Bytes). take block (drop i s) ++ f l) (drop-drop block i s)
 

@@ -1,8 +1,8 @@
 -- A pass that judges a payload: between the places that it has gone over no forbidden sequence begins, and it knows how many bytes
 -- unescaping drops there (`Lawful`). Assumes nothing.
-use Prim.Native.Nat.{ℕ, zero, suc, _+_, _-_, _≤_, _<_}
-use mathlib.Core.Bool.{Bool, true, false, _&&_, _||_, true≢false, and-false}
-use mathlib.Core.Path.{_≡_, refl, sym, ap, ap₂, subst, subst₂, _∙_}
+use Prim.Native.Nat.{ℕ, suc, _+_, _-_, _≤_, _<_}
+use mathlib.Core.Bool.{true, false, _&&_, _||_, true≢false, and-false}
+use mathlib.Core.Path.{_≡_, refl, sym, ap, ap₂, subst, _∙_}
 use mathlib.Core.List.{[], _∷_}
 use native.Mathlib.Omega.{arith}
 use borrow.Author.Tests.{eqb-true, ne-eqb}
@@ -12,35 +12,29 @@ use lib.Seq.{drop-drop, take-all}
 use Rattle.lists.specs.Lists.{Bytes}
 use Rattle.lists.proofs.Tests.{case, clash, and-both}
 use Rattle.lists.proofs.Parts.{next}
+use Rattle.lists.proofs.Threes.{by-three}
 use Rattle.emulation.specs.Payload.{marked3, unescape, dropped, forbidden, above3, firstForbidden, legal}
 use Rattle.emulation.specs.Parts.{marked, critical, paired, hits, block, Lawful}
 use Rattle.emulation.proofs.Steps.{marked-is, marked-at, marked-fits, forbidden-at, above3-at, unescape-plain, dropped-marked}
 use Rattle.emulation.proofs.Steps.{dropped-plain, dropped-at-marked, dropped-at-plain, first-yes, first-no, first-next}
-use Rattle.emulation.proofs.Steps.{illegal-before, legal-after}
+use Rattle.emulation.proofs.Steps.{illegal-before, legal-after, marked-three}
 use Rattle.emulation.proofs.Clean.{uncritical-unmarked, uncritical-lawful, critical-marked, critical-at, paired-at}
 use Rattle.emulation.proofs.Clean.{unpaired-uncritical}
-use Rattle.emulation.proofs.Hits.{one, hits-first, none-first, none-keeps}
+use Rattle.emulation.proofs.Hits.{one, one-most, none-keeps, none-counts}
+use Rattle.emulation.proofs.Passes.{counts-start, counts-then, counts-none, counts-some}
 
 pub lawful-start : (s : Bytes) (i : ℕ) → i ≤ length s → Lawful s i i 0
-lawful-start s i h = record { onward = omega arith; within = h; drops = omega arith; first = refl }
+lawful-start s i h = record { drops = counts-start _ s i h; first = refl }
 
 -- the two passes, one after the other
 pub lawful-then : (s : Bytes) (i j k d e : ℕ) → Lawful s i j d → Lawful s j k e → Lawful s i k (d + e)
-lawful-then s i j k d e a b =
-    record {
-      onward = omega (arith, a .onward, b .onward);
-      within = b .within;
-      drops = omega (arith, a .drops, b .drops);
-      first = a .first ∙ b .first;
-    }
+lawful-then s i j k d e a b = record { drops = counts-then (a .drops) (b .drops); first = a .first ∙ b .first }
 
 -- a place at which 00 00 and a byte of 0 to 3 do not stand
 pub lawful-plain : (s : Bytes) (i j d : ℕ) → Lawful s i j d → j < length s → critical (drop j s) ≡ false → Lawful s i (j + 1) d
 lawful-plain s i j d l h e =
     record {
-      onward = omega (arith, l .onward);
-      within = omega arith;
-      drops = omega (arith, l .drops, dropped-at-plain s j h (uncritical-unmarked (drop j s) e));
+      drops = counts-none (l .drops) 1 (omega arith) (dropped-at-plain s j h (uncritical-unmarked (drop j s) e));
       first = omega (arith, l .first, first-next s j h (uncritical-lawful (drop j s) e));
     }
 
@@ -89,39 +83,16 @@ pub lawful-one : (s : Bytes) (i j d : ℕ) → Lawful s i j d → j < length s �
 lawful-one s i j d l h f =
     let e : dropped (drop j s)
     ≡ one (marked (drop j s)) + dropped (drop (j + 1) s) = rw (next s j h) (dropped-one (getD s j 0) (drop (j + 1) s)) in
-    let most : one (marked (drop j s)) ≤ 1 = one-most (marked (drop j s)) in
     record {
-      onward = omega (arith, l .onward);
-      within = omega arith;
-      drops = omega (arith, l .drops);
+      drops = counts-some (l .drops) 1 (one (marked (drop j s))) (one-most (marked (drop j s))) (omega arith) e;
       first = omega (arith, l .first, first-next s j h f);
     }
-  where
-    one-most : (t : Bool) → one t ≤ 1
-    one-most true = omega arith
-    one-most false = omega arith
 
--- the first places from j on, at which no forbidden sequence begins
-lawful-more : (s : Bytes) (i n j d : ℕ) → Lawful s i j d → j + n ≤ length s → hits forbidden n (drop j s) ≡ 0
-    → Lawful s i (j + n) (d + hits marked n (drop j s))
-unfolding hits
-lawful-more s i zero j d l h e =
-    let z : j ≡ j + 0 = omega arith in
-    let y : d ≡ d + 0 = omega arith in
-    subst₂ (λ (k m : ℕ). Lawful s i k m) z y l
-lawful-more s i (suc n) j d l h e =
-    let c = next s j (omega arith) in
-    let k = none-first forbidden n (getD s j 0) (drop (j + 1) s) (rw c at e) in
-    let m : hits marked (suc n) (drop j s)
-    ≡ one (marked (drop j s)) + hits marked n (drop (j + 1) s) = rw c (hits-first marked n (getD s j 0) (drop (j + 1) s)) in
-    let z : j + 1 + n ≡ j + suc n = omega arith in
-    let y : d + one (marked (drop j s)) + hits marked n (drop (j + 1) s) ≡ d + hits marked (suc n) (drop j s) = omega arith in
-    subst₂ (λ (x w : ℕ). Lawful s i x w) z y
-    (lawful-more s i n (j + 1) (d + one (marked (drop j s))) (lawful-one s i j d l (omega arith) (rw c (k .0))) (omega arith) (k .1))
-
+-- a block at no place of which a forbidden sequence begins
 pub lawful-block : (s : Bytes) (i j d : ℕ) → Lawful s i j d → j + block ≤ length s → hits forbidden block (drop j s) ≡ 0
     → Lawful s i (j + block) (d + hits marked block (drop j s))
-lawful-block s i j d l h e = lawful-more s i block j d l h e
+lawful-block s i j d l h e =
+    none-counts forbidden marked s (λ k m. Lawful s i k m) (λ k m n f p. lawful-one s i k m p n f) block j d h e l
 
 -- a forbidden sequence, where four bytes are there
 pub forbidden-four : (s : Bytes) (i : ℕ) → i + 3 < length s
@@ -186,12 +157,11 @@ after-mark (x ∷ y ∷ t) = first-no 0 (3 ∷ x ∷ y ∷ t) refl ∙ ap suc (f
 
 first-marked : (l : Bytes) → marked l ≡ true → forbidden l ≡ false → firstForbidden l ≡ suc (suc (suc (firstForbidden (drop 3 l))))
 unfolding marked
-first-marked [] m f = absurd (true≢false (sym m))
-first-marked (a ∷ []) m f = absurd (true≢false (sym m))
-first-marked (a ∷ b ∷ []) m f = absurd (true≢false (sym m))
-first-marked (a ∷ b ∷ c ∷ t) m f =
+first-marked =
+    by-three marked-three (λ l. forbidden l ≡ false → firstForbidden l ≡ suc (suc (suc (firstForbidden (drop 3 l)))))
+    (λ a b c t m f.
     let h = marked-is a b c m in
-    first-no a (b ∷ c ∷ t) f ∙ ap suc (ap₂ (λ (x y : ℕ). firstForbidden (x ∷ y ∷ t)) (h .1) (h .2) ∙ after-mark t)
+    first-no a (b ∷ c ∷ t) f ∙ ap suc (ap₂ (λ (x y : ℕ). firstForbidden (x ∷ y ∷ t)) (h .1) (h .2) ∙ after-mark t))
 
 -- a 00 00 03 that begins no forbidden sequence
 pub lawful-marked : (s : Bytes) (i j d : ℕ) → Lawful s i j d → critical (drop j s) ≡ true → forbidden (drop j s) ≡ false
@@ -201,9 +171,8 @@ lawful-marked s i j d l e f =
     let k : firstForbidden (drop j s) ≡ suc (suc (suc (firstForbidden (drop (j + 3) s)))) =
     first-marked (drop j s) m f ∙ rw (drop-drop 3 j s) in
     record {
-      onward = omega (arith, l .onward);
-      within = marked-fits s j (l .within) m;
-      drops = omega (arith, l .drops, dropped-at-marked s j m);
+      drops =
+          counts-some (l .drops) 3 1 (omega arith) (marked-fits s j (l .drops .within) m) (omega (arith, dropped-at-marked s j m));
       first = omega (arith, l .first);
     }
 
@@ -238,11 +207,14 @@ lawful-rest s i j d l h =
     let n : length (drop j s) ≡ length s - j = length-drop j s in
     let k : length (drop j s) < 3 = omega arith in
     let z : drop (length s) s ≡ [] = drop-of-length-le s {i = length s} (omega arith) in
+    let d = l .drops in
     record {
-      onward = omega (arith, l .onward, l .within);
-      within = omega arith;
-      drops = rw z (omega (arith, l .drops, short-drops (drop j s) k));
-      first = rw z (omega (arith, l .first, l .within, short-first (drop j s) k));
+      drops = record {
+        onward = omega (arith, d .onward, d .within);
+        within = omega arith;
+        less = rw z (omega (arith, d .less, short-drops (drop j s) k));
+      };
+      first = rw z (omega (arith, l .first, d .within, short-first (drop j s) k));
     }
 
 pub first-past : (s : Bytes) → firstForbidden (drop (length s) s) ≡ 0
@@ -300,7 +272,7 @@ pub lawful-dropped : (s : Bytes) (i j d : ℕ) → Lawful s i j d → firstForbi
 lawful-dropped s i j d l e =
     let f : ℕ = firstForbidden (drop i s) in
     let k : drop f (drop i s) ≡ drop j s = drop-drop f i s ∙ ap (λ (n : ℕ). drop n s) (sym (lawful-first s i j d l e)) in
-    omega (arith, l .drops, dropped-until (drop i s), ap dropped k)
+    omega (arith, l .drops .less, dropped-until (drop i s), ap dropped k)
 
 -- behind the end
 pub lawful-behind : (s : Bytes) (i : ℕ) → length s ≤ i

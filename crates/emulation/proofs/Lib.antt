@@ -4,6 +4,7 @@ pub mod Answers
 pub mod Machine
 pub mod Theorems
 pub mod Hits
+pub mod Passes
 pub mod Clean
 pub mod Judging
 pub mod Inserting

@@ -1,5 +1,5 @@
--- Unescaping and legality once more, a byte at a time, by the payload bytes that came last. `specs/Payload.antt` looks ahead and these look back,
--- so that they go in step with `escapeAfter`; each is proved to be what the specs say. Assumes nothing.
+-- Unescaping and legality once more, a byte at a time, by the payload bytes that came last. `specs/Payload.antt` looks ahead and these look
+-- back, so that they go in step with `escapeAfter`; each is proved to be what the specs say. Assumes nothing.
 use Prim.Native.Nat.{ℕ, _≤_}
 use mathlib.Core.Bool.{Bool, true, false, not, _&&_, _||_, and-false, or-false, or-true}
 use mathlib.Core.Path.{_≡_, refl, sym, ap, _∙_}

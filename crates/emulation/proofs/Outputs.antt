@@ -1,12 +1,13 @@
--- Laws of `Writes`: nothing is written yet, one byte, the first bytes of a list, one part after another, and what stands in the output at the end.
--- Assumes nothing.
+-- Laws of `Writes`: nothing is written yet, one byte, the first bytes of a list, one part after another, and what stands in the output at
+-- the end. Assumes nothing.
 use Prim.Native.Nat.{ℕ, suc, _+_, _-_, _≤_, _<_}
 use mathlib.Core.Path.{_≡_, refl, sym, ap, subst, _∙_}
 use mathlib.Core.List.{[], _∷_, _++_, append-nil, append-assoc}
 use native.Mathlib.Omega.{arith}
 use native.Mathlib.Numerals.{add-one}
 use lib.ListN.{length, take, drop, set, getD, length-set, length-drop, take-append-drop}
-use lib.Seq.{take-nil, take-suc, take-suc-set, append-snoc, drop-set-lt, drop-drop, getD-drop, length-take-le, paste, length-paste, take-paste, drop-paste, take-append-add}
+use lib.Seq.{take-nil, take-suc, take-suc-set, append-snoc, drop-set-lt, drop-drop, getD-drop, length-take-le, paste, length-paste}
+use lib.Seq.{take-paste, drop-paste, take-append-add}
 use Rattle.lists.specs.Lists.{Bytes}
 use Rattle.lists.proofs.Writing.{Finished}
 use Rattle.emulation.specs.Parts.{Writes}
@@ -15,11 +16,13 @@ pub writes-start : (out whole : Bytes) (n : ℕ) → n ≤ length out → Writes
 writes-start out whole n h = record { onward = omega arith; within = h; long = refl; front = refl; back = refl }
 
 -- one part after another
-pub writes-then : {out whole rest later last rest₂ : Bytes} {n m k : ℕ} → Writes out n whole m rest later → Writes later m rest k rest₂ last → Writes out n whole k rest₂ last
+pub writes-then : {out whole rest later last rest₂ : Bytes} {n m k : ℕ} → Writes out n whole m rest later
+    → Writes later m rest k rest₂ last → Writes out n whole k rest₂ last
 writes-then {out} {whole} {rest} {later} {last} {rest₂} {n} {m} {k} a b =
     let e : m + (k - m) ≡ k = omega (arith, b .onward) in
     let g : drop k later ≡ drop k out =
-    subst (λ (i : ℕ). drop i later ≡ drop i out) e (sym (drop-drop (k - m) m later) ∙ ap (λ (l : Bytes). drop (k - m) l) (a .back) ∙ drop-drop (k - m) m out) in
+    subst (λ (i : ℕ). drop i later ≡ drop i out) e
+    (sym (drop-drop (k - m) m later) ∙ ap (λ (l : Bytes). drop (k - m) l) (a .back) ∙ drop-drop (k - m) m out) in
     record {
       onward = omega (arith, a .onward, b .onward);
       within = b .within;
@@ -47,7 +50,8 @@ writes-none out rest n b h =
     record { onward = omega arith; within = omega arith; long = refl; front = rw e; back = refl }
 
 -- the first k bytes of w
-pub writes-paste : (out w rest : Bytes) (n k : ℕ) → n + k ≤ length out → k ≤ length w → Writes out n (take k w ++ rest) (n + k) rest (paste out n w k)
+pub writes-paste : (out w rest : Bytes) (n k : ℕ) → n + k ≤ length out → k ≤ length w
+    → Writes out n (take k w ++ rest) (n + k) rest (paste out n w k)
 writes-paste out w rest n k h m =
     let r : ℕ = length out - (n + k) in
     let e : length (take k w) + r ≡ length out - n = omega (arith, length-take-le k w m) in
@@ -62,7 +66,8 @@ writes-paste out w rest n k h m =
     }
 
 -- nothing is left that has room
-finished : {out whole rest later : Bytes} {m : ℕ} → Writes out 0 whole m rest later → take (length out - m) rest ≡ [] → Finished out whole m later
+finished : {out whole rest later : Bytes} {m : ℕ} → Writes out 0 whole m rest later → take (length out - m) rest ≡ []
+    → Finished out whole m later
 finished {out} {whole} {rest} {later} {m} w e =
     let z : length out - 0 ≡ length out = omega arith in
     let f : take m later ≡ take (length out) whole =
@@ -86,4 +91,5 @@ pub take-next : (s t : Bytes) (i j : ℕ) → j < length t → i + j < length s 
     → take (j + 1) (set t j (getD s (i + j) 0)) ≡ take (j + 1) (drop i s)
 take-next s t i j h k e =
     let m : j < length (drop i s) = omega (arith, length-drop i s) in
-    rw (add-one, take-suc-set t j (getD s (i + j) 0) h, take-suc (drop i s) j 0 m, getD-drop i s j 0) (ap (λ (l : Bytes). l ++ (getD s (i + j) 0 ∷ [])) e)
+    rw (add-one, take-suc-set t j (getD s (i + j) 0) h, take-suc (drop i s) j 0 m, getD-drop i s j 0)
+    (ap (λ (l : Bytes). l ++ (getD s (i + j) 0 ∷ [])) e)

@@ -1,16 +1,17 @@
 -- Steps of the definitions of specs/Payload.antt, at a test's value. Assumes nothing.
 use Prim.Native.Nat.{ℕ, suc, _+_, _-_, _≤_, _<_}
-use mathlib.Core.Bool.{Bool, true, false, _&&_, _||_, true≢false}
-use mathlib.Core.Path.{_≡_, refl, sym, ap, subst, _∙_}
+use mathlib.Core.Bool.{true, false, _&&_, _||_}
+use mathlib.Core.Path.{_≡_, refl, ap, _∙_}
 use mathlib.Core.List.{[], _∷_}
 use native.Mathlib.Omega.{arith}
-use lib.ListN.{length, drop, getD, drop-of-length-le, length-drop}
+use lib.ListN.{length, drop, getD, drop-of-length-le}
 use lib.Seq.{drop-drop}
 use lib.Dec.{leb, ltb, eqb}
 use borrow.Author.Tests.{eqb-true}
 use Rattle.lists.specs.Lists.{Bytes}
-use Rattle.lists.proofs.Tests.{case, and-both}
+use Rattle.lists.proofs.Tests.{case, chosen-true, chosen-false, and-both}
 use Rattle.lists.proofs.Parts.{next, next3}
+use Rattle.lists.proofs.Threes.{AsksThree, by-three, three-end, three-long, three-fits, three-at}
 use Rattle.emulation.specs.Payload.{stuffed, escapeAfter, marked3, unescape, dropped, forbidden, above3, firstForbidden, legal}
 use Rattle.emulation.specs.Parts.{marked}
 
@@ -29,22 +30,25 @@ marked-is a b c e =
     let k = and-both (eqb a 0) (eqb b 0) (h .0) in
     (eqb-true a 0 (k .0), eqb-true b 0 (k .1), eqb-true c 3 (h .1))
 
-forbidden-short : (l : Bytes) → length l < 3 → forbidden l ≡ false
+pub marked-three : AsksThree marked
+unfolding marked
+marked-three = record { none = refl; one = λ a. refl; two = λ a b. refl }
+
+forbidden-three : AsksThree forbidden
 unfolding forbidden
-forbidden-short [] h = refl
-forbidden-short (a ∷ []) h = refl
-forbidden-short (a ∷ b ∷ []) h = refl
-forbidden-short (a ∷ b ∷ c ∷ s) h = absurd (omega arith)
+forbidden-three = record { none = refl; one = λ a. refl; two = λ a b. refl }
 
 pub forbidden-at-end : (s : Bytes) (i : ℕ) → length s - i < 3 → forbidden (drop i s) ≡ false
-forbidden-at-end s i h = forbidden-short (drop i s) (rw length-drop h)
+forbidden-at-end = three-end forbidden-three
 
 pub marked-at : (s : Bytes) (i : ℕ) → i + 2 < length s → marked (drop i s) ≡ marked3 (getD s i 0) (getD s (i + 1) 0) (getD s (i + 2) 0)
 unfolding marked
-marked-at s i h = rw (next3 s i h)
+marked-at = three-at marked marked3 (λ a b c s. refl)
 
 pub forbidden-at : (s : Bytes) (i : ℕ) → i + 2 < length s
-    → forbidden (drop i s) ≡ eqb (getD s i 0) 0 && eqb (getD s (i + 1) 0) 0 && (leb (getD s (i + 2) 0) 2 || (eqb (getD s (i + 2) 0) 3 && above3 (drop (i + 3) s)))
+    → forbidden (drop i s)
+    ≡ eqb (getD s i 0) 0 && eqb (getD s (i + 1) 0) 0
+    && (leb (getD s (i + 2) 0) 2 || (eqb (getD s (i + 2) 0) 3 && above3 (drop (i + 3) s)))
 unfolding forbidden
 forbidden-at s i h = rw (next3 s i h)
 
@@ -59,47 +63,33 @@ above3-end s i h = rw (drop-of-length-le s h)
 -- ---- one step of unescaping
 pub unescape-marked : (l : Bytes) → marked l ≡ true → unescape l ≡ 0 ∷ 0 ∷ unescape (drop 3 l)
 unfolding marked unescape
-unescape-marked [] e = absurd (true≢false (sym e))
-unescape-marked (a ∷ []) e = absurd (true≢false (sym e))
-unescape-marked (a ∷ b ∷ []) e = absurd (true≢false (sym e))
-unescape-marked (a ∷ b ∷ c ∷ s) e =
-    subst (λ (t : Bool). _≡_ {A = Bytes} (elim t [ true ↦ 0 ∷ 0 ∷ unescape s | false ↦ a ∷ unescape (b ∷ c ∷ s) ]) (0 ∷ 0 ∷ unescape s)) (sym e) refl
+unescape-marked =
+    by-three marked-three (λ l. unescape l ≡ 0 ∷ 0 ∷ unescape (drop 3 l))
+    (λ a b c s. chosen-true (0 ∷ 0 ∷ unescape s) (a ∷ unescape (b ∷ c ∷ s)))
 
 pub unescape-plain : (a : ℕ) (l : Bytes) → marked (a ∷ l) ≡ false → unescape (a ∷ l) ≡ a ∷ unescape l
 unfolding marked unescape
 unescape-plain a [] e = refl
 unescape-plain a (b ∷ []) e = refl
-unescape-plain a (b ∷ c ∷ s) e =
-    subst (λ (t : Bool). _≡_ {A = Bytes} (elim t [ true ↦ 0 ∷ 0 ∷ unescape s | false ↦ a ∷ unescape (b ∷ c ∷ s) ]) (a ∷ unescape (b ∷ c ∷ s))) (sym e) refl
+unescape-plain a (b ∷ c ∷ s) e = chosen-false (0 ∷ 0 ∷ unescape s) (a ∷ unescape (b ∷ c ∷ s)) e
 
 pub dropped-marked : (l : Bytes) → marked l ≡ true → dropped l ≡ suc (dropped (drop 3 l))
 unfolding marked dropped
-dropped-marked [] e = absurd (true≢false (sym e))
-dropped-marked (a ∷ []) e = absurd (true≢false (sym e))
-dropped-marked (a ∷ b ∷ []) e = absurd (true≢false (sym e))
-dropped-marked (a ∷ b ∷ c ∷ s) e =
-    subst (λ (t : Bool). _≡_ {A = ℕ} (elim t [ true ↦ suc (dropped s) | false ↦ dropped (b ∷ c ∷ s) ]) (suc (dropped s))) (sym e) refl
+dropped-marked =
+    by-three marked-three (λ l. dropped l ≡ suc (dropped (drop 3 l)))
+    (λ a b c s. chosen-true (suc (dropped s)) (dropped (b ∷ c ∷ s)))
 
 pub dropped-plain : (a : ℕ) (l : Bytes) → marked (a ∷ l) ≡ false → dropped (a ∷ l) ≡ dropped l
 unfolding marked dropped
 dropped-plain a [] e = refl
 dropped-plain a (b ∷ []) e = refl
-dropped-plain a (b ∷ c ∷ s) e =
-    subst (λ (t : Bool). _≡_ {A = ℕ} (elim t [ true ↦ suc (dropped s) | false ↦ dropped (b ∷ c ∷ s) ]) (dropped (b ∷ c ∷ s))) (sym e) refl
+dropped-plain a (b ∷ c ∷ s) e = chosen-false (suc (dropped s)) (dropped (b ∷ c ∷ s)) e
 
 pub marked-long : (l : Bytes) → marked l ≡ true → 3 ≤ length l
-unfolding marked
-marked-long [] e = absurd (true≢false (sym e))
-marked-long (a ∷ []) e = absurd (true≢false (sym e))
-marked-long (a ∷ b ∷ []) e = absurd (true≢false (sym e))
-marked-long (a ∷ b ∷ c ∷ s) e = omega arith
+marked-long = three-long marked-three
 
 pub forbidden-long : (l : Bytes) → forbidden l ≡ true → 3 ≤ length l
-unfolding forbidden
-forbidden-long [] e = absurd (true≢false (sym e))
-forbidden-long (a ∷ []) e = absurd (true≢false (sym e))
-forbidden-long (a ∷ b ∷ []) e = absurd (true≢false (sym e))
-forbidden-long (a ∷ b ∷ c ∷ s) e = omega arith
+forbidden-long = three-long forbidden-three
 
 pub marked3-rest : (a b c : ℕ) → a ≡ 0 → b ≡ 0 → marked3 a b c ≡ eqb c 3
 marked3-rest a b c p q = rw (p, q)
@@ -108,7 +98,8 @@ marked3-rest a b c p q = rw (p, q)
 pub unescape-at-marked : (s : Bytes) (i : ℕ) → marked (drop i s) ≡ true → unescape (drop i s) ≡ 0 ∷ 0 ∷ unescape (drop (i + 3) s)
 unescape-at-marked s i e = unescape-marked (drop i s) e ∙ rw (drop-drop 3 i s)
 
-pub unescape-at-plain : (s : Bytes) (i : ℕ) → i < length s → marked (drop i s) ≡ false → unescape (drop i s) ≡ getD s i 0 ∷ unescape (drop (i + 1) s)
+pub unescape-at-plain : (s : Bytes) (i : ℕ) → i < length s → marked (drop i s) ≡ false
+    → unescape (drop i s) ≡ getD s i 0 ∷ unescape (drop (i + 1) s)
 unescape-at-plain s i h e = rw (next s i h) (unescape-plain (getD s i 0) (drop (i + 1) s) (rw (next s i h) at e))
 
 pub dropped-at-marked : (s : Bytes) (i : ℕ) → marked (drop i s) ≡ true → dropped (drop i s) ≡ suc (dropped (drop (i + 3) s))
@@ -118,13 +109,14 @@ pub dropped-at-plain : (s : Bytes) (i : ℕ) → i < length s → marked (drop i
 dropped-at-plain s i h e = rw (next s i h) (dropped-plain (getD s i 0) (drop (i + 1) s) (rw (next s i h) at e))
 
 pub marked-fits : (s : Bytes) (i : ℕ) → i ≤ length s → marked (drop i s) ≡ true → i + 3 ≤ length s
-marked-fits s i h e = omega (arith, marked-long (drop i s) e, length-drop i s)
+marked-fits = three-fits marked-three
 
 pub first-found : (s : Bytes) (i : ℕ) → i < length s → forbidden (drop i s) ≡ true → firstForbidden (drop i s) ≡ 0
 unfolding firstForbidden
 first-found s i h e = rw (next s i h) (rw (rw (next s i h) at e, firstForbidden))
 
-pub first-next : (s : Bytes) (i : ℕ) → i < length s → forbidden (drop i s) ≡ false → firstForbidden (drop i s) ≡ suc (firstForbidden (drop (i + 1) s))
+pub first-next : (s : Bytes) (i : ℕ) → i < length s → forbidden (drop i s) ≡ false
+    → firstForbidden (drop i s) ≡ suc (firstForbidden (drop (i + 1) s))
 unfolding firstForbidden
 first-next s i h e = rw (next s i h) (rw (rw (next s i h) at e, firstForbidden))
 
@@ -148,11 +140,11 @@ pub first-no : (a : ℕ) (l : Bytes) → forbidden (a ∷ l) ≡ false → first
 unfolding firstForbidden
 first-no a l e = rw (e, firstForbidden)
 
-legal-yes : (a : ℕ) (l : Bytes) → forbidden (a ∷ l) ≡ true → legal (a ∷ l) ≡ false
+pub legal-yes : (a : ℕ) (l : Bytes) → forbidden (a ∷ l) ≡ true → legal (a ∷ l) ≡ false
 unfolding legal
 legal-yes a l e = rw e
 
-legal-no : (a : ℕ) (l : Bytes) → forbidden (a ∷ l) ≡ false → legal (a ∷ l) ≡ legal l
+pub legal-no : (a : ℕ) (l : Bytes) → forbidden (a ∷ l) ≡ false → legal (a ∷ l) ≡ legal l
 unfolding legal
 legal-no a l e = rw e
 

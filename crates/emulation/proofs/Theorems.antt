@@ -1,7 +1,7 @@
--- The laws of payloads. Of escaping: what it gives is legal (`escape-legal`), unescaping undoes it (`unescape-escape`), it is the only legal payload
--- but for a 03 at the end (`legal-unescape`), and its length (`escape-length`, `inserted-bound`, `escape-longer`). Of unescaping: what it drops
--- (`dropped-is`), and that something is left (`unescape-some`). Of legality: at no place a forbidden sequence begins (`legal-everywhere`).
--- Assumes nothing.
+-- The laws of payloads. Of escaping: what it gives is legal (`escape-legal`), unescaping undoes it (`unescape-escape`), it is the only
+-- legal payload but for a 03 at the end (`legal-unescape`), and its length (`escape-length`, `inserted-bound`, `escape-longer`). Of
+-- unescaping: what it drops (`dropped-is`), and that something is left (`unescape-some`). Of legality: at no place a forbidden sequence
+-- begins (`legal-everywhere`). Assumes nothing.
 use Prim.Native.Nat.{ℕ, zero, suc, _+_, _-_, _*_, _/_, _≤_, _<_}
 use mathlib.Core.Bool.{Bool, true, false, not, _&&_}
 use mathlib.Core.Path.{_≡_, refl, sym, ap, ap₂, _∙_}
@@ -16,7 +16,9 @@ use Rattle.lists.proofs.Tests.{case, and-both}
 use Rattle.emulation.specs.Payload.{stuffed, escape, escapeAfter, inserted, marked3, unescape, dropped, forbidden, legal}
 use Rattle.emulation.specs.Parts.{marked}
 use Rattle.emulation.proofs.Steps.{marked-is, escape-stuffed, escape-plain, dropped-marked, dropped-plain, given-or-dropped}
-use Rattle.emulation.proofs.Machine.{stuffed-is, stuffed-of, marked-of, unmarked-of-plain, unescapeAfter, drops, gives, nothing, unescape-is, legalAfter, good-step, step-good, bad-three, three-apart, bad-after-three, bad-plain, legal-is, legal-nothing, plain-of-good, small-after}
+use Rattle.emulation.proofs.Machine.{stuffed-is, stuffed-of, marked-of, unmarked-of-plain, unescapeAfter, drops, gives, nothing}
+use Rattle.emulation.proofs.Machine.{unescape-is, legalAfter, good-step, step-good, bad-three, three-apart, bad-after-three}
+use Rattle.emulation.proofs.Machine.{bad-plain, legal-is, legal-nothing, plain-of-good, small-after}
 
 -- unescaping undoes escaping, from any two bytes on
 back : (p q : ℕ) (s : Bytes) → unescapeAfter p q (escapeAfter p q s) ≡ s
@@ -27,7 +29,8 @@ back p q (b ∷ s) =
     (λ e.
     let h = stuffed-is p q b e in
     rw (escape-stuffed p q b s e)
-    (drops p q 3 (b ∷ escapeAfter 3 b s) (marked-of p q 3 (h .0) (h .1) refl) ∙ gives 0 3 b (escapeAfter 3 b s) refl ∙ ap (λ (l : Bytes). b ∷ l) (back 3 b s)))
+    (drops p q 3 (b ∷ escapeAfter 3 b s) (marked-of p q 3 (h .0) (h .1) refl)
+    ∙ gives 0 3 b (escapeAfter 3 b s) refl ∙ ap (λ (l : Bytes). b ∷ l) (back 3 b s)))
     (λ e.
     rw (escape-plain p q b s e)
     (gives p q b (escapeAfter q b s) (unmarked-of-plain p q b e) ∙ ap (λ (l : Bytes). b ∷ l) (back q b s)))
@@ -43,7 +46,8 @@ fine o p q (b ∷ s) m =
     case (stuffed p q b)
     (λ e.
     rw (escape-stuffed p q b s e)
-    (good-step o p q 3 (b ∷ escapeAfter 3 b s) (bad-three o p q m) ∙ good-step p q 3 b (escapeAfter 3 b s) (bad-after-three p q b (stuffed-is p q b e .2)) ∙ fine q 3 b s (three-apart q b)))
+    (good-step o p q 3 (b ∷ escapeAfter 3 b s) (bad-three o p q m)
+    ∙ good-step p q 3 b (escapeAfter 3 b s) (bad-after-three p q b (stuffed-is p q b e .2)) ∙ fine q 3 b s (three-apart q b)))
     (λ e.
     rw (escape-plain p q b s e)
     (good-step o p q b (escapeAfter q b s) (bad-plain o p q b m e) ∙ fine p q b s (unmarked-of-plain p q b e)))
@@ -66,7 +70,8 @@ grow p q b t e h =
 grow3 : (x : ℕ) (t : Bytes) → x ≤ 3 → Only 3 x t → Only 0 0 (3 ∷ x ∷ t)
 grow3 x t k h =
     let g : escapeAfter 0 0 (unescapeAfter 0 0 (3 ∷ x ∷ t)) ≡ 3 ∷ x ∷ escapeAfter 3 x (unescapeAfter 3 x t) =
-    ap (escapeAfter 0 0) (drops 0 0 3 (x ∷ t) refl ∙ gives 0 3 x t refl) ∙ escape-stuffed 0 0 x (unescapeAfter 3 x t) (stuffed-of 0 0 x refl refl k) in
+    ap (escapeAfter 0 0) (drops 0 0 3 (x ∷ t) refl ∙ gives 0 3 x t refl)
+    ∙ escape-stuffed 0 0 x (unescapeAfter 3 x t) (stuffed-of 0 0 x refl refl k) in
     rw g (⊎-map (λ w. ap (λ (l : Bytes). 3 ∷ x ∷ l) w) (λ w. ap (λ (l : Bytes). 3 ∷ x ∷ l) w) h)
 
 last3 : Only 0 0 (3 ∷ [])
@@ -84,7 +89,9 @@ only o p q (b ∷ x ∷ t) m l =
     let h = marked-is p q b k in
     let r = step-good p q b x t (step-good o p q b (x ∷ t) l .1) in
     rw (h .0, h .1, h .2) (grow3 x t (small-after p q b x k (r .0)) (only 0 3 x t refl (rw (h .1, h .2) at (r .1)))))
-    (λ k. grow p q b (x ∷ t) (plain-of-good o p q b (step-good o p q b (x ∷ t) l .0) k) (only p q b (x ∷ t) k (step-good o p q b (x ∷ t) l .1)))
+    (λ k.
+    let good = step-good o p q b (x ∷ t) l in
+    grow p q b (x ∷ t) (plain-of-good o p q b (good .0) k) (only p q b (x ∷ t) k (good .1)))
 
 -- the two preimages: a legal payload that unescapes to b is the escaped form of b, or that and a closing 03
 pub legal-unescape : (p b : Bytes) → legal p ≡ true → unescape p ≡ b → (p ≡ escape b) ⊎ (p ≡ escape b ++ (3 ∷ []))

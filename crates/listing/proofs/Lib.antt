@@ -1,4 +1,3 @@
-pub mod Shared
 pub mod Decimals
 pub mod Puttings
 pub mod Walked

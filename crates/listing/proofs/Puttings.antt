@@ -13,7 +13,7 @@ use Rattle.tsobu.specs.declared.judging.Figures.{Figures}
 use Rattle.listing.specs.Text.{ascii, decimal}
 use Rattle.listing.specs.Listing.{obuLine, lineSaid, payloadLine}
 use Rattle.listing.specs.Parts.{Puts}
-use Rattle.listing.proofs.Shared.{placed-twice}
+use Rattle.lists.proofs.Placed.{placed-twice}
 
 -- nothing yet
 pub puts-nothing : (text : Bytes) (at : ℕ) → Puts text at [] text at

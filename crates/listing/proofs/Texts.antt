@@ -16,7 +16,7 @@ use Rattle.listing.specs.Listing.{listedSays}
 use Rattle.listing.specs.declared.listed.Listed.{Listed}
 use Rattle.listing.specs.declared.listed.Listed.the-variants as listed
 use Rattle.listing.specs.Parts.{Puts}
-use Rattle.listing.proofs.Shared.{placed-front}
+use Rattle.lists.proofs.Placed.{placed-front}
 
 module _ (unit : Bytes) where
   text-saying : (v : Verdict Counts) → v ≡ judgingListed unit → textSaying v (payloads unit) ≡ listText unit

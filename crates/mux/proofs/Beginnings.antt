@@ -1,14 +1,13 @@
 -- The first start code of a frame, looked for place by place: at each it stands there, or it is the first of the places behind. Assumes
 -- nothing.
 use Prim.Native.Nat.{ℕ, suc, _+_, _≤_, _<_}
-use mathlib.Core.Bool.{Bool, true, false, _&&_, _||_}
+use mathlib.Core.Bool.{Bool, true, false}
 use mathlib.Core.Path.{_≡_, refl, sym, ap, ap₂, subst, _∙_}
 use mathlib.Core.List.{List, [], _∷_, map}
 use mathlib.Core.Option.{Option, some}
 use native.Mathlib.Omega.{arith}
 use native.Mathlib.Numerals.{add-one}
-use borrow.Author.Tests.{le-ltb, eqb-true}
-use lib.Dec.{eqb}
+use borrow.Author.Tests.{le-ltb}
 use lib.ListN.{length, drop}
 use lib.Seq.{getD-drop}
 use Rattle.lists.specs.Lists.{Bytes, pick}
@@ -17,54 +16,18 @@ use Rattle.lists.proofs.Parts.{next}
 use Rattle.lists.proofs.Picks.{by-true, by-false}
 use Rattle.lists.proofs.Tests.{case, clash, and-both, and-second}
 use Rattle.refusal.proofs.Verdicts.{All}
-use Rattle.emulation.specs.Parts.{marked}
 use Rattle.emulation.specs.Payload.{unescape}
-use Rattle.emulation.proofs.Steps.{unescape-marked, unescape-plain}
-use Rattle.obu.specs.Header.{typeBits}
-use Rattle.tsobu.specs.StartCodes.{startCode3, atStartCode, startCodesFrom, Split, split, payloads}
+use Rattle.tsobu.specs.StartCodes.{atStartCode, startCodesFrom, Split, payloads}
 use Rattle.unit.specs.Unit.{obusIn}
-use Rattle.tsobu.proofs.Splits.{split-code, split-byte, codes-yes, codes-no}
-use Rattle.mux_rules.specs.Packets.{isFrame, firstFrame, within}
+use Rattle.tsobu.proofs.Splits.{code-is, split-code, split-byte, codes-yes, codes-no, second-no, third-no}
+use Rattle.comparison.specs.Comparison.{frameType}
+use Rattle.comparison.proofs.Frames.{frame-first}
+use Rattle.mux_rules.specs.Packets.{firstFrame, within}
 use Rattle.mux.specs.Parts.{frameAt}
 
 -- the first one of a string, whose first byte has this place
 abbrev pub firstFrom : ℕ → Bytes → Option ℕ
 firstFrom i t = firstFrame (startCodesFrom i t) (obusIn t)
-
--- ---- the first byte of an OBU
-marked-zero : (a : ℕ) (l : Bytes) → marked (a ∷ l) ≡ true → a ≡ 0
-unfolding marked
-marked-zero a [] e = clash e refl
-marked-zero a (b ∷ []) e = clash e refl
-marked-zero a (b ∷ c ∷ s) e = eqb-true a 0 (and-both (eqb a 0) (eqb b 0) (and-both (eqb a 0 && eqb b 0) (eqb c 3) e .0) .0)
-
-unescaped-first : (p : Bytes) → byte (unescape p) 0 ≡ byte p 0
-unfolding unescape
-unescaped-first [] = refl
-unescaped-first (a ∷ l) =
-    case (marked (a ∷ l))
-    (λ e. ap (λ (x : Bytes). byte x 0) (unescape-marked (a ∷ l) e) ∙ sym (marked-zero a l e))
-    (λ e. ap (λ (x : Bytes). byte x 0) (unescape-plain a l e))
-
-code-zero : (a b c : ℕ) → startCode3 a b c ≡ true → (a ≡ 0) × (b ≡ 0) × (c ≡ 1)
-code-zero a b c e =
-    let x = and-both (eqb a 0 && eqb b 0) (eqb c 1) e in
-    let y = and-both (eqb a 0) (eqb b 0) (x .0) in
-    (eqb-true a 0 (y .0), eqb-true b 0 (y .1), eqb-true c 1 (x .1))
-
-before-first : (s : Bytes) → byte (split s .before) 0 ≡ byte s 0
-unfolding split atStartCode
-before-first [] = refl
-before-first (a ∷ []) = refl
-before-first (a ∷ b ∷ []) = refl
-before-first (a ∷ b ∷ c ∷ s) =
-    case (startCode3 a b c)
-    (λ e. ap (λ (r : Split). byte (r .before) 0) (split-code a b c s e) ∙ sym (code-zero a b c e .0))
-    (λ e. ap (λ (r : Split). byte (r .before) 0) (split-byte a (b ∷ c ∷ s) e))
-
-frame-first : (s : Bytes) → isFrame (unescape (split s .before)) ≡ (eqb (typeBits (byte s 0)) 3 || eqb (typeBits (byte s 0)) 6)
-frame-first s =
-    ap (λ (x : ℕ). eqb (typeBits x) 3 || eqb (typeBits x) 6) (unescaped-first (split s .before) ∙ before-first s)
 
 -- ---- one place
 -- no start code stands there
@@ -74,23 +37,12 @@ no-code i a t e =
     (ap (λ (r : Split). r .payloads) (split-byte a t e))
 
 -- one stands there: the next two bytes begin none
-second-no : (s : Bytes) → atStartCode (0 ∷ 1 ∷ s) ≡ false
-unfolding atStartCode
-second-no [] = refl
-second-no (c ∷ s) = refl
-
-third-no : (s : Bytes) → atStartCode (1 ∷ s) ≡ false
-unfolding atStartCode
-third-no [] = refl
-third-no (b ∷ []) = refl
-third-no (b ∷ c ∷ s) = refl
-
 code-payloads : (s : Bytes) → payloads (0 ∷ 1 ∷ s) ≡ payloads s
 code-payloads s =
     ap (λ (r : Split). r .payloads) (split-byte 0 (1 ∷ s) (second-no s)) ∙ ap (λ (r : Split). r .payloads) (split-byte 1 s (third-no s))
 
 with-code : (i : ℕ) (s : Bytes) → firstFrom i (0 ∷ 0 ∷ 1 ∷ s)
-    ≡ pick (eqb (typeBits (byte s 0)) 3 || eqb (typeBits (byte s 0)) 6) (some i) (firstFrom (suc i) (0 ∷ 1 ∷ s))
+    ≡ pick (frameType (byte s 0)) (some i) (firstFrom (suc i) (0 ∷ 1 ∷ s))
 unfolding firstFrame atStartCode
 with-code i s =
     ap₂ (λ (codes : List ℕ) (ps : List Bytes). firstFrame codes (map unescape ps)) (codes-yes i 0 (0 ∷ 1 ∷ s) refl)
@@ -101,37 +53,37 @@ with-code i s =
 
 -- the same of any string at a start code
 at-code : (i : ℕ) (t : Bytes) → atStartCode t ≡ true
-    → firstFrom i t ≡ pick (eqb (typeBits (byte t 3)) 3 || eqb (typeBits (byte t 3)) 6) (some i) (firstFrom (suc i) (drop 1 t))
+    → firstFrom i t ≡ pick (frameType (byte t 3)) (some i) (firstFrom (suc i) (drop 1 t))
 unfolding atStartCode
 at-code i [] e = clash e refl
 at-code i (a ∷ []) e = clash e refl
 at-code i (a ∷ b ∷ []) e = clash e refl
-at-code i (a ∷ b ∷ c ∷ s) e = let z = code-zero a b c e in rw (z .0, z .1, z .2) (with-code i s)
+at-code i (a ∷ b ∷ c ∷ s) e = let z = code-is a b c e in rw (z .0, z .1, z .2) (with-code i s)
 
 module _ (s : Bytes) (i : ℕ) (h : i < length s) where
   -- those behind a place
   abbrev pub behind : Option ℕ
   behind = firstFrom (i + 1) (drop (i + 1) s)
 
-  abbrev frameType : Bool
-  frameType = eqb (typeBits (byte s (i + 3))) 3 || eqb (typeBits (byte s (i + 3))) 6
+  abbrev here : Bool
+  here = frameType (byte s (i + 3))
 
-  at-place : atStartCode (drop i s) ≡ true → firstFrom i (drop i s) ≡ pick frameType (some i) behind
+  at-place : atStartCode (drop i s) ≡ true → firstFrom i (drop i s) ≡ pick here (some i) behind
   at-place e =
       at-code i (drop i s) e
-      ∙ ap₂ (λ (x : ℕ) (t : Bytes). pick (eqb (typeBits x) 3 || eqb (typeBits x) 6) (some i) (firstFrom (suc i) t)) (getD-drop i s 3 0)
+      ∙ ap₂ (λ (x : ℕ) (t : Bytes). pick (frameType x) (some i) (firstFrom (suc i) t)) (getD-drop i s 3 0)
       (ap (drop 1) (next s i h))
-      ∙ ap (λ (n : ℕ). pick frameType (some i) (firstFrom n (drop (i + 1) s))) (sym (add-one i))
+      ∙ ap (λ (n : ℕ). pick here (some i) (firstFrom n (drop (i + 1) s))) (sym (add-one i))
 
   -- a frame begins there
   pub found : frameAt s i ≡ true → firstFrom i (drop i s) ≡ some i
-  found e = let b = and-both (atStartCode (drop i s)) frameType e in at-place (b .0) ∙ sym (by-true _ (b .1) refl)
+  found e = let b = and-both (atStartCode (drop i s)) here e in at-place (b .0) ∙ sym (by-true _ (b .1) refl)
 
   -- none does
   pub goes-on : frameAt s i ≡ false → firstFrom i (drop i s) ≡ behind
   goes-on e =
       case (atStartCode (drop i s))
-      (λ k. at-place k ∙ sym (by-false _ (and-second (atStartCode (drop i s)) frameType k e) refl))
+      (λ k. at-place k ∙ sym (by-false _ (and-second (atStartCode (drop i s)) here k e) refl))
       (λ k.
       ap (firstFrom i) (next s i h) ∙ no-code i (byte s i) (drop (i + 1) s) (sym (ap atStartCode (next s i h)) ∙ k)
       ∙ ap (λ (n : ℕ). firstFrom n (drop (i + 1) s)) (sym (add-one i)))

@@ -36,9 +36,11 @@ use Rattle.mux_rules.specs.Packets.{sectionPacket, segmentPackets, segment, uni
 use Rattle.mux_rules.specs.Sending.{channelWrong, sending, unitsLeft, channelLeft, Sends}
 use Rattle.mux.specs.Parts.{filled, slotUnits, slotWrong, formed, wellFormed, slotsPackets, tablePackets}
 use Rattle.mux_rules.proofs.Counts.{section-whole, flat-length, length-segment}
-use Rattle.mux.proofs.Puts.{put-next, length-over}
+use Rattle.packet_writer.specs.Putting.{patPut, pmtPut, pcrPut}
+use Rattle.packet_writer.proofs.Puts.{put-next, length-over}
+use Rattle.packet_writer.proofs.Fitting.{pat-written, pmt-written, pcr-written}
 use Rattle.mux.proofs.Placing.{units-long, mid-long}
-use Rattle.mux_rules.proofs.Reaching.{right, allowed, each-whole}
+use Rattle.mux_rules.proofs.Reaching.{right, Allowed, allowed, each-whole}
 use Rattle.mux.proofs.Slotting.{formed-on, formed-none, units-packets, well}
 
 -- ---- the descriptor, from what its reading says
@@ -255,46 +257,51 @@ module _ (c : Channel) (d : Bytes) (w : channelWrong c d ≡ false) where
         ∙ ap (λ (x : Bytes). over x out) (segment-is us)
 
   -- ---- the tables, one behind the other
-  module _ (out out1 p m : Bytes) (ep : p ≡ pat (c .program) (c .«map_pid»)) (em : m
-      ≡ pmt (c .program) (c .«av1_pid») d) (room : 564 ≤ length out)
-      (first : out1 ≡ over (sectionPacket 0 (c .«pat_counter») p) out) where
-    abbrev pat′ : Bytes
-    pat′ = sectionPacket 0 (c .«pat_counter») (pat (c .program) (c .«map_pid»))
+  abbrev pat′ : Bytes
+  pat′ = sectionPacket 0 (c .«pat_counter») (pat (c .program) (c .«map_pid»))
 
-    abbrev pmt′ : Bytes
-    pmt′ = sectionPacket (c .«map_pid») (c .«map_counter») (pmt (c .program) (c .«av1_pid») d)
+  abbrev pmt′ : Bytes
+  pmt′ = sectionPacket (c .«map_pid») (c .«map_counter») (pmt (c .program) (c .«av1_pid») d)
+
+  module _ (out out1 after2 after3 : Bytes) (room : 564 ≤ length out)
+      (first : out1 ≡ patPut (c .«pat_counter») (c .program) (c .«map_pid») out)
+      (second : after2
+      ≡ pmtPut (c .«map_pid») (c .«map_counter») (c .program) (c .«av1_pid») d (midOf 188 (length out1 - 188) out1)) where
+    ok : Allowed c d
+    ok = allowed c d w
 
     one : out1 ≡ over pat′ out
-    one = first ∙ ap (λ (x : Bytes). over (sectionPacket 0 (c .«pat_counter») x) out) ep
+    unfolding sectionPacket
+    one =
+        first
+        ∙ pat-written (c .«pat_counter») (c .program) (c .«map_pid») out (omega (arith, ok .program-high)) (omega (arith, ok .map-high))
+        (ok .pat-low) (omega arith)
 
     one-long : length out1 ≡ length out
     one-long = ap length one ∙ length-over pat′ out (omega (arith, pat-long))
 
-    pub second-room : 188 ≤ length (midOf 188 (length out1 - 188) out1)
-    second-room = omega (arith, mid-long out1 188 (omega (arith, one-long)), one-long)
+    abbrev out2 : Bytes
+    out2 = putMid 188 (length out1 - 188) out1 after2
 
-    module _ (after2 : Bytes) (second : after2
-        ≡ over (sectionPacket (c .«map_pid») (c .«map_counter») m) (midOf 188 (length out1 - 188) out1)) where
-      abbrev out2 : Bytes
-      out2 = putMid 188 (length out1 - 188) out1 after2
+    two : out2 ≡ over (pat′ ++ pmt′) out
+    unfolding sectionPacket
+    two =
+        put-next pat′ pmt′ out out1 after2 188 (sym pat-long) one (omega (arith, pat-long, pmt-long))
+        (second
+        ∙ pmt-written (c .«map_pid») (c .«map_counter») (c .program) (c .«av1_pid») d (midOf 188 (length out1 - 188) out1)
+        (video-length d (ok .fine)) (omega (arith, ok .program-high)) (omega (arith, ok .pid-high)) (omega (arith, ok .map-high))
+        (ok .map-counter) (omega (arith, mid-long out1 188 (omega (arith, one-long)), one-long)))
 
-      two : out2 ≡ over (pat′ ++ pmt′) out
-      two =
-          put-next pat′ pmt′ out out1 after2 188 (sym pat-long) one (omega (arith, pat-long, pmt-long))
-          (second ∙ ap (λ (x : Bytes). over (sectionPacket (c .«map_pid») (c .«map_counter») x) (midOf 188 (length out1 - 188) out1)) em)
+    two-long : length out2 ≡ length out
+    two-long = ap length two ∙ length-over (pat′ ++ pmt′) out (omega (arith, length-append pat′ pmt′, pat-long, pmt-long))
 
-      two-long : length out2 ≡ length out
-      two-long = ap length two ∙ length-over (pat′ ++ pmt′) out (omega (arith, length-append pat′ pmt′, pat-long, pmt-long))
-
-      pub third-room : 188 ≤ length (midOf 376 (length out2 - 376) out2)
-      third-room = omega (arith, mid-long out2 376 (omega (arith, two-long)), two-long)
-
-      pub tables-written : (k : ℕ) (after3 : Bytes) → k ≡ counterBefore (c .«av1_counter»)
-          → after3 ≡ over (pcrPacket (c .«av1_pid») k (c .pcr)) (midOf 376 (length out2 - 376) out2)
-          → putMid 376 (length out2 - 376) out2 after3 ≡ over (tablePackets c d) out
-      tables-written k after3 ek third =
-          let n = length-append pat′ pmt′ in
-          put-next (pat′ ++ pmt′) (pcrPacket (c .«av1_pid») (counterBefore (c .«av1_counter»)) (c .pcr)) out out2 after3 376
-          (omega (arith, n, pat-long, pmt-long)) two
-          (omega (arith, n, pat-long, pmt-long, clock-long))
-          (third ∙ ap (λ (x : ℕ). over (pcrPacket (c .«av1_pid») x (c .pcr)) (midOf 376 (length out2 - 376) out2)) ek)
+    pub tables-written : after3 ≡ pcrPut (c .«av1_pid») (c .«av1_counter») (c .pcr) (midOf 376 (length out2 - 376) out2)
+        → putMid 376 (length out2 - 376) out2 after3 ≡ over (tablePackets c d) out
+    tables-written third =
+        let n = length-append pat′ pmt′ in
+        put-next (pat′ ++ pmt′) (pcrPacket (c .«av1_pid») (counterBefore (c .«av1_counter»)) (c .pcr)) out out2 after3 376
+        (omega (arith, n, pat-long, pmt-long)) two
+        (omega (arith, n, pat-long, pmt-long, clock-long))
+        (third
+        ∙ pcr-written (c .«av1_pid») (c .«av1_counter») (c .pcr) (midOf 376 (length out2 - 376) out2) (ok .pcr-low)
+        (omega (arith, ok .pid-high)) (ok .av1-low) (omega (arith, mid-long out2 376 (omega (arith, two-long)), two-long)))

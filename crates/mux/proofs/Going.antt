@@ -21,7 +21,9 @@ use Rattle.packet.proofs.Writing.{length-carrying}
 use Rattle.mux_rules.proofs.Cuts.{others-next}
 use Rattle.mux_rules.proofs.Counts.{others-whole, length-others}
 use Rattle.mux_rules.proofs.Counts.{flat-length}
-use Rattle.mux.proofs.Puts.{put-next, length-over}
+use Rattle.packet_writer.specs.Putting.{packetPut}
+use Rattle.packet_writer.proofs.Puts.{put-next, length-over}
+use Rattle.packet_writer.proofs.Fitting.{packet-written}
 
 -- the packets of the bytes from a place on
 abbrev pub from : ℕ → ℕ → Bytes → Bytes
@@ -96,6 +98,10 @@ nothing : (pid counter : ℕ) → from pid counter [] ≡ []
 unfolding others flatten
 nothing pid counter = refl
 
+-- what a call is lent
+mid-room : (out : Bytes) (to : ℕ) → to + 188 ≤ length out → 188 ≤ length (midOf to (length out - to) out)
+mid-room out to h = omega (arith, length-take (length out - to) (drop to out), length-drop to out)
+
 module _ {pid counter : ℕ} {bytes out₀ : Bytes} {at to next : ℕ} {out : Bytes} (g : Going pid counter bytes out₀ at to next out) where
   pub going-long : 188 * othersFor (length bytes) ≤ length out₀ → length out ≡ length out₀
   going-long fits =
@@ -122,7 +128,7 @@ module _ {pid counter : ℕ} {bytes out₀ : Bytes} {at to next : ℕ} {out : By
         g .place,
       )
 
-  pub going-next : (size : ℕ) (part after : Bytes) → at < length bytes → 188 * othersFor (length bytes) ≤ length out₀
+  going-next : (size : ℕ) (part after : Bytes) → at < length bytes → 188 * othersFor (length bytes) ≤ length out₀
       → Size size (length bytes - at) → part ≡ take size (drop at bytes)
       → after ≡ over (carrying pid false next 0 part) (midOf to (length out - to) out)
       → Going pid counter bytes out₀ (at + size) (to + 188) (counterAfter next 1) (putMid to (length out - to) out after)
@@ -164,18 +170,17 @@ module _ {pid counter : ℕ} {bytes out₀ : Bytes} {at to next : ℕ} {out : By
       let z : from pid next (drop at bytes) ≡ [] = ap (from pid next) e ∙ nothing pid next in
       g .stands ∙ ap (λ (w : Bytes). over w out₀) (sym (append-nil (g .written)) ∙ ap (λ (x : Bytes). g .written ++ x) (sym z) ∙ g .rest)
 
-  -- the same, the next counter by another name
-  pub going-on : (size next′ : ℕ) (part after : Bytes) → at < length bytes → 188 * othersFor (length bytes) ≤ length out₀
+  -- as the packet is put, and the next counter is named
+  pub going-on : (size next′ : ℕ) (part after : Bytes) → pid < 8192 → at < length bytes → 188 * othersFor (length bytes) ≤ length out₀
       → Size size (length bytes - at) → part ≡ take size (drop at bytes)
-      → after ≡ over (carrying pid false next 0 part) (midOf to (length out - to) out) → next′ ≡ counterAfter next 1
+      → after ≡ packetPut pid next part (midOf to (length out - to) out) → next′ ≡ counterAfter next 1
       → Going pid counter bytes out₀ (at + size) (to + 188) next′ (putMid to (length out - to) out after)
-  going-on size next′ part after h fits which ep ea e =
+  going-on size next′ part after p h fits which ep ea e =
+      let small : length part ≤ 184 = omega (arith, ap length ep, length-take size (drop at bytes), most-of which) in
+      let room = mid-room out to (omega (arith, going-room h fits, going-long fits)) in
       subst (λ (k : ℕ). Going pid counter bytes out₀ (at + size) (to + 188) k (putMid to (length out - to) out after)) (sym e)
-      (going-next size part after h fits which ep ea)
-
--- what a call is lent
-pub mid-room : (out : Bytes) (to : ℕ) → to + 188 ≤ length out → 188 ≤ length (midOf to (length out - to) out)
-mid-room out to h = omega (arith, length-take (length out - to) (drop to out), length-drop to out)
-
-pub part-short : (s : Bytes) (k at : ℕ) → k ≤ 184 → length (take k (drop at s)) ≤ 184
-part-short s k at h = omega (arith, length-take k (drop at s))
+      (going-next size part after h fits which ep (ea ∙ packet-written pid next part _ p (g .low) small room))
+    where
+      most-of : Size size (length bytes - at) → size ≤ 184
+      most-of (inl e) = omega (arith, e .0)
+      most-of (inr e) = omega (arith, e .0, e .1)

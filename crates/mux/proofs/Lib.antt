@@ -1,4 +1,3 @@
-pub mod Puts
 pub mod Going
 pub mod Beginnings
 pub mod Slotting

@@ -16,14 +16,19 @@ use Rattle.lists.proofs.Tests.{case}
 use Rattle.packet.specs.Writing.{flag, carrying, counterAfter}
 use Rattle.packet.proofs.Writing.{length-carrying}
 use Rattle.queue.specs.declared.records.Queued.{Queued}
-use Rattle.queue.specs.Queue.{TimedUnit, timed}
+use Rattle.queue.specs.Queue.{TimedUnit}
 use Rattle.mux_rules.specs.Packets.{header, firstMost, firstPart, otherParts, othersFor, packetsFor, framePlace, within, unitBytes}
 use Rattle.mux_rules.specs.Packets.{firstFlags, others, unitPackets, unitsPackets, packetsForUnits}
-use Rattle.mux.specs.Parts.{headSize, firstSize, flagsOf, slotUnits, formed, slotPackets, slotsPackets}
+use Rattle.packet_writer.specs.declared.Start.{Start}
+use Rattle.packet_writer.specs.Putting.{headSize, startPut}
+use Rattle.mux.specs.Parts.{firstSize, flagsOf, slotUnit, slotUnits, formed, slotPackets, slotsPackets}
 use Rattle.mux_rules.proofs.Cuts.{firstBytes, first-part, other-parts, first-short}
-use Rattle.mux_rules.proofs.Counts.{others-whole, length-others, unit-whole, units-whole, length-unit, length-units, flat-length}
-use Rattle.mux.proofs.Puts.{put-next, length-over}
-use Rattle.mux.proofs.Slotting.{header-size, unit-packets, Sound, sound, units-packets}
+use Rattle.mux_rules.proofs.Counts.{others-whole, length-others, unit-whole, units-whole, length-unit, length-units}
+use Rattle.mux_rules.proofs.Counts.{flat-length, flat-append}
+use Rattle.packet_writer.proofs.Puts.{put-next, length-over}
+use Rattle.packet_writer.proofs.Starting.{header-size}
+use Rattle.packet_writer.proofs.Fitting.{start-written}
+use Rattle.mux.proofs.Slotting.{unit-packets, Sound, sound, units-packets}
 
 -- ---- one unit
 module _ (u : TimedUnit) (first : ℕ) (e : first ≡ firstSize (u .marked) (headSize (u .pts) (u .dts)) (length (u .carried))) where
@@ -102,41 +107,62 @@ units-long pid counter us =
 pub mid-long : (out : Bytes) (to : ℕ) → to ≤ length out → length (midOf to (length out - to) out) ≡ length out - to
 mid-long out to h = length-take-le (length out - to) (drop to out) (omega (arith, length-drop to out))
 
--- ---- a unit's packets in the output
-module _ (u : TimedUnit) (first : ℕ) (e : first
-    ≡ firstSize (u .marked) (headSize (u .pts) (u .dts)) (length (u .carried))) (pid counter next flags : ℕ)
-    (head begun behind out out1 : Bytes) (eh : head ≡ header u) (eb : begun ≡ take first (u .carried)) (er : behind
-    ≡ drop first (u .carried))
-    (fits : 188 * packetsFor u ≤ length out) (put : out1 ≡ over (carrying pid true counter flags (head ++ begun)) out) where
-  first-long : length (carrying pid true counter flags (head ++ begun)) ≡ 188
-  first-long =
-      length-carrying pid true counter flags (head ++ begun)
-      (omega (arith, first-short u, ap length (first-is u first e), ap₂ (λ (x y : Bytes). length (x ++ y)) eh eb))
+-- ---- a unit's packets in the output: its first packet is put, with the header and the first bytes
+module _ (pid counter : ℕ) (u : TimedUnit) (out : Bytes) (first flags : ℕ) (out1 : Bytes) where
+  abbrev starting : Bytes
+  starting = carrying pid true counter flags (header u ++ take first (u .carried))
 
-  same-long : length out1 ≡ length out
-  same-long = ap length put ∙ length-over (carrying pid true counter flags (head ++ begun)) out (omega (arith, first-long))
+  -- what the others find
+  pub record Begun : Type 0 where
+    pub room : (behind : Bytes) → behind ≡ drop first (u .carried)
+        → 188 * othersFor (length behind) ≤ length (midOf 188 (length out1 - 188) out1)
+    pub written : (next : ℕ) (behind after : Bytes) → behind ≡ drop first (u .carried) → next ≡ counterAfter counter 1
+        → after ≡ over (flatten (others (othersFor (length behind)) pid next behind)) (midOf 188 (length out1 - 188) out1)
+        → putMid 188 (length out1 - 188) out1 after ≡ over (flatten (unitPackets pid counter u)) out
 
-  counted : packetsFor u ≡ suc (othersFor (length behind))
-  counted = others-count u first e ∙ ap (λ (w : Bytes). suc (othersFor (length w))) (sym er)
+  module _ (fits : 188 * packetsFor u ≤ length out) (e : first ≡ firstSize (u .marked) (headSize (u .pts) (u .dts)) (length (u .carried)))
+      (ef : flags ≡ flagsOf (u .marked) (within first (framePlace (u .carried)))) (put : out1 ≡ over starting out) where
+    first-long : length starting ≡ 188
+    first-long =
+        length-carrying pid true counter flags (header u ++ take first (u .carried))
+        (omega (arith, first-short u, ap length (first-is u first e)))
 
-  pub unit-room : 188 * othersFor (length behind) ≤ length (midOf 188 (length out1 - 188) out1)
-  unit-room = omega (arith, mid-long out1 188 (omega (arith, same-long)), same-long, counted)
+    same-long : length out1 ≡ length out
+    same-long = ap length put ∙ length-over starting out (omega (arith, first-long))
 
-  pub unit-written : (after : Bytes) → next ≡ counterAfter counter 1 → flags ≡ flagsOf (u .marked) (within first (framePlace (u .carried)))
-      → after ≡ over (flatten (others (othersFor (length behind)) pid next behind)) (midOf 188 (length out1 - 188) out1)
-      → putMid 188 (length out1 - 188) out1 after ≡ over (flatten (unitPackets pid counter u)) out
-  unit-written after en ef ea =
-      let w = carrying pid true counter flags (head ++ begun) in
-      put-next w (flatten (others (othersFor (length behind)) pid next behind)) out out1 after 188 (sym first-long) put
-      (omega (arith, first-long, others-long pid next behind, counted)) ea
-      ∙ ap₂ (λ (x y : Bytes). over
-      (carrying pid true counter flags (head ++ x) ++ flatten (others (othersFor (length y)) pid next y)) out) eb er
-      ∙ ap (λ (x : Bytes). over x out) (unit-placed u first e pid counter next flags head eh en ef)
+    counted : (behind : Bytes) → behind ≡ drop first (u .carried) → packetsFor u ≡ suc (othersFor (length behind))
+    counted behind er = others-count u first e ∙ ap (λ (w : Bytes). suc (othersFor (length w))) (sym er)
+
+    pub begun : Begun
+    begun = record {
+      room = λ behind er. omega (arith, mid-long out1 188 (omega (arith, same-long)), same-long, counted behind er);
+      written = λ next behind after er en ea.
+          put-next starting (flatten (others (othersFor (length behind)) pid next behind)) out out1 after 188 (sym first-long) put
+          (omega (arith, first-long, others-long pid next behind, counted behind er)) ea
+          ∙ ap (λ (y : Bytes). over (starting ++ flatten (others (othersFor (length y)) pid next y)) out) er
+          ∙ ap (λ (x : Bytes). over x out) (unit-placed u first e pid counter next flags (header u) refl en ef);
+    }
+
+-- the same, of the call that puts it
+pub begun-by : (pid counter : ℕ) (u : TimedUnit) (out : Bytes) → pid < 8192 → counter < 16 → u .pts .0 < 8589934592
+    → u .dts .0 < 8589934592 → 188 * packetsFor u ≤ length out → (size first flags : ℕ) → size ≡ headSize (u .pts) (u .dts)
+    → first ≡ firstSize (u .marked) size (length (u .carried)) → (first ≤ length (u .carried)) × (size + first ≤ 184)
+    → flags ≡ flagsOf (u .marked) (within first (framePlace (u .carried))) → (part out1 : Bytes) → part ≡ take first (u .carried)
+    → out1 ≡ startPut pid counter (record { flags = flags; pts = u .pts; dts = u .dts; length = length (u .carried) }) part out
+    → Begun pid counter u out first flags out1
+begun-by pid counter u out p k a b fits size first flags es e short ef part out1 eb put =
+    let s : Start = record { flags = flags; pts = u .pts; dts = u .dts; length = length (u .carried) } in
+    let lp : length part ≡ first = ap length eb ∙ length-take-le first (u .carried) (short .0) in
+    let room : 188 ≤ length out = omega arith in
+    begun pid counter u out first flags out1 fits (e ∙ ap (λ (n : ℕ). firstSize (u .marked) n (length (u .carried))) es) ef
+    (put
+    ∙ start-written pid counter s part out a b (omega (arith, es, lp, short .1)) p k room
+    ∙ ap (λ (w : Bytes). over (carrying pid true counter flags (header u ++ w)) out) eb)
 
 -- ---- all units in the output
 -- a slot's unit, of the bytes from its place on
 abbrev pub unitIn : Queued → Bytes → TimedUnit
-unitIn r s = timed (take (r .length) s) (r .pts) (r .dts) (r .marked)
+unitIn r s = slotUnit r (take (r .length) s)
 
 abbrev packetsFrom : ℕ → ℕ → List Queued → Bytes → Bytes
 packetsFrom pid counter rs s = flatten (unitsPackets pid counter (slotUnits rs s))
@@ -149,11 +175,6 @@ pub record Filling (pid counter : ℕ) (rs : List Queued) (store out₀ : Bytes)
   pub low : next < 16
   pub within : at ≤ length store
   pub good : formed (drop i rs) (length store - at) ≡ true
-
-flat-append : (ps qs : List Bytes) → flatten (ps ++ qs) ≡ flatten ps ++ flatten qs
-unfolding flatten
-flat-append [] qs = refl
-flat-append (p ∷ ps) qs = ap (λ (x : Bytes). p ++ x) (flat-append ps qs) ∙ sym (append-assoc p (flatten ps) (flatten qs))
 
 module _ (pid counter : ℕ) (rs : List Queued) (store out₀ : Bytes) where
   pub filling-start : counter < 16 → formed rs (length store) ≡ true → Filling pid counter rs store out₀ 0 0 0 counter out₀

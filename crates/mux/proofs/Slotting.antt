@@ -1,81 +1,24 @@
--- The slots of a queue one by one, the header of a unit's PES byte by byte, and what both say of the unit's packets. Assumes nothing.
-use Prim.Native.Nat.{ℕ, zero, suc, _+_, _-_, _*_, _/_, _%_, _≤_, _<_}
+-- The slots of a queue one by one, and what they say of the units' packets. Assumes nothing.
+use Prim.Native.Nat.{ℕ, zero, suc, _+_, _-_, _≤_, _<_}
 use mathlib.Core.Bool.{Bool, true, false, not}
-use mathlib.Core.Path.{_≡_, refl, sym, ap, ap₂, subst, _∙_}
-use mathlib.Core.List.{List, [], _∷_, _++_}
+use mathlib.Core.Path.{_≡_, refl, sym, ap, ap₂, _∙_}
+use mathlib.Core.List.{List, [], _∷_}
 use native.Mathlib.Omega.{arith}
 use native.Mathlib.Numerals.{add-one}
-use borrow.Author.Tests.{eq-eqb, ne-eqb, leb-true, ltb-false, leb-false}
-use lib.Dec.{eqb, leb, ltb}
+use borrow.Author.Tests.{leb-true, ltb-false, leb-false}
+use lib.Dec.{leb, ltb}
 use lib.ListN.{length, take, drop, getD, length-take, length-drop, length-append}
 use lib.Seq.{drop-cons, getD-take, length-take-le}
-use Rattle.lists.specs.Lists.{Bytes, pick}
-use Rattle.lists.proofs.Picks.{by-true, by-false}
-use Rattle.lists.proofs.Tests.{case, and-both, and-by-false, and-by-true, or-neither}
-use Rattle.ticks.specs.declared.Ticks90.{Ticks90}
-use Rattle.ticks.specs.Writing.{timeBytes}
-use Rattle.pes.specs.Writing.{ptsAlone, times, timeFlags, lengthWritten, pesHeader}
-use Rattle.pes.proofs.Writing.{times-alone, times-both, flags-alone, flags-both, length-header}
+use Rattle.lists.specs.Lists.{Bytes}
+use Rattle.lists.proofs.Tests.{and-both, and-by-false, and-by-true, or-neither}
 use Rattle.unit.specs.Unit.{mostCarried}
 use Rattle.queue.specs.declared.records.Queued.{Queued}
 use Rattle.queue.specs.declared.records.Queue.{Queue}
 use Rattle.queue.specs.Queue.{TimedUnit, timed, timePast, mostUnits}
 use Rattle.mux_rules.specs.Packets.{header, pes, firstMost, othersFor, packetsFor, packetsForUnits}
-use Rattle.mux.specs.Parts.{fieldOf, headSize, filled, slotUnits, slotWrong, formed, wellFormed, slotPackets, slotsPackets}
-
--- ---- the header
-module _ (pts dts : Ticks90) (n : ℕ) where
-  -- byte by byte, of its length field and its time stamps
-  abbrev written : ℕ → ℕ → Bytes → Bytes
-  written field flags stamps = 0 ∷ 0 ∷ 1 ∷ 189 ∷ field / 256 ∷ field % 256 ∷ 132 ∷ flags * 64 ∷ length stamps ∷ stamps
-
-  by-parts : (stamps : Bytes) (flags : ℕ) → times pts dts ≡ stamps → timeFlags pts dts ≡ flags
-      → pesHeader pts dts n ≡ written (fieldOf (3 + length stamps + n)) flags stamps
-  unfolding pesHeader lengthWritten fieldOf
-  by-parts stamps flags et ef = ap₂ (λ (s : Bytes) (f : ℕ). written (fieldOf (3 + length s + n)) f s) et ef
-
-  pub header-alone : ptsAlone pts dts ≡ true → pesHeader pts dts n ≡ written (fieldOf (8 + n)) 2 (timeBytes 2 pts)
-  header-alone e = by-parts (timeBytes 2 pts) 2 (times-alone pts dts e) (flags-alone pts dts e)
-
-  pub header-both : ptsAlone pts dts ≡ false → pesHeader pts dts n ≡ written (fieldOf (13 + n)) 3 (timeBytes 3 pts ++ timeBytes 1 dts)
-  header-both e = by-parts (timeBytes 3 pts ++ timeBytes 1 dts) 3 (times-both pts dts e) (flags-both pts dts e)
-
-  pub header-size : length (pesHeader pts dts n) ≡ headSize pts dts
-  unfolding headSize
-  header-size =
-      case (ptsAlone pts dts)
-      (λ e. length-header pts dts n ∙ ap (λ (s : Bytes). 9 + length s) (times-alone pts dts e) ∙ by-true _ e refl)
-      (λ e. length-header pts dts n ∙ ap (λ (s : Bytes). 9 + length s) (times-both pts dts e) ∙ by-false _ e refl)
-
--- as the code writes it
-pub pts-by : (t : Ticks90) (n f h l : ℕ) (w : Bytes) → f ≡ fieldOf (8 + n) → h ≡ f / 256 → l ≡ f % 256 → w ≡ timeBytes 2 t
-    → 0 ∷ 0 ∷ 1 ∷ 189 ∷ h ∷ l ∷ 132 ∷ 128 ∷ 5 ∷ getD w 0 0 ∷ getD w 1 0 ∷ getD w 2 0 ∷ getD w 3 0 ∷ getD w 4 0 ∷ [] ≡ pesHeader t t n
-pts-by t n f h l w ef eh el ew = rw (ew, eh, el, ef) (sym (header-alone t t n (eq-eqb (t .0) (t .0) refl)))
-
-pub both-by : (t d : Ticks90) (n f h l : ℕ) (w v : Bytes) → (t .0 ≡ d .0 → ⊥) → f ≡ fieldOf (13 + n) → h ≡ f / 256 → l ≡ f % 256
-    → w ≡ timeBytes 3 t → v ≡ timeBytes 1 d
-    → 0 ∷ 0 ∷ 1 ∷ 189 ∷ h ∷ l ∷ 132 ∷ 192 ∷ 10 ∷ getD w 0 0 ∷ getD w 1 0 ∷ getD w 2 0 ∷ getD w 3 0 ∷ getD w 4 0 ∷ getD v 0 0 ∷ getD v 1 0 ∷
-    getD v 2 0 ∷ getD v 3 0 ∷ getD v 4 0 ∷ []
-    ≡ pesHeader t d n
-both-by t d n f h l w v ne ef eh el ew ev = rw (ew, ev, eh, el, ef) (sym (header-both t d n (ne-eqb (t .0) (d .0) ne)))
-
-pub head-bounds : (pts dts : Ticks90) → (14 ≤ headSize pts dts) × (headSize pts dts ≤ 19)
-unfolding headSize pick
-head-bounds pts dts = go (eqb (pts .0) (dts .0))
-  where
-    go : (b : Bool) → (14 ≤ pick b 14 19) × (pick b 14 19 ≤ 19)
-    go true = (omega arith, omega arith)
-    go false = (omega arith, omega arith)
-
-pub field-low : (n : ℕ) → fieldOf n < 65536
-unfolding fieldOf
-field-low n =
-    case (ltb 65535 n) (λ e. subst (λ x. x < 65536) (by-true n e refl) (omega arith))
-    (λ e. subst (λ x. x < 65536) (by-false 0 e refl) (omega (arith, ltb-false 65535 n e)))
-
--- both times are one
-pub same-time : (pts dts : Ticks90) → pts .0 ≡ dts .0 → pts ≡ dts
-same-time pts dts e = ap (λ (x : ℕ). record { 0 = x }) e
+use Rattle.packet_writer.specs.Putting.{headSize}
+use Rattle.packet_writer.proofs.Starting.{header-size}
+use Rattle.mux.specs.Parts.{filled, slotUnits, slotWrong, formed, wellFormed, slotPackets, slotsPackets}
 
 -- ---- the packets of a unit, from its length
 pub unit-packets : (u : TimedUnit)

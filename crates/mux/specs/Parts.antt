@@ -1,39 +1,27 @@
 -- What the promises of private functions cite; no public promise does. Assumes nothing.
-use Prim.Native.Nat.{ℕ, suc, _+_, _-_, _*_, _/_, _%_}
+use Prim.Native.Nat.{ℕ, suc, _+_, _-_, _*_}
 use mathlib.Core.Bool.{Bool, true, not, _&&_, _||_}
 use mathlib.Core.List.{List, [], _∷_, _++_}
-use lib.Dec.{eqb, leb, ltb}
+use lib.Dec.{leb, ltb}
 use lib.ListN.{take, drop}
 use Rattle.lists.specs.Lists.{Bytes, pick}
 use Rattle.lists.specs.Bytes.{byte}
-use Rattle.ticks.specs.declared.Ticks90.{Ticks90}
-use Rattle.packet.specs.Writing.{flag, counterAfter, counterBefore, pcrPacket}
+use Rattle.packet.specs.Writing.{flag, counterBefore, pcrPacket}
 use Rattle.psi.specs.Writing.{pat}
 use Rattle.pmt.specs.Writing.{pmt}
-use Rattle.obu.specs.Header.{typeBits}
+use Rattle.comparison.specs.Comparison.{frameType}
 use Rattle.tsobu.specs.StartCodes.{atStartCode}
 use Rattle.unit.specs.Unit.{mostCarried}
 use Rattle.queue.specs.declared.records.Queued.{Queued}
 use Rattle.queue.specs.declared.records.Queue.{Queue}
 use Rattle.queue.specs.Queue.{TimedUnit, timed, timePast, mostUnits}
+use Rattle.packet_writer.specs.Putting.{headSize}
 use Rattle.mux_rules.specs.declared.Channel.{Channel}
 use Rattle.mux_rules.specs.Packets.{firstMost, othersFor, sectionPacket}
-
--- the first four bytes of a PCR, of its base
-abbrev pub baseBytes : ℕ → Bytes
-baseBytes base = base / 33554432 ∷ base / 131072 % 256 ∷ base / 512 % 256 ∷ base / 2 % 256 ∷ []
 
 -- how many of the bytes that are left go into the next packet
 unfoldable pub partSize : ℕ → ℕ
 partSize left = pick (ltb left 184) left 184
-
--- a number of 16 bits, or 0 where it has more
-unfoldable pub fieldOf : ℕ → ℕ
-fieldOf n = pick (ltb 65535 n) 0 n
-
--- the bytes of a PES header with these times
-unfoldable pub headSize : Ticks90 → Ticks90 → ℕ
-headSize pts dts = pick (eqb (pts .0) (dts .0)) 14 19
 
 -- how many of a unit's n bytes the first packet has behind a header of so many
 unfoldable pub firstSize : Bool → ℕ → ℕ → ℕ
@@ -41,7 +29,7 @@ firstSize marked head n = pick (ltb n (firstMost marked - head)) n (firstMost ma
 
 -- a start code that begins an OBU of type 3 or 6 stands at a place
 abbrev pub frameAt : Bytes → ℕ → Bool
-frameAt s i = atStartCode (drop i s) && (eqb (typeBits (byte s (i + 3))) 3 || eqb (typeBits (byte s (i + 3))) 6)
+frameAt s i = atStartCode (drop i s) && frameType (byte s (i + 3))
 
 -- the flags of a unit's first packet, where the frame begins in it or not
 unfoldable pub flagsOf : Bool → Bool → ℕ
@@ -51,10 +39,14 @@ flagsOf marked frame = pick marked (64 + flag frame * 32) 0
 abbrev pub filled : Queue → List Queued
 filled q = take (q .count) (q .units)
 
+-- the unit of a slot, of its bytes
+abbrev pub slotUnit : Queued → Bytes → TimedUnit
+slotUnit r s = timed s (r .pts) (r .dts) (r .marked)
+
 -- the units whose bytes stand in a store, by their slots
 unfoldable pub slotUnits : List Queued → Bytes → List TimedUnit
 slotUnits [] s = []
-slotUnits (r ∷ rs) s = timed (take (r .length) s) (r .pts) (r .dts) (r .marked) ∷ slotUnits rs (drop (r .length) s)
+slotUnits (r ∷ rs) s = slotUnit r (take (r .length) s) ∷ slotUnits rs (drop (r .length) s)
 
 -- a slot that no unit in so many bytes can have
 unfoldable pub slotWrong : Queued → ℕ → Bool
@@ -82,16 +74,3 @@ tablePackets c descriptor =
     (sectionPacket 0 (c .«pat_counter») (pat (c .program) (c .«map_pid»))
     ++ sectionPacket (c .«map_pid») (c .«map_counter») (pmt (c .program) (c .«av1_pid») descriptor))
     ++ pcrPacket (c .«av1_pid») (counterBefore (c .«av1_counter»)) (c .pcr)
-
--- the counters after these three packets and so many of units
-abbrev pub channelAfter : Channel → ℕ → Channel
-channelAfter c n =
-    record {
-      program = c .program;
-      «map_pid» = c .«map_pid»;
-      «av1_pid» = c .«av1_pid»;
-      pcr = c .pcr;
-      «pat_counter» = counterAfter (c .«pat_counter») 1;
-      «map_counter» = counterAfter (c .«map_counter») 1;
-      «av1_counter» = counterAfter (c .«av1_counter») n;
-    }

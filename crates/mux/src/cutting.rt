@@ -7,9 +7,9 @@ ghost use Rattle.lists.specs.Lists.{over};
 ghost use Rattle.packet.specs.Writing.{counterAfter};
 ghost use Rattle.mux_rules.specs.Packets.{othersFor, others};
 ghost use Rattle.mux.specs.Parts.{partSize};
-use crate::packets::MOST_PAYLOAD;
-use crate::packets::put_packet;
 use packet::PACKET_LENGTH;
+use packet_writer::MOST_PAYLOAD;
+use packet_writer::put_packet;
 
 // The counter after this one.
 pub(crate) fn next_counter(counter: u64) -> u64
@@ -41,7 +41,7 @@ pub(crate) fn put_others(pid: u64, counter: u64, bytes: &[u8], out: &mut [u8])
     let mut next = counter;
     while at < bytes.len() {
         let end = at + part_size(bytes.len() - at);
-        put_packet(pid, false, next, 0, &bytes[at..end], &mut out[to..]);
+        put_packet(pid, next, &bytes[at..end], &mut out[to..]);
         at = end;
         to += PACKET_LENGTH;
         next = next_counter(next);

@@ -1,13 +1,11 @@
 // Where a unit's frame begins.
 ghost use mathlib.Core.Path.{_≡_};
-ghost use mathlib.Core.Bool.{_||_};
 ghost use Prim.Native.Nat.{_≤_, _<_};
-ghost use lib.Dec.{eqb};
 ghost use lib.ListN.{length, drop};
 ghost use Rattle.tsobu.specs.StartCodes.{atStartCode};
-ghost use Rattle.obu.specs.Header.{typeBits};
 ghost use Rattle.mux_rules.specs.Packets.{framePlace, within};
 ghost use Rattle.mux.specs.Parts.{frameAt};
+use comparison::is_frame;
 use lists::byte_at;
 
 // A start code stands at i.
@@ -27,24 +25,13 @@ fn code_at(unit: &[u8], i: usize) -> bool
     unit[i + 2] == 1
 }
 
-// An OBU with this first byte has type 3 or 6.
-fn frame_type(first: u8) -> bool
-    ensures { λ r. ⌜ r ≡ (eqb (typeBits first) 3 || eqb (typeBits first) 6) ⌝ }
-{
-    let kind = first / 8 % 16;
-    if kind == 3 {
-        return true;
-    }
-    kind == 6
-}
-
-// A start code that begins such an OBU stands at i.
+// A start code that begins an OBU of type 3 or 6 stands at i.
 fn frame_at(unit: &[u8], i: usize) -> bool
     requires { ⌜ i < length (now unit) ⌝ }
     ensures { λ r. ⌜ r ≡ frameAt (now (unit .entry)) i ⌝ }
 {
     if code_at(unit, i) {
-        return frame_type(byte_at(unit, i + 3));
+        return is_frame(byte_at(unit, i + 3));
     }
     false
 }

@@ -5,17 +5,13 @@ ghost use mathlib.Core.List.{List};
 ghost use Prim.Native.Nat.{_≤_, _<_};
 ghost use lib.ListN.{length};
 ghost use Rattle.lists.specs.Lists.{over};
-ghost use Rattle.packet.specs.Writing.{counterBefore};
 ghost use Rattle.queue.specs.Queue.{TimedUnit, QueueIs};
 ghost use Rattle.mux_rules.specs.Sending.{channelWrong, Sends};
-ghost use Rattle.mux.specs.Parts.{tablePackets, channelAfter};
+ghost use Rattle.mux_rules.specs.Packets.{channelAfter};
+ghost use Rattle.mux.specs.Parts.{tablePackets};
 use crate::channel::channel_wrong;
 use crate::measuring::queue_packets;
 use crate::measuring::well_formed;
-use crate::packets::put_pcr;
-use crate::packets::put_section;
-use crate::sections::pat_section;
-use crate::sections::pmt_section;
 use crate::writing::counter_after;
 use crate::writing::put_units;
 use mux_rules::Channel;
@@ -23,6 +19,9 @@ use mux_rules::SendAnswer;
 use mux_rules::Sent;
 use mux_rules::Written;
 use packet::PACKET_LENGTH;
+use packet_writer::put_pat;
+use packet_writer::put_pcr;
+use packet_writer::put_pmt;
 use queue::Queue;
 use refusal::Refusal;
 use refusal::Refused;
@@ -35,31 +34,25 @@ const UNITS_PLACE: usize = 3 * PACKET_LENGTH;
 // The most packets of a segment.
 const MOST_PACKETS: usize = 65535;
 
-// One less modulo 16.
-fn counter_before(counter: u64) -> u64
-    requires { ⌜ counter < 16 ⌝ }
-    ensures { λ r. ⌜ r ≡ counterBefore counter ⌝ }
-{
-    (counter + 15) % 16
-}
-
 // PAT, PMT and PCR.
 fn put_tables(channel: Channel, video: &[u8], out: &mut [u8])
     requires { ⌜ (channelWrong channel (now video) ≡ false) × (564 ≤ length (now out)) ⌝ }
     ensures { λ _. ⌜ now (out .exit) ≡ over (tablePackets channel (now (video .entry))) (now (out .entry)) ⌝ }
 {
-    let pat = pat_section(channel.program, channel.map_pid);
-    put_section(0, channel.pat_counter, &pat, out);
-    let pmt = pmt_section(channel.program, channel.av1_pid, video);
-    put_section(
-        channel.map_pid,
+    let program = channel.program;
+    let map_pid = channel.map_pid;
+    let pid = channel.av1_pid;
+    let pcr = channel.pcr;
+    put_pat(channel.pat_counter, program, map_pid, out);
+    put_pmt(
+        map_pid,
         channel.map_counter,
-        &pmt,
+        program,
+        pid,
+        video,
         &mut out[PACKET_LENGTH..],
     );
-    let counter = counter_before(channel.av1_counter);
-    let pcr = channel.pcr;
-    put_pcr(channel.av1_pid, counter, pcr, &mut out[PCR_PLACE..]);
+    put_pcr(pid, channel.av1_counter, pcr, &mut out[PCR_PLACE..]);
 }
 
 // A refusal, and channel and queue as they were.

@@ -5,40 +5,43 @@ ghost use mathlib.Core.List.{flatten};
 ghost use Prim.Native.Nat.{_*_, _≤_, _<_};
 ghost use lib.ListN.{length};
 ghost use Rattle.lists.specs.Lists.{over};
-ghost use Rattle.queue.specs.Queue.{timed};
 ghost use Rattle.packet.specs.Writing.{counterAfter};
 ghost use Rattle.mux_rules.specs.Packets.{packetsFor, unitPackets, unitsPackets};
-ghost use Rattle.mux.specs.Parts.{filled, slotUnits, wellFormed, slotsPackets};
+ghost use Rattle.mux.specs.Parts.{filled, slotUnit, slotUnits, wellFormed, slotsPackets};
 use crate::cutting::next_counter;
 use crate::cutting::put_others;
-use crate::headers::pes_header;
 use crate::measuring::slot_packets;
 use crate::starting::first_flags;
 use crate::starting::first_size;
-use crate::starting::put_first;
 use lists::part;
 use lists::rest;
 use packet::PACKET_LENGTH;
+use packet_writer::Start;
+use packet_writer::head_size;
+use packet_writer::put_start;
 use queue::Queue;
 use queue::Queued;
 
 // The packets of a unit, whose slot is this.
 fn put_unit(pid: u64, counter: u64, slot: Queued, unit: &[u8], out: &mut [u8])
     requires { ⌜ (pid < 8192) × (counter < 16) × (slot .pts .0 < 8589934592) × (slot .dts .0 < 8589934592)
-        × (length (now unit) ≤ 1573056)
-        × (188 * packetsFor (timed (now unit) (slot .pts) (slot .dts) (slot .marked)) ≤ length (now out)) ⌝ }
+        × (188 * packetsFor (slotUnit slot (now unit)) ≤ length (now out)) ⌝ }
     ensures { λ _. ⌜ now (out .exit)
-        ≡ over (flatten (unitPackets pid counter
-        (timed (now (unit .entry)) (slot .pts) (slot .dts) (slot .marked)))) (now (out .entry)) ⌝ }
+        ≡ over (flatten (unitPackets pid counter (slotUnit slot (now (unit .entry))))) (now (out .entry)) ⌝ }
 {
-    let head = pes_header(slot.pts, slot.dts, unit.len());
-    let size = head.size;
-    let bytes = head.bytes;
-    let first = first_size(slot.marked, size, unit.len());
+    let pts = slot.pts;
+    let dts = slot.dts;
+    let length = unit.len();
+    let first = first_size(slot.marked, head_size(pts, dts), length);
     let flags = first_flags(slot.marked, unit, first);
-    let front = part(&bytes, 0, size);
+    let start = Start {
+        flags,
+        pts,
+        dts,
+        length,
+    };
     let begun = part(unit, 0, first);
-    put_first(pid, counter, flags, front, begun, out);
+    put_start(pid, counter, start, begun, out);
     let behind = rest(unit, first);
     put_others(
         pid,

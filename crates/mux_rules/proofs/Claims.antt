@@ -4,7 +4,7 @@
 use Prim.Native.Nat.{ℕ, _+_, _≤_}
 use mathlib.Core.Bool.{false}
 use mathlib.Core.Path.{_≡_, refl, sym, ap, ap₂, subst, _∙_}
-use mathlib.Core.List.{List, [], _∷_, _++_, map, flatten, append-assoc}
+use mathlib.Core.List.{List, [], _∷_, _++_, map, flatten}
 use native.Mathlib.Omega.{arith}
 use borrow.Author.Tests.{ltb-false}
 use lib.Dec.{ltb}
@@ -23,18 +23,19 @@ use Rattle.queue.specs.Queue.{TimedUnit, queuedBytes, unitWrong, queueOf, Queue
 use Rattle.queue.proofs.Keeping.{empty-is, as-units}
 use Rattle.segment_rules.specs.Check.{Accepted, Outputs, Progress, roomsOf, lengths, ptsAndDts, timesInTurn, holding, outputsAfter}
 use Rattle.segment_rules.specs.Check.{checkSegment, start, run, ending}
-use Rattle.comparison.specs.Comparison.{firstFrom}
+use Rattle.comparison.specs.Comparison.{sequenceHeaders, firstFrom}
 use Rattle.segment_rules.specs.Comparison.{comparedWith, compared, checkCompared}
 use Rattle.segment_rules.specs.Rules.{Rooms, carriedUnits}
 use Rattle.segment_rules.proofs.Running.{run-append}
 use Rattle.mux_rules.specs.declared.Channel.{Channel}
 use Rattle.mux_rules.specs.declared.Written.{Written}
+use Rattle.packet.proofs.Packets.{packets-flatten}
 use Rattle.mux_rules.specs.Packets.{packetsFor, segmentPackets, segment, packetsForUnits}
 use Rattle.mux_rules.specs.Sending.{channelWrong, sending, unitsLeft, Sends}
 use Rattle.mux_rules.specs.declared.Sent.{Sent}
 use Rattle.mux_rules.specs.Claim.{accessUnits, acceptedAs, LongEnough, unitLengths, unitTimes, handedBack, Claim}
 use Rattle.mux_rules.specs.Claim.{channelThen, acceptedTwice, TwoSends}
-use Rattle.mux_rules.proofs.Counts.{all-append, Whole, packets-back, whole-segment, length-segment}
+use Rattle.mux_rules.proofs.Counts.{all-append, Whole, flat-append, whole-segment, length-segment}
 use Rattle.mux_rules.proofs.Reaching.{Allowed, allowed, each-whole, reached, renamed, send-first, send-again, ends}
 
 -- ---- the same units and times
@@ -107,7 +108,7 @@ send-accepted c d us rooms ok w few most long =
     (omega arith, omega (arith, long .bytes), omega (arith, long .lens), omega (arith, long .times)) in
     sym (follows (whole-segment (segmentPackets c d us) (each-whole c d (ok .fine) us) (omega (arith, length-segment c d us)) most)
     (sym (ap (λ (ps : List Bytes). run current rooms start ps >>= ending)
-    (packets-back (segmentPackets c d us) (each-whole c d (ok .fine) us))
+    (packets-flatten (segmentPackets c d us) (each-whole c d (ok .fine) us))
     ∙ ends c d ok rooms r)))
 
 -- ---- the comparison: the caller's descriptor is the one video descriptor of the map, so what is accepted is compared with it
@@ -117,7 +118,8 @@ one-video d fine = subst (λ (x : Bytes). videoDescriptors current (registration
 
 compared-as : (rooms : Rooms) (s d : Bytes) (a : Accepted) (pid : ℕ) → wrong d ≡ false → a .map ≡ mapFor pid d
     → checkSegment current rooms s ≡ passed a
-    → checkCompared 0 rooms s ≡ passed (record { accepted = a; disagreement = firstFrom 0 (fieldsOf d) (map (λ u. u .carried) (a .units)) })
+    → checkCompared 0 rooms s
+    ≡ passed (record { accepted = a; disagreement = firstFrom 0 (fieldsOf d) (map sequenceHeaders (map (λ u. u .carried) (a .units))) })
 unfolding checkCompared editionOf comparedWith _>>=_
 compared-as rooms s d a pid fine m v =
     ap (λ (x : Verdict Accepted). x >>= λ y. passed (record { accepted = y; disagreement = compared current (y .map) (y .units) })) v
@@ -136,11 +138,6 @@ claim c d room queue store us w o q e long =
     )
 
 -- ---- two sends
-flat-append : (ps qs : List Bytes) → flatten (ps ++ qs) ≡ flatten ps ++ flatten qs
-unfolding flatten
-flat-append [] qs = refl
-flat-append (p ∷ ps) qs = ap (λ (x : Bytes). p ++ x) (flat-append ps qs) ∙ sym (append-assoc p (flatten ps) (flatten qs))
-
 queued-append : (us vs : List TimedUnit) → length (queuedBytes (us ++ vs)) ≡ length (queuedBytes us) + length (queuedBytes vs)
 unfolding flatten
 queued-append [] vs = omega arith
@@ -195,7 +192,7 @@ two-sends c d pcr room room′ queue queue′ store store′ us more w w′ room
     let v : checkSegment current rooms (segment c d us ++ segment c2 d more) ≡ passed (acceptedTwice c d us more) =
     ap (checkSegment current rooms) (sym (flat-append ps qs))
     ∙ sym (follows (whole-segment (ps ++ qs) whole (omega (arith, length-segment c d us)) (omega (arith, p .packets, p2 .packets)))
-    (sym (ap (λ (l : List Bytes). run current rooms start l >>= ending) (packets-back (ps ++ qs) whole)
+    (sym (ap (λ (l : List Bytes). run current rooms start l >>= ending) (packets-flatten (ps ++ qs) whole)
     ∙ ap (λ (v : Verdict Progress). v >>= ending)
     (run-append current rooms start ps qs ∙ ap (λ (v : Verdict Progress). v >>= λ x. run current rooms x qs) (r .is))
     ∙ ends c d ok rooms r2

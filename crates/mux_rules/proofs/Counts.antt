@@ -2,12 +2,11 @@
 use Prim.Native.Nat.{ℕ, zero, suc, _+_, _*_, _/_, _%_, _≤_, _<_}
 use mathlib.Core.Bool.{true, false}
 use mathlib.Core.Path.{_≡_, refl, sym, ap, ap₂, _∙_}
-use mathlib.Core.List.{List, [], _∷_, _++_, flatten}
+use mathlib.Core.List.{List, [], _∷_, _++_, flatten, append-assoc}
 use native.Mathlib.Omega.{arith}
 use borrow.Author.Tests.{eq-eqb, ne-eqb, le-ltb}
 use lib.Dec.{eqb, ltb}
 use lib.ListN.{length, take, drop, length-append, length-take}
-use lib.Seq.{take-append-seam, drop-append-seam}
 use Rattle.lists.specs.Lists.{Bytes}
 use Rattle.refusal.specs.Verdict.{passed}
 use Rattle.refusal.proofs.Verdicts.{All, not-given}
@@ -16,7 +15,6 @@ use Rattle.packet.proofs.Writing.{length-carrying}
 use Rattle.psi.specs.Writing.{sectionPayload}
 use Rattle.psi.proofs.Writing.{length-payload}
 use Rattle.queue.specs.Queue.{TimedUnit}
-use Rattle.packet.specs.Header.{packetsOf, packets}
 use Rattle.segment_rules.specs.Check.{rule20, segmentLengthWrong}
 use Rattle.mux_rules.specs.declared.Channel.{Channel}
 use Rattle.mux_rules.specs.Packets.{othersFor, firstPart, otherParts, firstFlags, others, packetsFor, unitPackets, unitsPackets}
@@ -85,19 +83,10 @@ unfolding flatten
 flat-length [] h = refl
 flat-length (p ∷ ps) h = omega (arith, length-append p (flatten ps), flat-length ps (h .1), h .0)
 
-cut : (ps : List Bytes) → All Whole ps → packetsOf (length ps) (flatten ps) ≡ ps
-unfolding packetsOf flatten
-cut [] h = refl
-cut (p ∷ ps) h =
-    let t : take 188 (p ++ flatten ps) ≡ p = ap (λ (n : ℕ). take n (p ++ flatten ps)) (sym (h .0)) ∙ take-append-seam p (flatten ps) in
-    let r : drop 188 (p ++ flatten ps) ≡ flatten ps =
-    ap (λ (n : ℕ). drop n (p ++ flatten ps)) (sym (h .0)) ∙ drop-append-seam p (flatten ps) in
-    ap₂ (λ (x : Bytes) (y : List Bytes). x ∷ y) t (ap (packetsOf (length ps)) r ∙ cut ps (h .1))
-
-pub packets-back : (ps : List Bytes) → All Whole ps → packets (flatten ps) ≡ ps
-packets-back ps h =
-    let n : length (flatten ps) / 188 ≡ length ps = omega (arith, flat-length ps h) in
-    ap (λ (k : ℕ). packetsOf k (flatten ps)) n ∙ cut ps h
+pub flat-append : (ps qs : List Bytes) → flatten (ps ++ qs) ≡ flatten ps ++ flatten qs
+unfolding flatten
+flat-append [] qs = refl
+flat-append (p ∷ ps) qs = ap (λ (x : Bytes). p ++ x) (flat-append ps qs) ∙ sym (append-assoc p (flatten ps) (flatten qs))
 
 -- 20 does not apply
 pub whole-segment : (ps : List Bytes) → All Whole ps → 0 < length ps → length ps ≤ 65535 → rule20 (flatten ps) ≡ passed tt

@@ -11,7 +11,7 @@ use Rattle.lists.specs.Lists.{Bytes, over, all}
 use Rattle.refusal.specs.Verdict.{passed}
 use Rattle.descriptor.specs.Descriptor.{fieldsOf}
 use Rattle.descriptor.specs.Edition.{current}
-use Rattle.comparison.specs.Comparison.{firstFrom}
+use Rattle.comparison.specs.Comparison.{sequenceHeaders, firstFrom}
 use Rattle.ticks.specs.declared.Ticks27.{Ticks27}
 use Rattle.packet.specs.Writing.{most}
 use Rattle.pmt.specs.Writing.{mapFor}
@@ -74,7 +74,8 @@ abbrev pub answeredAs : Channel → Bytes → List TimedUnit → Answered
 answeredAs c descriptor units =
     record {
       accepted = acceptedAs c descriptor units;
-      disagreement = firstFrom 0 (fieldsOf descriptor) (map (λ u. u .carried) (accessUnits 3 units));
+      disagreement =
+          firstFrom 0 (fieldsOf descriptor) (map sequenceHeaders (map (λ u. u .carried) (accessUnits 3 units)));
     }
 
 abbrev pub Claim : Type 0
@@ -124,7 +125,8 @@ answeredTwice c descriptor units more =
       accepted = acceptedTwice c descriptor units more;
       disagreement =
           firstFrom 0 (fieldsOf descriptor)
-          (map (λ u. u .carried) (accessUnits 3 units ++ accessUnits (6 + packetsForUnits units) more));
+          (map sequenceHeaders
+          (map (λ u. u .carried) (accessUnits 3 units ++ accessUnits (6 + packetsForUnits units) more)));
     }
 
 -- they are accepted as one segment, where both together have no more packets than a segment may have

@@ -1,18 +1,17 @@
 -- What send writes, packet by packet. The words of document 02, request 2026-01, stand over each definition. Assumes
 -- nothing.
 use Prim.Native.Nat.{ℕ, zero, suc, _+_, _-_, _*_, _/_, _^_}
-use mathlib.Core.Bool.{Bool, true, false, _||_}
+use mathlib.Core.Bool.{Bool, true, false}
 use mathlib.Core.List.{List, [], _∷_, _++_, flatten}
 use mathlib.Core.Option.{Option, none, some}
-use lib.Dec.{eqb, ltb}
+use lib.Dec.{ltb}
 use lib.ListN.{length, take, drop}
 use Rattle.lists.specs.Lists.{Bytes, pick}
-use Rattle.lists.specs.Bytes.{byte}
 use Rattle.packet.specs.Writing.{flag, most, carrying, pcrPacket, counterAfter, counterBefore}
 use Rattle.psi.specs.Writing.{sectionPayload, pat}
 use Rattle.pmt.specs.Writing.{pmt}
 use Rattle.pes.specs.Writing.{pesHeader}
-use Rattle.obu.specs.Header.{typeBits}
+use Rattle.comparison.specs.Comparison.{isFrame}
 use Rattle.tsobu.specs.StartCodes.{startCodes}
 use Rattle.unit.specs.Unit.{obusIn}
 use Rattle.queue.specs.Queue.{TimedUnit}
@@ -45,10 +44,6 @@ abbrev pub packetsFor : TimedUnit → ℕ
 packetsFor u = suc (othersFor (length (otherParts u)))
 
 -- ---- "where the start code of its first type 3 or 6 OBU begins there"
--- an OBU has one of these types
-abbrev pub isFrame : Bytes → Bool
-isFrame obu = eqb (typeBits (byte obu 0)) 3 || eqb (typeBits (byte obu 0)) 6
-
 -- the first start code that begins one, of start codes and their OBUs in turn
 unfoldable pub firstFrame : List ℕ → List Bytes → Option ℕ
 firstFrame [] obus = none
@@ -94,8 +89,7 @@ unfoldable pub sectionPacket : ℕ → ℕ → Bytes → Bytes
 sectionPacket pid counter s = carrying pid true counter 0 (sectionPayload s)
 
 -- "Send writes PAT, PMT with one AV1 entry (registration, then the caller's video descriptor bytes as given), a PCR in
--- a
--- packet without payload on the AV1 PID, which is the PCR PID, then one PES a unit"; "the PCR packet carries one less
+-- a packet without payload on the AV1 PID, which is the PCR PID, then one PES a unit"; "the PCR packet carries one less
 -- modulo 16"
 unfoldable pub segmentPackets : Channel → Bytes → List TimedUnit → List Bytes
 segmentPackets c descriptor units =
@@ -112,9 +106,10 @@ unfoldable pub packetsForUnits : List TimedUnit → ℕ
 packetsForUnits [] = 0
 packetsForUnits (u ∷ us) = packetsFor u + packetsForUnits us
 
--- "send hands the next counters back": each PID's counter for its next payload
-abbrev pub nextChannel : Channel → List TimedUnit → Channel
-nextChannel c units =
+-- "send hands the next counters back": each PID's counter for its next payload, after the tables' packets and so many
+-- of units
+abbrev pub channelAfter : Channel → ℕ → Channel
+channelAfter c n =
     record {
       program = c .program;
       «map_pid» = c .«map_pid»;
@@ -122,5 +117,8 @@ nextChannel c units =
       pcr = c .pcr;
       «pat_counter» = counterAfter (c .«pat_counter») 1;
       «map_counter» = counterAfter (c .«map_counter») 1;
-      «av1_counter» = counterAfter (c .«av1_counter») (packetsForUnits units);
+      «av1_counter» = counterAfter (c .«av1_counter») n;
     }
+
+abbrev pub nextChannel : Channel → List TimedUnit → Channel
+nextChannel c units = channelAfter c (packetsForUnits units)

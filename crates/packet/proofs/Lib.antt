@@ -1,4 +1,5 @@
 pub mod Headers
+pub mod Plain
 pub mod Counters
 pub mod Slots
 pub mod Recorded

@@ -15,7 +15,7 @@ use Rattle.packet.specs.declared.streams.Streams.{Streams}
 use Rattle.packet.specs.declared.streams.Slot.{Slot}
 use Rattle.packet.specs.declared.streams.Slot.the-variants.{At, None}
 use Rattle.packet.specs.Counter.{namedStream}
-use Rattle.packet.specs.Streams.{listed, pidsIn, lookUpFrom, lookUp, streamsOf, noStreams, putBack}
+use Rattle.packet.specs.Streams.{listed, pidsIn, lookUpFrom, lookUp, streamsOf, putBack}
 
 -- ---- the lookup, one slot at a time
 module _ (slot pid n : ℕ) (pids : List ℕ) where
@@ -120,20 +120,7 @@ look-up-at pid l slot e =
 pub look-up-none : (pid : ℕ) (l : List ℕ) → lookUp pid l ≡ None → Nowhere pid l
 look-up-none pid l e = subst (Means 0 pid l) e (look-up-means 0 pid l)
 
--- a record of the same PID in its slot changes no PID, and so no lookup
-pub same-pids : (l : List Stream) (slot : ℕ) (t : Stream) → getD l slot (namedStream 0) .pid ≡ t .pid → pidsIn (set l slot t) ≡ pidsIn l
-same-pids [] slot t e = refl
-same-pids (s ∷ l) zero t e = ap (λ (n : ℕ). n ∷ pidsIn l) (sym e)
-same-pids (s ∷ l) (suc slot) t e = ap (λ (m : List ℕ). s .pid ∷ m) (same-pids l slot t e)
-
-pub look-up-same : (pid : ℕ) (l : List Stream) (slot : ℕ) (t : Stream) → getD l slot (namedStream 0) .pid ≡ t .pid
-    → lookUp pid (pidsIn (set l slot t)) ≡ lookUp pid (pidsIn l)
-look-up-same pid l slot t e = ap (lookUp pid) (same-pids l slot t e)
-
 -- ---- what is listed
-pub none-listed : listed noStreams ≡ []
-none-listed = refl
-
 take-map : (n : ℕ) (pids : List ℕ) → take n (map namedStream pids) ≡ map namedStream (take n pids)
 take-map zero pids = refl
 take-map (suc n) [] = refl

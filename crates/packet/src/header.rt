@@ -1,5 +1,7 @@
 // The header and the adaptation field of one packet.
 ghost use mathlib.Core.Path.{_≡_};
+ghost use Prim.Native.Nat.{_/_};
+ghost use Rattle.lists.specs.Bytes.{byte};
 ghost use Rattle.refusal.specs.Verdict.{refused};
 ghost use Rattle.refusal.specs.Number.{numberOf};
 ghost use Rattle.packet.specs.Header.{transportErrorIndicator, payloadUnitStartIndicator, pid};
@@ -251,7 +253,23 @@ fn header_fields(packet: &[u8]) -> Header
     }
 }
 
-// The header of a packet; 21, 22, 23.
+// What a packet says that has payload and no adaptation field and is not scrambled: it lies in the first four bytes.
+fn plain_fields(packet: &[u8]) -> Header
+    requires { ⌜ byte (now packet) 3 / 16 ≡ 1 ⌝ }
+    ensures { λ r. ⌜ r ≡ fields (now (packet .entry)) ⌝ }
+{
+    Header {
+        pid: packet_pid(packet),
+        start: payload_unit_start_indicator(packet),
+        counter: continuity_counter(packet),
+        discontinuity: false,
+        pcr: Clock::None,
+        has_payload: true,
+        payload: 4,
+    }
+}
+
+// The header of a packet; 21, 22, 23. Most packets are plain, and nothing of them is wrong by 23.
 pub fn read(packet: &[u8]) -> PacketRead
     ensures { λ r. ⌜ packetSays r ≡ headerOf (now (packet .entry)) ⌝ }
 {
@@ -260,6 +278,9 @@ pub fn read(packet: &[u8]) -> PacketRead
     }
     if transport_error_indicator(packet) {
         return refuse(Refusal::TRANSPORT_ERROR);
+    }
+    if byte_at(packet, 3) / 16 == 1 {
+        return PacketRead::Header(plain_fields(packet));
     }
     if header_wrong(packet) {
         return refuse(Refusal::PACKET_HEADER);

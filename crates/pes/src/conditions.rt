@@ -1,8 +1,9 @@
 // What makes a PES header wrong (29).
 ghost use mathlib.Core.Path.{_≡_};
+ghost use Prim.Native.Nat.{_≤_};
 ghost use Rattle.pes.specs.Pes.{startWrong, fixedBitsWrong, scrambled, notAligned, flagsWrong, notWhole};
 ghost use Rattle.pes.specs.Pes.{leastLengthByte, lengthByteShort, prefixWrong, markerWrong, timeStampWrong};
-ghost use Rattle.pes.specs.Pes.{ptsWrong, dtsWrong, bothWrong, timesWrong, headerWrong};
+ghost use Rattle.pes.specs.Pes.{stampWrong, bothWrong, timesWrong, headerWrong};
 use crate::fields::header_size;
 use crate::fields::pts_alone;
 use crate::fields::pts_and_dts;
@@ -101,25 +102,16 @@ fn time_stamp_wrong(prefix: u8, first: u8, third: u8, fifth: u8) -> bool
     marker_wrong(fifth)
 }
 
-fn pts_wrong(prefix: u8, payload: &[u8]) -> bool
-    ensures { λ r. ⌜ r ≡ ptsWrong prefix (now (payload .entry)) ⌝ }
+// The time stamp whose five bytes begin there is wrong.
+fn stamp_wrong(prefix: u8, payload: &[u8], at: usize) -> bool
+    requires { ⌜ at ≤ 14 ⌝ }
+    ensures { λ r. ⌜ r ≡ stampWrong prefix (now (payload .entry)) at ⌝ }
 {
     time_stamp_wrong(
         prefix,
-        byte_at(payload, 9),
-        byte_at(payload, 11),
-        byte_at(payload, 13),
-    )
-}
-
-fn dts_wrong(prefix: u8, payload: &[u8]) -> bool
-    ensures { λ r. ⌜ r ≡ dtsWrong prefix (now (payload .entry)) ⌝ }
-{
-    time_stamp_wrong(
-        prefix,
-        byte_at(payload, 14),
-        byte_at(payload, 16),
-        byte_at(payload, 18),
+        byte_at(payload, at),
+        byte_at(payload, at + 2),
+        byte_at(payload, at + 4),
     )
 }
 
@@ -127,10 +119,10 @@ fn dts_wrong(prefix: u8, payload: &[u8]) -> bool
 fn both_wrong(payload: &[u8]) -> bool
     ensures { λ r. ⌜ r ≡ bothWrong (now (payload .entry)) ⌝ }
 {
-    if pts_wrong(3, payload) {
+    if stamp_wrong(3, payload, 9) {
         return true;
     }
-    dts_wrong(1, payload)
+    stamp_wrong(1, payload, 14)
 }
 
 // A time stamp that the flags say to follow is wrong.
@@ -138,7 +130,7 @@ fn times_wrong(payload: &[u8]) -> bool
     ensures { λ r. ⌜ r ≡ timesWrong (now (payload .entry)) ⌝ }
 {
     if pts_alone(payload) {
-        return pts_wrong(2, payload);
+        return stamp_wrong(2, payload, 9);
     }
     if pts_and_dts(payload) {
         return both_wrong(payload);
@@ -146,7 +138,7 @@ fn times_wrong(payload: &[u8]) -> bool
     false
 }
 
-pub fn header_wrong(payload: &[u8]) -> bool
+pub(crate) fn header_wrong(payload: &[u8]) -> bool
     ensures { λ r. ⌜ r ≡ headerWrong (now (payload .entry)) ⌝ }
 {
     if start_wrong(payload) {

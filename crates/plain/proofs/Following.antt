@@ -55,7 +55,8 @@ module _ (s : Bytes) (from : ℕ) where
     ends h = omega (arith, inv, ap nullsIn (none-from s from n h) ∙ nulls-none)
 
 -- ---- one list behind another in an output
-pub placed-more : (out : List ℕ) (at : ℕ) (v u : List ℕ) → at ≤ length out → placed (placed out at v) (at + length v) u ≡ placed out at (v ++ u)
+pub placed-more : (out : List ℕ) (at : ℕ) (v u : List ℕ) → at ≤ length out →
+    placed (placed out at v) (at + length v) u ≡ placed out at (v ++ u)
 placed-more out at v u h =
     let front = take at out ++ v in
     let tail = drop (length v) (drop at out) in
@@ -173,7 +174,8 @@ module _ (s : Bytes) (from q last : ℕ) (out₀ : List ℕ) where
         pub payload-long : length (drop 4 p) ≡ payloadLength
         payload-long = length-drop 4 p ∙ ap (λ (m : ℕ). m - 4) (ap length lent ∙ packet-length s (from + n) h)
 
-        pub follows-one : goesOn q counter p ≡ true → payloadLength ≤ length out - written → (out′ : List ℕ) → out′ ≡ placed out written (drop 4 p)
+        pub follows-one : goesOn q counter p ≡ true → payloadLength ≤ length out - written →
+            (out′ : List ℕ) → out′ ≡ placed out written (drop 4 p)
             → (c : ℕ) → c ≡ nextCounter counter → Followed out′ (n + 1) c (written + payloadLength)
         follows-one e r out′ put c next =
             let here = next-from s from n h ∙ ap (λ (x : Bytes). x ∷ drop (suc n) left) (sym lent) in
@@ -182,7 +184,8 @@ module _ (s : Bytes) (from q last : ℕ) (out₀ : List ℕ) where
             let j : suc n ≡ n + 1 = omega arith in
             let k : payloadLength ≤ length out₀ - written = omega (arith, kept) in
             let m : length out₀ - written - payloadLength ≡ length out₀ - (written + payloadLength) = omega arith in
-            let on = ap (goingOn (length out₀ - written) q counter) here ∙ going-next (length out₀ - written) q counter p (drop (suc n) left) k e in
+            let on = ap (goingOn (length out₀ - written) q counter) here
+            ∙ going-next (length out₀ - written) q counter p (drop (suc n) left) k e in
             let t : payloads (n + 1) left ≡ payloads n left ++ drop 4 p =
             ap (λ (x : ℕ). payloads x left) (sym j) ∙ more ∙ ap (λ (w : Bytes). payloads n left ++ w) behind in
             let size : length (payloads (n + 1) left) ≡ written + payloadLength =

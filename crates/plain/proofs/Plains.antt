@@ -96,7 +96,8 @@ module _ (n last : ℕ) (p : Bytes) (h : goesOn n last p ≡ true) where
 
   pub no-pcr : pcr p ≡ clock.None
   unfolding pcr pick
-  no-pcr = ap (λ (x : Bool). pick (eqb (pid p) nullPid) clock.None (pick x (clockReference p) clock.None)) no-pcr-flag ∙ either (eqb (pid p) nullPid)
+  no-pcr = ap (λ (x : Bool). pick (eqb (pid p) nullPid) clock.None (pick x (clockReference p) clock.None)) no-pcr-flag
+      ∙ either (eqb (pid p) nullPid)
 
   -- the payload is all behind the header
   pub payload-behind : payload p ≡ drop 4 p

@@ -1,14 +1,13 @@
 // Runs of packets of a segment that ask nothing of its tables: null packets, and packets of one PID that go on with a
 // PES.
 ghost use mathlib.Core.Path.{_≡_};
+ghost use Prim.Native.Nat.{_≤_};
 ghost use lib.ListN.{length, drop};
 ghost use Rattle.lists.specs.Lists.{over};
-ghost use Rattle.packet.specs.Header.{pid, packets};
-ghost use Rattle.plain.specs.Runs.{isNull, nullsIn, nextCounter, goesOn, goingOn, payloads};
+ghost use Rattle.packet.specs.Header.{packetLength, pid, packets};
+ghost use Rattle.plain.specs.Runs.{isNull, nullsIn, nextCounter, goesOn, payloadLength, goingOn, payloads};
 use lists::byte_at;
-use lists::copy;
 use lists::part;
-use lists::rest;
 use packet::NULL_PID;
 use packet::PACKET_LENGTH;
 
@@ -56,7 +55,7 @@ pub fn nulls(segment: &[u8], from: usize) -> usize
 }
 
 // The counter that is due after this one.
-pub fn next_counter(last: u8) -> u8
+fn next_counter(last: u8) -> u8
     ensures { λ r. ⌜ r ≡ nextCounter last ⌝ }
 {
     (last % 16 + 1) % 16
@@ -87,6 +86,19 @@ fn goes_on(packet: &[u8], pid: u16, last: u8) -> bool
     byte_at(packet, 3) % 16 == next_counter(last)
 }
 
+// The payload of a packet that has no adaptation field, over the front of an output. The count is fixed, so that the
+// compiler copies many bytes at a time.
+fn put_payload(packet: &[u8], out: &mut [u8])
+    requires { ⌜ (length (now packet) ≡ packetLength) × (payloadLength ≤ length (now out)) ⌝ }
+    ensures { λ _. ⌜ now (out .exit) ≡ over (drop 4 (now (packet .entry))) (now (out .entry)) ⌝ }
+{
+    let mut i: usize = 0;
+    while i < PAYLOAD_LENGTH {
+        out[i] = packet[HEADER_LENGTH + i];
+        i += 1;
+    }
+}
+
 // How many packets in a row from this index on go on after one of this PID with this counter, as far as their payloads
 // have room; these are written over the front of the output.
 pub fn follow(segment: &[u8], from: usize, pid: u16, last: u8, out: &mut [u8]) -> usize
@@ -105,11 +117,12 @@ pub fn follow(segment: &[u8], from: usize, pid: u16, last: u8, out: &mut [u8]) -
         if out.len() - written < PAYLOAD_LENGTH {
             return n;
         }
-        let packet = part(segment, (from + n) * PACKET_LENGTH, PACKET_LENGTH);
+        let at = (from + n) * PACKET_LENGTH;
+        let packet = &segment[at..at + PACKET_LENGTH];
         if !goes_on(packet, pid, counter) {
             return n;
         }
-        copy(rest(packet, HEADER_LENGTH), &mut out[written..]);
+        put_payload(packet, &mut out[written..]);
         counter = next_counter(counter);
         written += PAYLOAD_LENGTH;
         n += 1;

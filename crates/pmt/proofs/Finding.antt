@@ -7,6 +7,7 @@ use mathlib.Core.List.{List, [], _∷_}
 use native.Mathlib.Omega.{arith}
 use lib.Dec.{eqb}
 use Rattle.lists.specs.Lists.{pick, any, those}
+use Rattle.lists.proofs.Elements.{those-first, those-others, any-now, any-later}
 use Rattle.lists.proofs.Picks.{by-true}
 use Rattle.lists.proofs.Tests.{case}
 use Rattle.refusal.specs.Verdict.{Verdict, passed, refused, _>>=_, _>>_, given}
@@ -36,22 +37,6 @@ module _ (k : Kind) (slot : ℕ) (a : Av1) where
 
 -- ---- a list's first element, by a test of it
 module _ {A : Type 0} (f : A → Bool) (a : A) (s : List A) where
-  any-in : f a ≡ true → any f (a ∷ s) ≡ true
-  unfolding any
-  any-in e = rw e
-
-  any-out : f a ≡ false → any f (a ∷ s) ≡ any f s
-  unfolding any
-  any-out e = rw e
-
-  pub those-in : f a ≡ true → those f (a ∷ s) ≡ a ∷ those f s
-  unfolding those
-  those-in e = ap (λ (t : Bool). elim t [ true ↦ a ∷ those f s | false ↦ those f s ]) e
-
-  pub those-out : f a ≡ false → those f (a ∷ s) ≡ those f s
-  unfolding those
-  those-out e = ap (λ (t : Bool). elim t [ true ↦ a ∷ those f s | false ↦ those f s ]) e
-
   pub first-in : f a ≡ true → firstOf f (a ∷ s) ≡ 0
   unfolding firstOf
   first-in e = ap (λ (t : Bool). elim t as (λ x. ℕ) [ true ↦ 0 | false ↦ suc (firstOf f s) ]) e
@@ -152,13 +137,13 @@ module _ (edition : Edition) where
   one-then (e ∷ es) slot at v =
       case (stray e)
       (λ p. ap (λ (k : Kind). withAll edition es (suc slot) (withKind k slot (One at v))) (kind-stray e p) ∙ wrong-stays es (suc slot)
-      ∙ by-true (alone (av1In (e ∷ es)) (One at v)) (any-in stray e es p) refl)
+      ∙ by-true (alone (av1In (e ∷ es)) (One at v)) (sym (any-now stray e es p)) refl)
       (λ p. case (av1 e)
       (λ q. ap (withAll edition es (suc slot)) (second e slot at v p q) ∙ wrong-stays es (suc slot) ∙ pick-same (strayIn (e ∷ es)) Wrong
-      ∙ ap (λ (l : List MapEntry). pick (strayIn (e ∷ es)) Wrong (alone l (One at v))) (sym (those-in av1 e es q)))
+      ∙ ap (λ (l : List MapEntry). pick (strayIn (e ∷ es)) Wrong (alone l (One at v))) (sym (those-first av1 e es q)))
       (λ q. ap (λ (k : Kind). withAll edition es (suc slot) (withKind k slot (One at v))) (kind-other e p q) ∙ one-then es (suc slot) at v
-      ∙ ap₂ (λ (b : Bool) (l : List MapEntry). pick b Wrong (alone l (One at v))) (sym (any-out stray e es p))
-      (sym (those-out av1 e es q))))
+      ∙ ap₂ (λ (b : Bool) (l : List MapEntry). pick b Wrong (alone l (One at v))) (any-later stray e es p)
+      (sym (those-others av1 e es q))))
 
   -- ---- the map of the entries, with the one AV1 entry
   module _ (pcrPid : ℕ) (l : Listed) where
@@ -203,8 +188,8 @@ module _ (edition : Edition) where
       passing : av1 e ≡ false → verdict es (suc slot) ≡ verdict (e ∷ es) slot
       passing q =
           let n : suc slot + firstOf av1 es ≡ slot + firstOf av1 (e ∷ es) = omega (arith, first-out av1 e es q) in
-          ap₂ (λ (b : Bool) (s : List MapEntry). judged b s (suc slot + firstOf av1 es)) (sym (any-out stray e es p))
-          (sym (those-out av1 e es q))
+          ap₂ (λ (b : Bool) (s : List MapEntry). judged b s (suc slot + firstOf av1 es)) (any-later stray e es p)
+          (sym (those-others av1 e es q))
           ∙ ap (judged (strayIn (e ∷ es)) (av1In (e ∷ es))) n
 
       -- the entry is an AV1 entry
@@ -212,7 +197,7 @@ module _ (edition : Edition) where
         here : judged (strayIn es) (e ∷ av1In es) slot ≡ verdict (e ∷ es) slot
         here =
             let n : slot ≡ slot + firstOf av1 (e ∷ es) = omega (arith, first-in av1 e es q) in
-            ap₂ (λ (b : Bool) (s : List MapEntry). judged b s slot) (sym (any-out stray e es p)) (sym (those-in av1 e es q))
+            ap₂ (λ (b : Bool) (s : List MapEntry). judged b s slot) (any-later stray e es p) (sym (those-first av1 e es q))
             ∙ ap (judged (strayIn (e ∷ es)) (av1In (e ∷ es))) n
 
         taken : taking es slot (kindOf edition e) ≡ verdict (e ∷ es) slot
@@ -229,7 +214,7 @@ module _ (edition : Edition) where
     found (e ∷ es) slot =
         case (stray e)
         (λ p. ap (taking es slot) (kind-stray e p) ∙ ap (λ (a : Av1). mapFrom a pcrPid l) (wrong-stays es (suc slot))
-        ∙ against (strayIn (e ∷ es)) (av1In (e ∷ es)) (slot + firstOf av1 (e ∷ es)) (any-in stray e es p))
+        ∙ against (strayIn (e ∷ es)) (av1In (e ∷ es)) (slot + firstOf av1 (e ∷ es)) (sym (any-now stray e es p)))
         (λ p. case (av1 e)
         (λ q. taken e es slot p q)
         (λ q. ap (taking es slot) (kind-other e p q) ∙ found es (suc slot) ∙ passing e es slot p q))

@@ -4,12 +4,13 @@ use mathlib.Core.Bool.{Bool, true, false, not}
 use mathlib.Core.Path.{_≡_, refl, sym, ap, ap₂, subst, _∙_}
 use mathlib.Core.List.{List, [], _∷_, _++_}
 use native.Mathlib.Omega.{arith}
-use borrow.Author.Tests.{eqb-true, eqb-false, ltb-true, ltb-false}
+use borrow.Author.Tests.{eqb-true, eqb-false, ltb-true, ltb-false, not-false}
 use lib.Dec.{eqb, ltb}
 use lib.ListN.{length, take, drop, getD, length-append, List·getD-append, List·getD-map}
 use lib.Seq.{take-append-le, take-append-seam, getD-append-add, getD-take, getD-drop, length-take-le}
 use Rattle.lists.specs.Lists.{Bytes, any, those}
 use Rattle.lists.specs.Bytes.{byte}
+use Rattle.lists.proofs.Elements.{those-first, those-others}
 use Rattle.lists.proofs.Tests.{case, or-neither}
 use Rattle.refusal.specs.Verdict.{Verdict, passed, refused, _>>_, given}
 use Rattle.refusal.proofs.Verdicts.{passed-then, passed-after, passed-same, given-passed, never}
@@ -20,7 +21,7 @@ use Rattle.pmt.specs.Pmt.{MapEntry, MapContent, elementaryPid, entrySize
 use Rattle.pmt.specs.Pmt.{isAv1, oneAv1, av1Entry, pcrPid, programInfoLength, entryBytes, readPmt}
 use Rattle.pmt.specs.Answer.{firstOf, mapOf, mapped}
 use Rattle.pmt.specs.declared.section.ProgramMap.{ProgramMap}
-use Rattle.pmt.proofs.Finding.{those-in, those-out, first-in, first-out}
+use Rattle.pmt.proofs.Finding.{first-in, first-out}
 
 -- ---- the tries of a section that passed
 past : {A B : Type 0} (v : Verdict A) (w : Verdict B) (b : B) → (v >> w) ≡ passed b → w ≡ passed b
@@ -34,10 +35,6 @@ pub record Says (edition : Edition) (program mapPid : ℕ) (s : Bytes) (m : MapC
   pub pcr : m .pcrPid ≡ pcrPid s
   pub listed : entries mapPid (entryBytes s) ≡ passed (m .entries)
   pub one : av1Entry edition (m .entries) ≡ passed (m .av1)
-
-not-false : (t : Bool) → not t ≡ false → t ≡ true
-not-false true e = refl
-not-false false e = sym e
 
 pub says : (edition : Edition) (program mapPid : ℕ) (s : Bytes) (m : MapContent) → readPmt edition program mapPid s ≡ passed m
     → Says edition program mapPid s m
@@ -193,9 +190,9 @@ unfolding those
 first-holds f [] a more e = absurd (omega (arith, ap length e))
 first-holds f (b ∷ l) a more e =
     case (f b)
-    (λ p. let q : b ≡ a = cc (those-in f b l p) in
+    (λ p. let q : b ≡ a = cc (those-first f b l p) in
     (omega (arith, first-in f b l p), (λ d. ap (λ (i : ℕ). getD (b ∷ l) i d) (first-in f b l p) ∙ q), ap f (sym q) ∙ p))
-    (λ p. let r = first-holds f l a more (sym (those-out f b l p) ∙ e) in
+    (λ p. let r = first-holds f l a more (sym (those-others f b l p) ∙ e) in
     (omega (arith, first-out f b l p, r .0), (λ d. ap (λ (i : ℕ). getD (b ∷ l) i d) (first-out f b l p) ∙ r .1 d), r .2))
 
 the-one : (edition : Edition) (l : List MapEntry) (e : MapEntry) → oneAv1 edition l ≡ passed e → l ≡ e ∷ []

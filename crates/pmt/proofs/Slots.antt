@@ -1,5 +1,5 @@
 -- The entries in the first slots of an array: their PIDs, one at a time, and one more entry. Assumes nothing.
-use Prim.Native.Nat.{ℕ, zero, suc, _+_, _≤_, _<_}
+use Prim.Native.Nat.{ℕ, _+_, _≤_, _<_}
 use mathlib.Core.Bool.{true, false}
 use mathlib.Core.Path.{_≡_, refl, ap, _∙_}
 use mathlib.Core.List.{List, [], _∷_, _++_, map}
@@ -7,7 +7,7 @@ use native.Mathlib.Omega.{arith}
 use native.Mathlib.Numerals.{add-one}
 use borrow.Author.Tests.{eq-eqb, ne-eqb}
 use lib.Dec.{eqb}
-use lib.ListN.{length, take, drop, getD, set, drop-of-length-le, length-take, length-map, List·getD-append}
+use lib.ListN.{length, take, drop, getD, set, drop-of-length-le, length-take}
 use lib.Seq.{drop-cons, getD-take}
 use Rattle.lists.specs.Lists.{any}
 use Rattle.pmt.specs.Pmt.{MapEntry, pids}
@@ -62,14 +62,3 @@ set-next (x ∷ es) e (a ∷ all) h = ap (λ (l : List Entry). listed x ∷ l) (
 pub slots-set : (es : List MapEntry) (e : MapEntry) → length es < 12 → set (slots es) (length es) (listed e) ≡ slots (es ++ (e ∷ []))
 unfolding slots
 slots-set es e h = set-next es e noEntries h
-
--- the entry in a slot
-pub slot-entry : (es : List MapEntry) (i : ℕ) (d : Entry) (x : MapEntry) → i < length es → getD (slots es) i d ≡ listed (getD es i x)
-unfolding slots
-slot-entry es i d x h =
-    List·getD-append (map listed es) (drop (length es) noEntries) d i (simp length-map (omega arith)) ∙ at es i h
-  where
-    at : (l : List MapEntry) (k : ℕ) → k < length l → getD (map listed l) k d ≡ listed (getD l k x)
-    at [] k g = absurd (omega arith)
-    at (e ∷ l) zero g = refl
-    at (e ∷ l) (suc k) g = at l k (omega arith)

@@ -69,15 +69,16 @@ pub record Turned (edition : Edition) (mapPid : ℕ) (s : Bytes) (entries : List
   pub known : av1 ≡ withAll edition before 0 Missing
   pub rest : pmt.entries mapPid s ≡ entriesAfter (mostEntries - count) mapPid before (drop at s)
 
-pub turn-start : {edition : Edition} (mapPid : ℕ) (s : Bytes) → Turned edition mapPid s noEntries Missing 0 0
+pub turn-start : {edition : Edition} {entries : List Entry} (mapPid : ℕ) (s : Bytes) → entries ≡ noEntries
+    → Turned edition mapPid s entries Missing 0 0
 unfolding slots withAll
-turn-start mapPid s =
+turn-start mapPid s e =
     record {
       within = omega arith;
       few = omega arith;
       before = [];
       counted = refl;
-      slotted = refl;
+      slotted = e;
       known = refl;
       rest = refl;
     }

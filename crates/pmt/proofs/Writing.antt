@@ -1,10 +1,10 @@
 -- The PMT that the segment writer writes is read as the caller gave it: `pmt-read`. Assumes nothing.
 use Prim.Native.Nat.{ℕ, _+_, _*_, _/_, _%_, _^_, _≤_}
-use mathlib.Core.Bool.{Bool, true, false, not}
+use mathlib.Core.Bool.{false, not}
 use mathlib.Core.Path.{_≡_, refl, sym, ap, ap₂, _∙_, subst}
 use mathlib.Core.List.{[], _∷_, _++_}
 use native.Mathlib.Omega.{arith}
-use borrow.Author.Tests.{eq-eqb, ne-eqb, le-ltb, eqb-true}
+use borrow.Author.Tests.{eq-eqb, ne-eqb, le-ltb, eqb-true, not-false}
 use lib.Dec.{ltb}
 use lib.ListN.{length, drop, drop-of-length-le}
 use Rattle.lists.specs.Lists.{Bytes, pick, same, any, those}
@@ -36,10 +36,6 @@ six d e =
     next3 d 0 (omega arith) ∙ ap (λ (l : Bytes). byte d 0 ∷ byte d 1 ∷ byte d 2 ∷ l)
     (next3 d 3 (omega arith) ∙ ap (λ (l : Bytes). byte d 3 ∷ byte d 4 ∷ byte d 5 ∷ l) (drop-of-length-le d {i = 6} (omega arith)))
     ∙ ap₂ (λ (x y : ℕ). x ∷ y ∷ byte d 2 ∷ byte d 3 ∷ byte d 4 ∷ byte d 5 ∷ []) t z
-  where
-    not-false : (b : Bool) → not b ≡ false → b ≡ true
-    not-false true e = refl
-    not-false false e = sym e
 
 module _ (program mapPid pid a b c f : ℕ) (p0 : pid ≡ 0 → ⊥) (high : pid ≤ 0x1FFE) (p2 : pid ≡ mapPid
     → ⊥) (fine : wrong (0x80 ∷ 0x04 ∷ a ∷ b ∷ c ∷ f ∷ []) ≡ false) where

@@ -4,6 +4,7 @@ ghost use Prim.Native.Nat.{_≤_};
 ghost use lib.Dec.{eqb};
 ghost use Rattle.lists.specs.Lists.{any};
 ghost use Rattle.descriptor.specs.Naming.{editionSays};
+ghost use Rattle.pmt.specs.Answer.{noEntries};
 ghost use Rattle.pmt.specs.Pmt.{pidField, lengthField, pidWrong};
 ghost use Rattle.pmt.specs.Parts.{kindFrom, pidsIn, triedSays, triedEntry, withKind, listSays, listRead};
 use crate::loops::Found;
@@ -24,6 +25,17 @@ const AV1_STREAM_TYPE: u8 = 0x06;
 pub struct Entry {
     pub pid: u16,
     pub stream_type: u8,
+}
+
+// Slots that no entry has filled.
+fn no_entries() -> [Entry; 12]
+    ensures { λ r. ⌜ r ≡ noEntries ⌝ }
+{
+    let none = Entry {
+        pid: 0,
+        stream_type: 0,
+    };
+    [none; 12]
 }
 
 // What an entry is to 28: another, an AV1 entry that is right, or one against the rule.
@@ -185,11 +197,7 @@ fn with_kind(kind: Kind, slot: usize, av1: Av1) -> Av1
 pub(crate) fn list_entries(edition: Edition, s: &[u8], map_pid: u16) -> Listed
     ensures { λ r. ⌜ listSays r ≡ listRead (editionSays edition) «map_pid» (now (s .entry)) ⌝ }
 {
-    let none = Entry {
-        pid: 0,
-        stream_type: 0,
-    };
-    let mut entries = [none; 12];
+    let mut entries = no_entries();
     let mut av1 = Av1::Missing;
     let mut count: usize = 0;
     let mut at: usize = 0;

@@ -1,6 +1,6 @@
 // The state of a replay.
 ghost use mathlib.Core.Path.{_≡_};
-ghost use Rattle.replay.specs.Replay.{fresh, lastRight, aboveRight, valid};
+ghost use Rattle.replay.specs.Replay.{lastRight, aboveRight, valid};
 use ticks::Ticks27;
 
 // The most arrivals since the fresh state.
@@ -31,21 +31,6 @@ pub struct State {
     pub last: Last,
     pub arrivals: u64,
     pub above: Above,
-}
-
-impl State {
-    // Before any arrival.
-    pub fn fresh() -> State
-        ensures { λ r. ⌜ r ≡ fresh ⌝ }
-    {
-        State {
-            fill: 0,
-            highest: 0,
-            last: Last::Never,
-            arrivals: 0,
-            above: Above::Never,
-        }
-    }
 }
 
 // Whether a last time goes with the number of arrivals.

@@ -11,6 +11,7 @@ use lib.Seq.{length-take-le, take-all}
 use Rattle.lists.specs.Lists.{Bytes, pick, those, over}
 use Rattle.lists.proofs.Elements.{those-first, those-others}
 use Rattle.lists.proofs.Parts.{tail-prefix}
+use Rattle.lists.proofs.Picks.{by-true, by-false}
 use Rattle.lists.proofs.Tests.{case, clash}
 use Rattle.refusal.specs.Verdict.{Verdict, passed, refused, NoValue, given}
 use Rattle.refusal.proofs.Verdicts.{follows, stops, not-given, passed-after, given-passed, All}
@@ -33,7 +34,7 @@ use Rattle.unit.proofs.Accepted.{tsobu-obu}
 use Rattle.tsobu.proofs.TsObus.{Passes, tsobu-refused, tsobu-passed}
 use Rattle.salvage.specs.Salvage.{salvageRefusal, passes, keeps, salvaged, closes, markBy, mark}
 use Rattle.salvage.specs.declared.One.{One}
-use Rattle.salvage.specs.Parts.{form, forms, keptOf, kindsOf, bytesOf, OneOf}
+use Rattle.salvage.specs.Parts.{form, forms, keptOf, kindsOf, bytesOf, droppedOne, keptOne, OneOf}
 use Rattle.salvage.proofs.Closing.{rewritten}
 
 -- ---- one tsOBU
@@ -109,7 +110,7 @@ kept-one p e = ap (map unescape) (those-first keeps p [] e)
 
 -- ---- what a tsOBU gives
 pub given-dropped : (p : Bytes) (number place : ℕ) → salvageRefusal p ≡ refused number place
-    → OneOf p (record { mark = number; bytes = 0; kept = 0; kind = 0; size = 0 })
+    → OneOf p (droppedOne number)
 unfolding sum
 given-dropped p number place e =
     let none = kept-none p (ap passes e) in
@@ -143,7 +144,7 @@ module _ (p : Bytes) (e : salvageRefusal p ≡ passed tt) (kind size : ℕ) (k :
   size-within : size ≤ length p
   size-within = omega (arith, z, given-or-dropped p)
 
-  pub given-closed : closes p ≡ true → OneOf p (record { mark = 1; bytes = length p + 2; kept = 1; kind = kind; size = size })
+  given-closed : closes p ≡ true → OneOf p (record { mark = 1; bytes = length p + 2; kept = 1; kind = kind; size = size })
   given-closed c =
       let f = closed-form p e c in
       let some = closes-some p c in
@@ -159,7 +160,7 @@ module _ (p : Bytes) (e : salvageRefusal p ≡ passed tt) (kind size : ℕ) (k :
         within = size-within;
       }
 
-  pub given-plain : closes p ≡ false → OneOf p (record { mark = 0; bytes = length p + 3; kept = 1; kind = kind; size = size })
+  given-plain : closes p ≡ false → OneOf p (record { mark = 0; bytes = length p + 3; kept = 1; kind = kind; size = size })
   given-plain c =
       let f = plain-form p e c in
       let n : length p ≤ length p + 3 - 3 = omega arith in
@@ -173,6 +174,13 @@ module _ (p : Bytes) (e : salvageRefusal p ≡ passed tt) (kind size : ℕ) (k :
         size = size-is;
         within = size-within;
       }
+
+  pub given-kept : OneOf p (keptOne p kind size)
+  unfolding keptOne
+  given-kept =
+      case (closes p)
+      (λ c. subst (OneOf p) (by-true _ c refl) (given-closed c))
+      (λ c. subst (OneOf p) (by-false _ c refl) (given-plain c))
 
 -- ---- the result is what each gives, in turn
 pub form-yes : (p : Bytes) → keeps p ≡ true → 0 ∷ 0 ∷ 1 ∷ escape (unescape p) ≡ form p
@@ -242,10 +250,9 @@ kept-fine (p ∷ ps) =
 
 -- ---- one tsOBU, by the answer on its payload
 module _ (p : Bytes) (q : TsObu) (e : tsobuSays q ≡ tsobuFigures p) where
-  pub judged-refused : (r : Refused) → q ≡ tsobu.Refused r → (n : ℕ) → n ≡ numberOf (r .why)
-      → OneOf p (record { mark = n; bytes = 0; kept = 0; kind = 0; size = 0 })
+  pub judged-refused : (r : Refused) → q ≡ tsobu.Refused r → (n : ℕ) → n ≡ numberOf (r .why) → OneOf p (droppedOne n)
   judged-refused r k n f =
-      subst (λ (m : ℕ). OneOf p (record { mark = m; bytes = 0; kept = 0; kind = 0; size = 0 })) (sym f)
+      subst (λ (m : ℕ). OneOf p (droppedOne m)) (sym f)
       (given-dropped p (numberOf (r .why)) (r .place) (refused-here p (numberOf (r .why)) (r .place) (tsobu-refused p q r e k)))
 
   module _ (f : Figures) (k : q ≡ tsobu.Passed f) where
@@ -261,7 +268,7 @@ module _ (p : Bytes) (q : TsObu) (e : tsobuSays q ≡ tsobuFigures p) where
     pub judged-kind : (n : ℕ) → n ≡ kindNumber (f .header) → n ≡ numberSaid (headerOf (unescape p))
     judged-kind n g = g ∙ sym (ap numberSaid (judged-as .header))
 
-    pub judged-large : mostObuBytes < length p - f .dropped → OneOf p (record { mark = 2; bytes = 0; kept = 0; kind = 0; size = 0 })
+    pub judged-large : mostObuBytes < length p - f .dropped → OneOf p (droppedOne 2)
     judged-large h = given-dropped p 2 0 (too-large p (judged-as .tries) (omega (arith, judged-size)))
 
     pub judged-passes : length p - f .dropped ≤ mostObuBytes → salvageRefusal p ≡ passed tt

@@ -17,7 +17,7 @@ use Rattle.tsobu.proofs.Places.{before, before-ends, before-rest}
 use Rattle.salvage.specs.Salvage.{passes, kept, salvaged, mark, marks, leading, accepted, figures, salvaging}
 use Rattle.salvage.specs.declared.Figures.{Figures}
 use Rattle.salvage.specs.declared.Measured.{Measured}
-use Rattle.salvage.specs.Parts.{Begins, forms, keptOf, MeasuredOf, acceptable}
+use Rattle.salvage.specs.Parts.{Begins, forms, keptOf, MeasuredOf, acceptable, Ready}
 use Rattle.salvage.proofs.Forms.{salvaged-is, kept-next, kept-few, kept-fine}
 use Rattle.salvage.proofs.Accepting.{accepted-is}
 
@@ -149,9 +149,9 @@ module _ {u body : Bytes} {at : ℕ} {m : Measured} (f : Found u body at m) (out
     marks-all r j =
         refused-all u out room r (short-marks u (length out) (length room) (f .within) (many-is false k) (omega (arith, count-is)))
 
-    pub put-asked : m .bytes ≤ length out → m .count ≤ length room
-        → (Begins body × MeasuredOf body m × (m .more ≡ false)) × ((m .bytes ≤ length out) × (m .count ≤ length room))
-    put-asked i j = ((body-place u body at (f .first) (f .rest), f .measured, k), (i, j))
+    pub put-asked : m .bytes ≤ length out → m .count ≤ length room → Ready body m out room
+    put-asked i j =
+        record { begins = body-place u body at (f .first) (f .rest); measured = f .measured; all = k; bytes = i; count = j }
 
     pub put-all : m .bytes ≤ length out → m .count ≤ length room → (ok : Bool) (after : Bytes) (marked : List ℕ)
         → ok ≡ acceptable (m .kept) (m .size) (take (m .kept) (m .kinds)) → after ≡ over (forms (payloads body)) out

@@ -12,7 +12,7 @@ use Rattle.obu.specs.Header.{headerOf}
 use Rattle.obu.specs.Order.{numberSaid, kindOfNumber, orderRefusal}
 use Rattle.unit.specs.Unit.{mostObus, mostObuBytes, sum}
 use Rattle.tsobu.specs.StartCodes.{atStartCode, payloads}
-use Rattle.salvage.specs.Salvage.{passes, keeps, mark}
+use Rattle.salvage.specs.Salvage.{passes, keeps, closes, mark}
 use Rattle.salvage.specs.declared.One.{One}
 use Rattle.salvage.specs.declared.Measured.{Measured}
 
@@ -38,6 +38,16 @@ kindsOf obus = map (λ obu. numberSaid (headerOf obu)) obus
 abbrev pub bytesOf : List Bytes → ℕ
 bytesOf obus = sum (map length obus)
 
+-- one that is dropped with this number
+abbrev pub droppedOne : ℕ → One
+droppedOne number = record { mark = number; bytes = 0; kept = 0; kind = 0; size = 0 }
+
+-- one that is kept, without its closing 03; its OBU has a kind of this number and so many bytes
+unfoldable pub keptOne : Bytes → ℕ → ℕ → One
+keptOne payload kind size =
+    pick (closes payload) (record { mark = 1; bytes = length payload + 2; kept = 1; kind = kind; size = size })
+    (record { mark = 0; bytes = length payload + 3; kept = 1; kind = kind; size = size })
+
 -- a tsOBU's mark, how many bytes it gives, and of its OBU, where that is kept, the number of its kind and its bytes
 pub record OneOf (payload : Bytes) (one : One) : Type 0 where
   pub mark : one .mark ≡ mark payload
@@ -60,6 +70,14 @@ pub record MeasuredOf (body : Bytes) (m : Measured) : Type 0 where
   pub kept : m .more ≡ false → m .kept ≡ length (keptOf (payloads body))
   pub kinds : m .more ≡ false → take (m .kept) (m .kinds) ≡ kindsOf (keptOf (payloads body))
   pub size : m .more ≡ false → m .size ≡ bytesOf (keptOf (payloads body))
+
+-- all tsOBUs of the string were measured, and there is room for the result and for the marks
+pub record Ready (body : Bytes) (m : Measured) (out marks : Bytes) : Type 0 where
+  pub begins : Begins body
+  pub measured : MeasuredOf body m
+  pub all : m .more ≡ false
+  pub bytes : m .bytes ≤ length out
+  pub count : m .count ≤ length marks
 
 -- the writer's string of so many OBUs, each of which passes, of so many bytes together and with these numbers of their
 -- kinds is accepted by reading (that this is so: proofs/Accepting.antt)

@@ -1,6 +1,5 @@
 // Salvaging a damaged unit (document 02, request 2026-10). The writer's form of a legal payload is the payload without
 // its closing 03, so that what is kept is only copied.
-ghost use mathlib.Core.Bool.{false};
 ghost use mathlib.Core.Path.{_≡_};
 ghost use mathlib.Core.List.{map};
 ghost use Prim.Native.Nat.{_≤_};
@@ -11,7 +10,8 @@ ghost use Rattle.refusal.specs.Number.{numberOf};
 ghost use Rattle.tsobu.specs.StartCodes.{payloads};
 ghost use Rattle.salvage.specs.Salvage.{closes as Salvage·closes, mark as Salvage·mark};
 ghost use Rattle.salvage.specs.Salvage.{marks as Salvage·marks, salvaged, salvaging, salvageSays};
-ghost use Rattle.salvage.specs.Parts.{Begins, form, forms, OneOf, MeasuredOf, acceptable};
+ghost use Rattle.salvage.specs.Parts.{Begins, form, forms, droppedOne, keptOne, OneOf, MeasuredOf, Ready};
+ghost use Rattle.salvage.specs.Parts.{acceptable};
 use lists::copy;
 use obu::Ordered;
 use refusal::Refusal;
@@ -75,6 +75,41 @@ fn closes(payload: &[u8]) -> bool
     payload[n - 1] == 3
 }
 
+// A tsOBU that is dropped with this number.
+fn drop_one(number: u8) -> One
+    ensures { λ r. ⌜ r ≡ droppedOne number ⌝ }
+{
+    One {
+        mark: number,
+        bytes: 0,
+        kept: 0,
+        kind: 0,
+        size: 0,
+    }
+}
+
+// A tsOBU that is kept, with the number of its OBU's kind and the OBU's bytes.
+fn keep_one(payload: &[u8], kind: u8, size: usize) -> One
+    ensures { λ r. ⌜ r ≡ keptOne (now (payload .entry)) kind size ⌝ }
+{
+    if closes(payload) {
+        return One {
+            mark: 1,
+            bytes: payload.len() + 2,
+            kept: 1,
+            kind,
+            size,
+        };
+    }
+    One {
+        mark: 0,
+        bytes: payload.len() + 3,
+        kept: 1,
+        kind,
+        size,
+    }
+}
+
 // One tsOBU, by its payload: 3, 10, 4, 5, 6, 42, and then 2.
 fn judge_one(payload: &[u8]) -> One
     ensures { λ r. ⌜ OneOf (now (payload .entry)) r ⌝ }
@@ -83,43 +118,16 @@ fn judge_one(payload: &[u8]) -> One
     match judged {
         TsObu::Refused(refused) => {
             let why = refused.why;
-            One {
-                mark: why.number(),
-                bytes: 0,
-                kept: 0,
-                kind: 0,
-                size: 0,
-            }
+            drop_one(why.number())
         }
         TsObu::Passed(figures) => {
             let header = figures.header;
             let size = payload.len() - figures.dropped;
             if MOST_OBU_BYTES < size {
-                return One {
-                    mark: 2,
-                    bytes: 0,
-                    kept: 0,
-                    kind: 0,
-                    size: 0,
-                };
+                return drop_one(2);
             }
             let kind = obu::kind_number(header);
-            if closes(payload) {
-                return One {
-                    mark: 1,
-                    bytes: payload.len() + 2,
-                    kept: 1,
-                    kind,
-                    size,
-                };
-            }
-            One {
-                mark: 0,
-                bytes: payload.len() + 3,
-                kept: 1,
-                kind,
-                size,
-            }
+            keep_one(payload, kind, size)
         }
     }
 }
@@ -225,8 +233,7 @@ fn is_accepted(count: usize, bytes: usize, kinds: [u8; MOST_OBUS]) -> bool
 
 // The result over the front of out and the marks over the front of marks, which have room.
 fn put(body: &[u8], measured: Measured, out: &mut [u8], marks: &mut [u8])
-    requires { ⌜ Begins (now body) × MeasuredOf (now body) measured × (measured .more ≡ false) ⌝ }
-    requires { ⌜ (measured .bytes ≤ length (now out)) × (measured .count ≤ length (now marks)) ⌝ }
+    requires { ⌜ Ready (now body) measured (now out) (now marks) ⌝ }
     ensures { λ _. ⌜ now (out .exit) ≡ over (forms (payloads (now (body .entry)))) (now (out .entry)) ⌝ }
     ensures { λ _. ⌜ now (marks .exit)
         ≡ over (map Salvage·mark (payloads (now (body .entry)))) (now (marks .entry)) ⌝ }

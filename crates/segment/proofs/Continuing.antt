@@ -1,5 +1,5 @@
--- A packet of the AV1 PID that goes on with the open PES, by its rules: its counter is right and it is no repeat, its payload stands behind what
--- is there (`one-goes`); and so each of a run of them (`goes`). Assumes nothing.
+-- A packet of the AV1 PID that goes on with the open PES, by its rules: its counter is right and it is no repeat, its payload stands
+-- behind what is there (`one-goes`); and so each of a run of them (`goes`). Assumes nothing.
 use Prim.Native.Nat.{ℕ, zero, suc, _+_, _-_, _*_, _/_, _%_, _≤_, _<_}
 use mathlib.Core.Bool.{Bool, true, false, not, _&&_, _||_, or-true, and-false}
 use mathlib.Core.Path.{_≡_, refl, sym, ap, ap₂, subst, _∙_}
@@ -9,7 +9,7 @@ use native.Mathlib.Omega.{arith}
 use native.Mathlib.Numerals.{add-one}
 use borrow.Author.Tests.{eq-eqb, ltb-true, ltb-false}
 use lib.Dec.{eqb, ltb}
-use lib.ListN.{length, getD, set, take, drop, length-append, length-drop, length-map, take-append-drop}
+use lib.ListN.{length, getD, set, take, drop, length-append, length-drop, take-append-drop}
 use lib.Seq.{getD-set-same, length-take-le}
 use Rattle.lists.specs.Lists.{Bytes, pick, over, placed}
 use borrow.Rule.Slice.PartMut.{midOf}
@@ -27,11 +27,12 @@ use Rattle.packet.specs.declared.counter.Last.the-variants as last
 use Rattle.packet.specs.declared.streams.Streams.{Streams}
 use Rattle.packet.specs.declared.streams.Slot.the-variants as slots
 use Rattle.packet.specs.Counter as counter
-use Rattle.packet.specs.Counter.{StreamRecord, namedStream, due, counterRight, sameBytes, copyOf, repeats, check, checkedIn, pidsOf, LastStands, Stands}
+use Rattle.packet.specs.Counter.{StreamRecord, namedStream, due, counterRight, sameBytes, copyOf, repeats, check, checkedIn, pidsOf}
+use Rattle.packet.specs.Counter.{LastStands, Stands}
 use Rattle.packet.specs.Streams.{listed, lookUp, pidsIn, recordAt, putBack}
 use Rattle.packet.proofs.Copies.{copy-not-due}
 use Rattle.packet.proofs.Counters.{checked-pids}
-use Rattle.packet.proofs.Slots.{put-listed, look-up-at}
+use Rattle.packet.proofs.Slots.{put-listed}
 use Rattle.packet.proofs.Recorded.{found-at}
 use Rattle.plain.specs.Runs.{nextCounter, goesOn, payloadLength, goingOn, payloads}
 use Rattle.plain.proofs.Places.{next-packet, no-packet, packet-length}
@@ -39,7 +40,8 @@ use Rattle.plain.proofs.Plains.{plain-passes, no-start, of-pid, counter-next, w
 use Rattle.plain.proofs.Following.{placed-more, going-bounded, going-none, going-next, going-full, going-stop}
 use Rattle.segment_rules.specs.State as state
 use Rattle.segment_rules.specs.State.{FirstPmt, State, kindOf, withTables, withRecords}
-use Rattle.segment_rules.specs.Rules.{inSequence, onTables, countingPcr, lastPcr, isPcr, clocked, checked, pesRules, isRepeat, unlessRepeat, unitOf, packetRules}
+use Rattle.segment_rules.specs.Rules.{inSequence, onTables, countingPcr, lastPcr, isPcr, clocked, checked, pesRules, isRepeat, unlessRepeat}
+use Rattle.segment_rules.specs.Rules.{unitOf, packetRules}
 use Rattle.segment_rules.specs.Check.{Outputs, outputsOf, roomsOf}
 use Rattle.segment_rules.specs.Named.{Named}
 use Rattle.segment_rules.proofs.Sequence.{not-repeated}
@@ -57,13 +59,15 @@ use Rattle.tables.specs.declared.tables.Tables.{Tables}
 use Rattle.tables.specs.Tables.{lastRepeated, streamsIn, RecordsStand, packetAt, TablesStand, SlotOf}
 use Rattle.tables.specs.Parts.{withListedRecord}
 use Rattle.tables.proofs.Standing.{pids-stand, stands-at, stands-set}
-use Rattle.tables.proofs.Counting.{kind-repeats}
-use Rattle.segment.specs.declared.state.PesFound.{PesFound}
-use Rattle.segment.specs.declared.state.PesSeen.{PesSeen}
-use Rattle.segment.specs.declared.state.PesSeen.the-variants as seen
-use Rattle.segment.specs.declared.extraction.Extraction.{Extraction}
-use Rattle.segment.specs.Parts.{UnitsStand, PayloadOf, StateStands, MayGoOn, lastAt, withLast, Pass}
-use Rattle.segment.proofs.Extracting.{adds-right}
+use Rattle.tables.proofs.Counting.{within as slot-within, listed-there, listed-put, kind-repeats}
+use Rattle.extraction.specs.declared.state.PesFound.{PesFound}
+use Rattle.extraction.specs.declared.state.PesSeen.{PesSeen}
+use Rattle.extraction.specs.declared.state.PesSeen.the-variants as seen
+use Rattle.extraction.specs.declared.units.Extraction.{Extraction}
+use Rattle.extraction.specs.Extraction.{UnitsStand, StateStands}
+use Rattle.extraction.specs.Parts.{PayloadOf}
+use Rattle.segment.specs.Parts.{MayGoOn, lastAt, withLast, Pass}
+use Rattle.extraction.proofs.Extracting.{adds-right}
 use Rattle.segment.proofs.Passing.{cons-first, cons-rest}
 
 -- ---- the counter
@@ -85,7 +89,8 @@ right-after : (q p : Bytes) (counter : ℕ) → continuityCounter q ≡ counter 
     → counterRight (some q) p ≡ true
 unfolding counterRight due pick
 right-after q p counter e h k =
-    ap (λ (b : Bool). discontinuityIndicator p || eqb (continuityCounter p) (pick b ((continuityCounter q + 1) % 16) (continuityCounter q))) h
+    ap (λ (b : Bool). discontinuityIndicator p || eqb (continuityCounter p)
+    (pick b ((continuityCounter q + 1) % 16) (continuityCounter q))) h
     ∙ ap (λ (b : Bool). discontinuityIndicator p || b)
     (eq-eqb (continuityCounter p) ((continuityCounter q + 1) % 16) (k ∙ ap (λ (n : ℕ). (n + 1) % 16) (sym e)))
     ∙ or-true (discontinuityIndicator p)
@@ -114,38 +119,19 @@ checks-right r q p e f g =
     sym (pass-on 24 (ap₂ (λ (x y : Bool). not (x || y)) right copy) refl) ∙ ap (λ (b : Bool). passed (latest r p b)) copy
 
 -- ---- the record put back
-within : (q : PatSeen) (m : PmtSeen) (c : Counters) (n i : ℕ) → lookUp n (pidsIn (streamsIn q m c)) ≡ slots.At (suc (suc i)) → i < length
-    (listed (c .listed))
-within q m c n i e = go q m (look-up-at n (pidsIn (streamsIn q m c)) (suc (suc i)) e .within)
+among-listed : (q : PatSeen) (m : PmtSeen) (c : Counters) (n i : ℕ) → lookUp n (pidsIn (streamsIn q m c)) ≡ slots.At (suc (suc i))
+    → i < length (listed (c .listed))
+among-listed q m c n i e = go q m (slot-within n (streamsIn q m c) (suc (suc i)) e)
   where
-    go : (q : PatSeen) (m : PmtSeen) → suc (suc i) < length (pidsIn (streamsIn q m c)) → i < length (listed (c .listed))
+    go : (q : PatSeen) (m : PmtSeen) → suc (suc i) < length (streamsIn q m c) → i < length (listed (c .listed))
     go pat.None m h = absurd (omega arith)
     go (pat.First f) pmt.None h = absurd (omega arith)
-    go (pat.First f) (pmt.First g) h = omega (arith, length-map (listed (c .listed)) (λ (s : Stream). s .pid))
-
-listed-there : (q : PatSeen) (m : PmtSeen) (c : Counters) (n i : ℕ) → lookUp n (pidsIn (streamsIn q m c)) ≡ slots.At (suc (suc i))
-    → recordAt (c .listed) i ≡ getD (streamsIn q m c) (suc (suc i)) (namedStream 0)
-listed-there q m c n i e = go q m (look-up-at n (pidsIn (streamsIn q m c)) (suc (suc i)) e .within)
-  where
-    go : (q : PatSeen) (m : PmtSeen) → suc (suc i) < length (pidsIn (streamsIn q m c))
-        → recordAt (c .listed) i ≡ getD (streamsIn q m c) (suc (suc i)) (namedStream 0)
-    go pat.None m h = absurd (omega arith)
-    go (pat.First f) pmt.None h = absurd (omega arith)
-    go (pat.First f) (pmt.First g) h = refl
-
-listed-put : (q : PatSeen) (m : PmtSeen) (c : Counters) (n i : ℕ) → lookUp n (pidsIn (streamsIn q m c)) ≡ slots.At (suc (suc i))
-    → (s : Stream) → streamsIn q m (withListedRecord c i s) ≡ set (streamsIn q m c) (suc (suc i)) s
-listed-put q m c n i e s = go q m (look-up-at n (pidsIn (streamsIn q m c)) (suc (suc i)) e .within)
-  where
-    go : (q : PatSeen) (m : PmtSeen) → suc (suc i) < length (pidsIn (streamsIn q m c))
-        → streamsIn q m (withListedRecord c i s) ≡ set (streamsIn q m c) (suc (suc i)) s
-    go pat.None m h = absurd (omega arith)
-    go (pat.First f) pmt.None h = absurd (omega arith)
-    go (pat.First f) (pmt.First g) h = ap (λ (l : List Stream). c .pat ∷ c .map ∷ l) (put-listed (c .listed) i s)
+    go (pat.First f) (pmt.First g) h = omega arith
 
 put-there : (c : Counters) (i : ℕ) (s : Stream) → i < length (listed (c .listed)) → recordAt (putBack (c .listed) i s) i ≡ s
 put-there c i s h =
-    ap (λ (l : List Stream). getD l i (namedStream 0)) (put-listed (c .listed) i s) ∙ getD-set-same (listed (c .listed)) i s (namedStream 0) h
+    ap (λ (l : List Stream). getD l i (namedStream 0)) (put-listed (c .listed) i s)
+    ∙ getD-set-same (listed (c .listed)) i s (namedStream 0) h
 
 set-twice : (l : List Stream) (i : ℕ) (a b : Stream) → set (set l i a) i b ≡ set l i b
 set-twice [] i a b = refl
@@ -227,7 +213,8 @@ no-unit x x′ (same-units e) h = e
 no-unit x x′ (one-more o at e) h = absurd (omega (arith, h, ap length e, length-append (x .units) (unitOf o ∷ [])))
 
 module _ (edition : Edition) (segment : Bytes) (before : Outputs) (lens times : List ℕ) (n i : ℕ) (f : PesFound) where
-  module _ (out : List ℕ) (c : Tables) (e : Extraction) (st : State) (s : StateStands edition segment before (outputsOf out lens times) c e st)
+  module _ (out : List ℕ) (c : Tables) (e : Extraction) (st : State)
+      (s : StateStands edition segment before (outputsOf out lens times) c e st)
       (last : ℕ) (r : Ready c e st n i last f) (k : ℕ) (g : goesOn n last (packetAt segment k) ≡ true) where
     abbrev p : Bytes
     p = packetAt segment k
@@ -249,11 +236,12 @@ module _ (edition : Edition) (segment : Bytes) (before : Outputs) (lens times : 
         ap₂ lookUp (of-pid n last p g) (sym (pids-stand segment streams (st .tables .records) (s .tables .records))) ∙ r .slot
 
     inside : i < length (listed (c .counters .listed))
-    inside = within (c .pat) (c .pmt) (c .counters) n i (r .slot)
+    inside = among-listed (c .pat) (c .pmt) (c .counters) n i (r .slot)
 
     stands : Stands segment stream old
     stands =
-        subst (λ (x : Stream). Stands segment x old) (sym (listed-there (c .pat) (c .pmt) (c .counters) n i (r .slot)))
+        subst (λ (x : Stream). Stands segment x old) (sym (listed-there (c .pat) (c .pmt) (c .counters) i
+        (slot-within n (streamsIn (c .pat) (c .pmt) (c .counters)) (suc (suc i)) (r .slot))))
         (stands-at segment streams (st .tables .records) (suc (suc i)) (s .tables .records))
 
     -- its counter is right, and it is no copy
@@ -280,7 +268,7 @@ module _ (edition : Edition) (segment : Bytes) (before : Outputs) (lens times : 
 
     records-stand : RecordsStand segment (streamsIn (c .pat) (c .pmt) (withListedRecord (c .counters) i next)) after-it
     records-stand =
-        subst (λ (l : List Stream). RecordsStand segment l after-it) (sym (listed-put (c .pat) (c .pmt) (c .counters) n i (r .slot) next))
+        subst (λ (l : List Stream). RecordsStand segment l after-it) (sym (listed-put (c .pat) (c .pmt) (c .counters) i next))
         (stands-set segment streams (st .tables .records) (suc (suc i)) next new (s .tables .records)
         (stands .0, (sym (counter-next n last p g), refl, refl)))
 
@@ -296,7 +284,8 @@ module _ (edition : Edition) (segment : Bytes) (before : Outputs) (lens times : 
         none-counts : (m : Option FirstPmt) → countingPcr m p ≡ clock.None
         none-counts none = refl
         none-counts (some m) =
-            ap (λ (x : Clock). pick (eqb (pid p) (m .says .pcrPid)) x clock.None) (no-pcr n last p g) ∙ either (eqb (pid p) (m .says .pcrPid))
+            ap (λ (x : Clock). pick (eqb (pid p) (m .says .pcrPid)) x clock.None) (no-pcr n last p g)
+            ∙ either (eqb (pid p) (m .says .pcrPid))
 
     abbrev counts : State
     counts = withTables (withRecords after-it (clocked k p (st .tables))) st
@@ -330,7 +319,8 @@ module _ (edition : Edition) (segment : Bytes) (before : Outputs) (lens times : 
     no-repeat : isRepeat p counts ≡ false
     no-repeat =
         sym (kind-repeats segment (slot.Av1 i) (c .pat) (c .pmt) (withListedRecord (c .counters) i next) after-it records-stand (pid p)
-        (ap (λ (m : ℕ). lookUp m (pidsIn (streamsIn (c .pat) (c .pmt) (withListedRecord (c .counters) i next)))) (of-pid n last p g) ∙ still))
+        (ap (λ (m : ℕ). lookUp m (pidsIn (streamsIn (c .pat) (c .pmt) (withListedRecord (c .counters) i next))))
+        (of-pid n last p g) ∙ still))
         ∙ ap (λ (x : Stream). lastRepeated (x .last)) there
 
     rules : packetRules edition (roomsOf before) k p state.Av1 st ≡ inSequence (pesRules edition (roomsOf before) k p state.Av1) counts
@@ -349,12 +339,14 @@ module _ (edition : Edition) (segment : Bytes) (before : Outputs) (lens times : 
       after = withLast c i (nextCounter last) (k * packetLength)
 
       one-goes : (st′ : State) × (packetRules edition (roomsOf before) k p state.Av1 st ≡ passed st′)
-          × StateStands edition segment before (outputsOf (placed out (e .start + e .bytes) (payload p)) lens times) after (longer e payloadLength) st′
+          × StateStands edition segment before (outputsOf (placed out (e .start + e .bytes) (payload p)) lens times) after
+          (longer e payloadLength) st′
           × (st′ .extraction .units ≡ st .extraction .units)
           × Ready after (longer e payloadLength) st′ n i (nextCounter last) f
       unfolding kindOf
       one-goes =
-          let is : PayloadOf p false (payload p) = record { carries = with-payload n last p g; starts = no-start n last p g; same = refl } in
+          let is : PayloadOf p false (payload p) =
+          record { carries = with-payload n last p g; starts = no-start n last p g; same = refl } in
           let seen : isPcr (counts .tables .pcr) ≡ true = ap isPcr (sym unclocked) ∙ r .clock in
           let d = adds-right edition k p (payload p) counts is (s .extraction) f (r .opened) seen (omega (arith, long, room)) refl in
           let rule = rules ∙ d .1 in
@@ -362,7 +354,8 @@ module _ (edition : Edition) (segment : Bytes) (before : Outputs) (lens times : 
           (d .0 .extraction) =
           subst (λ (x : Extraction). UnitsStand before (outputsOf (placed out (e .start + e .bytes) (payload p)) lens times) x
           (d .0 .extraction))
-          (ap₂ (λ (x : PesSeen) (m : ℕ). record { pes = x; units = e .units; start = e .start; bytes = e .bytes + m }) (sym (r .opened)) long)
+          (ap₂ (λ (x : PesSeen) (m : ℕ). record { pes = x; units = e .units; start = e .start; bytes = e .bytes + m })
+          (sym (r .opened)) long)
           (d .2 .1) in (
             d .0,
             rule,
@@ -431,7 +424,8 @@ module _ (edition : Edition) (segment : Bytes) (before : Outputs) (lens times : 
         let c1 = withLast c i (nextCounter last) (k * packetLength) in
         let rest : Gone m (k + 1) out1 c1 (longer e payloadLength) (q .0) (nextCounter last) l =
         subst (λ (x : ℕ). Gone (goingOn x n (nextCounter last) l) (k + 1) out1 c1 (longer e payloadLength) (q .0) (nextCounter last) l) left
-        (later out1 c1 (longer e payloadLength) (q .0) (q .2) (nextCounter last) (q .4) behind (omega (arith, h)) (omega (arith, same, w))) in
+        (later out1 c1 (longer e payloadLength) (q .0) (q .2) (nextCounter last) (q .4) behind (omega (arith, h))
+        (omega (arith, same, w))) in
         let seam : e .start + (e .bytes + payloadLength) ≡ at + length (payload p) = omega (arith, size) in
         let bytes : e .bytes + payloadLength + m * payloadLength ≡ e .bytes + suc m * payloadLength = omega arith in
         record {
@@ -461,7 +455,8 @@ module _ (edition : Edition) (segment : Bytes) (before : Outputs) (lens times : 
       let here = sym d ∙ next-packet segment k within in
       let others : drop (k + 1) (packets segment) ≡ l =
       ap (λ (m : ℕ). drop m (packets segment)) (add-one k) ∙ sym (cons-rest here) in
-      subst (λ (x : Bytes). Gone (goingOn (length out - (e .start + e .bytes)) n last (x ∷ l)) k out c e st last (x ∷ l)) (sym (cons-first here))
+      subst (λ (x : Bytes). Gone (goingOn (length out - (e .start + e .bytes)) n last (x ∷ l)) k out c e st last (x ∷ l))
+      (sym (cons-first here))
       (go within others (goes l (k + 1))))
       (λ t. absurd (not-empty (sym (no-packet segment k (ltb-false k (length segment / packetLength) t)) ∙ d)))
     where
@@ -486,7 +481,8 @@ module _ (edition : Edition) (segment : Bytes) (before : Outputs) (lens times : 
 
 -- ---- the code
 -- the record of a slot put back
-pub put-last : (c : Tables) (i counter at : ℕ) (s : Stream) (l : Streams) → l ≡ putBack (c .counters .listed) i (packet-of (s .pid) counter at)
+pub put-last : (c : Tables) (i counter at : ℕ) (s : Stream) (l : Streams) →
+    l ≡ putBack (c .counters .listed) i (packet-of (s .pid) counter at)
     → s ≡ recordAt (c .counters .listed) i
     → record {
       edition = c .edition;
@@ -563,7 +559,8 @@ module _ (segment : Bytes) (k : ℕ) (c : Tables) (e : Extraction) (n i last : �
         let x = subst (λ (y : ℕ). Gone edition segment before lens times n i (may .opened .0) y k out c e st last l) (sym many) w in (
           x .reached,
           x .passes,
-          subst (λ (y : List ℕ). StateStands edition segment before (outputsOf y lens times) c′ (longer e (m * payloadLength)) (x .reached)) (sym f)
+          subst (λ (y : List ℕ). StateStands edition segment before (outputsOf y lens times) c′ (longer e (m * payloadLength)) (x .reached))
+              (sym f)
               (subst (λ (y : Tables). StateStands edition segment before
               (outputsOf (placed out (e .start + e .bytes) (payloads m l)) lens times) y (longer e (m * payloadLength)) (x .reached))
               (gone-some i m c last k some ∙ sym g) (x .stands)),

@@ -1,5 +1,6 @@
 -- 2026-04: what the check's outputs hold, cut by the lengths, are the accepted units, and the four bytes of the map are those of the video
--- descriptor; so the comparison of these is the one of the definition. Assumes nothing.
+-- descriptor; the sequence headers before the frames are all of them; so the comparison of these is the one of the definition. Assumes
+-- nothing.
 use Prim.Native.Nat.{ℕ}
 use mathlib.Core.Path.{_≡_, refl, sym, ap, ap₂, _∙_}
 use mathlib.Core.List.{List, [], _∷_, _++_, map, flatten, append-assoc}
@@ -10,11 +11,13 @@ use Rattle.lists.specs.Lists.{Bytes, over}
 use Rattle.refusal.specs.declared.Refused.{Refused}
 use Rattle.refusal.specs.Verdict.{Verdict, passed, refused, _>>=_}
 use Rattle.refusal.specs.Number.{refusedBy}
-use Rattle.refusal.proofs.Verdicts.{never, passed-same}
-use Rattle.unit.specs.Unit.{obusOf}
+use Rattle.refusal.proofs.Verdicts.{All, never, passed-same}
+use Rattle.unit.specs.Unit.{readUnit, obusOf}
 use Rattle.descriptor.specs.Descriptor.{fieldsOf}
 use Rattle.descriptor.specs.Edition.{Edition, editionOf}
 use Rattle.comparison.specs.declared.Disagreement.{Disagreement}
+use Rattle.comparison.specs.Comparison.{sequenceHeaders, headersBeforeFrame, firstFrom}
+use Rattle.comparison.proofs.Frames.{all-before-frame}
 use Rattle.pmt.specs.Pmt.{videoDescriptors}
 use Rattle.pmt.specs.Answer.{videoOf}
 use Rattle.pmt.specs.declared.loops.Video.{Video}
@@ -22,10 +25,13 @@ use Rattle.pmt.specs.declared.section.ProgramMap.{ProgramMap}
 use Rattle.segment_rules.specs.State.{AccessUnit}
 use Rattle.segment_rules.specs.Rules.{Rooms, carriedUnits}
 use Rattle.segment_rules.specs.Check.{Accepted, Outputs, checkSegment, checkIn, lengths, outputsAfter}
+use Rattle.segment_rules.proofs.Accepting.{units-accepted}
 use Rattle.segment_rules.specs.Comparison.{Answered, comparedWith, compared, checkCompared}
 use Rattle.segment.specs.declared.whole.Summary.{Summary}
-use Rattle.segment.specs.Answer.{summaryOf, summarised, checking, mapAfter, mapIn, mapChecked, disagreementOf}
-use Rattle.segment.specs.Parts.{disagreeing}
+use Rattle.segment.specs.declared.whole.SegmentCheck.{SegmentCheck}
+use Rattle.segment.specs.declared.whole.SegmentCheck.the-variants as checked
+use Rattle.segment.specs.Answer.{summaryOf, summarised, checking, mapAfter, mapIn, mapChecked, disagreementOf, checkSays}
+use Rattle.segment.specs.Parts.{disagreeing, disagreementIn}
 
 -- ---- strings back to back, cut by their lengths
 cut : (l : List Bytes) (rest : Bytes) → obusOf (map length l) (flatten l ++ rest) ≡ l
@@ -51,11 +57,22 @@ from-outputs us bytes lens n e =
     (take-at (lengths us) (drop (length (lengths us)) lens) n count ∙ lengths-of us)
     ∙ cut (map (λ u. u .carried) us) _
 
+-- ---- the sequence headers: in units that reading accepts all stand before the frame
+abbrev Read : AccessUnit → Type 0
+Read u = (l : List Bytes) × (readUnit (u .carried) ≡ passed l)
+
+same-headers : (us : List AccessUnit) → All Read us
+    → map headersBeforeFrame (map (λ u. u .carried) us) ≡ map sequenceHeaders (map (λ u. u .carried) us)
+same-headers [] h = refl
+same-headers (u ∷ us) h =
+    ap₂ (λ (x : List Bytes) (xs : List (List Bytes)). x ∷ xs) (all-before-frame (u .carried) (h .0 .0) (h .0 .1)) (same-headers us (h .1))
+
 -- ---- the four bytes
-video-compared : (ds : List Bytes) (us : List AccessUnit) → disagreeing (videoOf ds) (map (λ u. u .carried) us) ≡ comparedWith ds us
+video-compared : (ds : List Bytes) (us : List AccessUnit) → All Read us
+    → disagreeing (videoOf ds) (map (λ u. u .carried) us) ≡ comparedWith ds us
 unfolding disagreeing videoOf comparedWith fieldsOf
-video-compared [] us = refl
-video-compared (d ∷ ds) us = refl
+video-compared [] us h = refl
+video-compared (d ∷ ds) us h = ap (firstFrom 0 _) (same-headers us h)
 
 -- ---- the answer
 abbrev beside : Edition → Verdict Accepted → Verdict Answered
@@ -80,7 +97,7 @@ module _ (rooms : Rooms) (s : Bytes) where
   refused-in number place (passed edition) e = refused-beside edition number place (checkSegment edition rooms s) e
   refused-in number place (refused m i) e = refl
 
-  pub none-refused : (n : ℕ) (r : Refused) → refusedBy r ≡ checking n rooms s → none ≡ disagreementOf (checkCompared n rooms s)
+  none-refused : (n : ℕ) (r : Refused) → refusedBy r ≡ checking n rooms s → none ≡ disagreementOf (checkCompared n rooms s)
   unfolding checkIn checkCompared
   none-refused n r e = refused-in _ _ (editionOf n) e
 
@@ -89,28 +106,36 @@ module _ (rooms : Rooms) (s : Bytes) where
     abbrev found : Option Disagreement
     found = disagreeing (m .video) (obusOf (take (summary .units) (now .lens)) (now .bytes))
 
-    accepted-beside : (edition : Edition) (w : Verdict Accepted) → passed summary ≡ summarised w → m ≡ mapAfter edition w
+    accepted-beside : (edition : Edition) (w : Verdict Accepted) → checkSegment edition rooms s ≡ w → passed summary ≡ summarised w
+        → m ≡ mapAfter edition w
         → now ≡ outputsAfter w before
         → found ≡ disagreementOf (beside edition w)
     unfolding summarised _>>=_ mapAfter outputsAfter
-    accepted-beside edition (passed a) e f g =
+    accepted-beside edition (passed a) k e f g =
         let count : summary .units ≡ length (a .units) = ap (λ (x : Summary). x .units) (passed-same summary (summaryOf a) e) in
         ap₂ (λ (x : Video) (o : Outputs). disagreeing x (obusOf (take (summary .units) (o .lens)) (o .bytes)))
         (ap (λ (x : ProgramMap). x .video) f) g
         ∙ ap (disagreeing (videoOf (videoDescriptors edition (a .map .av1 .descriptors))))
         (from-outputs (a .units) (before .bytes) (before .lens) (summary .units) count)
-        ∙ video-compared (videoDescriptors edition (a .map .av1 .descriptors)) (a .units)
-    accepted-beside edition (refused number place) e f g = never (sym e)
+        ∙ video-compared (videoDescriptors edition (a .map .av1 .descriptors)) (a .units) (units-accepted edition rooms s a k)
+    accepted-beside edition (refused number place) k e f g = never (sym e)
 
     accepted-in : (v : Verdict Edition) → passed summary ≡ summarised (checks v) → m ≡ mapIn v rooms s
         → now ≡ outputsAfter (checks v) before
         → found ≡ disagreementOf (answers v)
     unfolding summarised _>>=_ mapIn
-    accepted-in (passed edition) e f g = accepted-beside edition (checkSegment edition rooms s) e f g
+    accepted-in (passed edition) e f g = accepted-beside edition (checkSegment edition rooms s) refl e f g
     accepted-in (refused number place) e f g = never (sym e)
 
-    pub found-accepted : (n : ℕ) → passed summary ≡ checking n rooms s → m ≡ mapChecked n rooms s
+    found-accepted : (n : ℕ) → passed summary ≡ checking n rooms s → m ≡ mapChecked n rooms s
         → now ≡ outputsAfter (checkIn n rooms s) before
         → found ≡ disagreementOf (checkCompared n rooms s)
     unfolding checkIn checkCompared
     found-accepted n e f g = accepted-in (editionOf n) e f g
+
+  -- either
+  pub found-beside : (a : SegmentCheck) (m : ProgramMap) (before now : Outputs) (n : ℕ) → checkSays a ≡ checking n rooms s
+      → m ≡ mapChecked n rooms s → now ≡ outputsAfter (checkIn n rooms s) before
+      → disagreementIn a (m .video) (now .bytes) (now .lens) ≡ disagreementOf (checkCompared n rooms s)
+  found-beside (checked.Accepted summary) m before now n e f g = found-accepted summary m before now n e f g
+  found-beside (checked.Refused r) m before now n e f g = none-refused n r e

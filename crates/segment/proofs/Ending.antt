@@ -21,7 +21,8 @@ use Rattle.segment_rules.specs.State as state
 use Rattle.segment_rules.specs.State.{FirstPat, FirstPmt, AccessUnit}
 use Rattle.segment_rules.specs.Rules.{closePes}
 use Rattle.packet.specs.Header.{packets}
-use Rattle.segment_rules.specs.Check.{Accepted, Progress, Outputs, outputsOf, start, run, segmentLengthWrong, accepted, ending, checkSegment, roomsOf, holding, holdingFirsts, outputsAfter, firstsAfter}
+use Rattle.segment_rules.specs.Check.{Accepted, Progress, Outputs, outputsOf, start, run, segmentLengthWrong, accepted, ending}
+use Rattle.segment_rules.specs.Check.{checkSegment, roomsOf, holding, holdingFirsts, outputsAfter, firstsAfter}
 use Rattle.segment_rules.proofs.Growing.{close-grows}
 use Rattle.segment_rules.proofs.Running.{index-totals, length-packets}
 use Rattle.tables.specs.declared.state.Outcome.the-variants as outcome
@@ -34,18 +35,19 @@ use Rattle.tables.specs.Tables.{Turns, TablesStand}
 use Rattle.tables.proofs.Turning.{refused-turn, passed-turn}
 use Rattle.tables.proofs.Standing.{no-pat-yet, pat-yet, no-pmt-yet, pmt-yet}
 use Rattle.tables.proofs.Mapping.{av1-slot}
-use Rattle.segment.specs.declared.state.PesSeen.the-variants as seen
-use Rattle.segment.specs.declared.extraction.Extraction.{Extraction}
-use Rattle.segment.specs.declared.extraction.ExtractionTurn.{ExtractionTurn}
+use Rattle.extraction.specs.declared.state.PesSeen.the-variants as seen
+use Rattle.extraction.specs.declared.units.Extraction.{Extraction}
+use Rattle.extraction.specs.declared.units.ExtractionTurn.{ExtractionTurn}
 use Rattle.segment.specs.declared.whole.Summary.{Summary}
 use Rattle.segment.specs.declared.whole.Ran.{Ran}
 use Rattle.segment.specs.declared.whole.SegmentCheck.{SegmentCheck}
 use Rattle.segment.specs.declared.whole.SegmentCheck.the-variants as checked
 use Rattle.segment.specs.declared.whole.Checked.{Checked}
 use Rattle.segment.specs.Answer.{summaryOf, summarised, mapAfter, checkSays}
-use Rattle.segment.specs.Parts.{UnitsStand, StateStands, RunTurn, AnswerTurn, CheckedTurn, WholeTurn, firstNoted, AcceptedFirsts}
-use Rattle.segment.proofs.Holding.{closed-outputs}
-use Rattle.segment.proofs.Firsts.{notes}
+use Rattle.extraction.specs.Extraction.{UnitsStand, StateStands, firstNoted}
+use Rattle.segment.specs.Parts.{RunTurn, AnswerTurn, CheckedTurn, WholeTurn, AcceptedFirsts}
+use Rattle.extraction.proofs.Holding.{closed-outputs}
+use Rattle.extraction.proofs.Firsts.{notes}
 
 -- ---- 20, part by part
 pub no-bytes : (s : Bytes) → length s ≡ 0 → true ≡ segmentLengthWrong s
@@ -87,7 +89,8 @@ module _ {edition : Edition} {segment : Bytes} {c : Tables} {t : state.Tables} (
         e ∙ ap (λ (x : ProgramMap). getD (x .entries) (x .av1) noEntry .pid) (m .2 .says) ∙ av1-slot edition (m .0 .says .entries)
         (m .0 .says .av1) (m .2 .one) in
         ap₂ (λ (x y : ℕ). passed (record { program = f .says .number; pid = x; units = y; totals = totals })) there l
-        ∙ ap₂ (λ (p : Option FirstPat) (q : Option FirstPmt). summarised (accepted n p q us totals)) (sym (pat-yet s f h)) (sym (m .1))
+        ∙ ap₂ (λ (p : Option FirstPat) (q : Option FirstPmt). summarised (accepted n p q us totals))
+        (sym (pat-yet s f h)) (sym (m .1))
 
   -- the map beside it
   abbrev beside : ProgramMap
@@ -110,7 +113,8 @@ module _ {edition : Edition} {segment : Bytes} {c : Tables} {t : state.Tables} (
     map-with-both g k =
         let m = pmt-yet s g k in
         m .2 .says
-        ∙ ap₂ (λ (p : Option FirstPat) (q : Option FirstPmt). mapAfter edition (accepted n p q us totals)) (sym (pat-yet s f h)) (sym (m .1))
+        ∙ ap₂ (λ (p : Option FirstPat) (q : Option FirstPmt). mapAfter edition (accepted n p q us totals))
+        (sym (pat-yet s f h)) (sym (m .1))
 
 -- ---- an answer and the outputs
 -- what acceptance gives are these units

@@ -1,10 +1,6 @@
 pub mod Continuing
 pub mod Editions
 pub mod Ending
-pub mod Extracting
-pub mod Firsts
-pub mod Holding
 pub mod Looping
 pub mod Passing
-pub mod Stepping
 pub mod Disagreeing

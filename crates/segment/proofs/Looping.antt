@@ -33,14 +33,15 @@ use Rattle.tables.specs.declared.tables.Tables.{Tables}
 use Rattle.tables.specs.Tables.{Turns, freshTables, kindSays, packetAt}
 use Rattle.tables.proofs.Turning.{turn-refused, refused-turn, passed-turn}
 use Rattle.tables.proofs.Standing.{tables-start}
-use Rattle.segment.specs.declared.extraction.Extraction.{Extraction}
-use Rattle.segment.specs.declared.packets.Stepped.{Stepped}
+use Rattle.extraction.specs.declared.units.Extraction.{Extraction}
+use Rattle.extraction.specs.declared.packets.Stepped.{Stepped}
 use Rattle.segment.specs.declared.whole.Ran.{Ran}
 use Rattle.descriptor.specs.Naming.{editionSays}
 use Rattle.descriptor.specs.declared.edition.Edition.{Edition as EditionName}
-use Rattle.segment.specs.Parts.{freshExtraction, StateStands, PacketTurn, RunTurn, firstNoted, RunFirsts}
-use Rattle.segment.proofs.Holding.{units-start}
-use Rattle.segment.proofs.Firsts.{none-held, notes}
+use Rattle.extraction.specs.Extraction.{freshExtraction, StateStands, PacketTurn, firstNoted}
+use Rattle.segment.specs.Parts.{RunTurn, RunFirsts}
+use Rattle.extraction.proofs.Holding.{units-start}
+use Rattle.extraction.proofs.Firsts.{none-held, notes}
 
 -- "over 65,535 packets" is one of the parts of 20
 pub count-within : (s : Bytes) → segmentLengthWrong s ≡ false → length s / packetLength ≤ 65535

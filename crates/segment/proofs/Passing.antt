@@ -29,9 +29,10 @@ use Rattle.segment_rules.proofs.ByKind.{null-packet}
 use Rattle.segment_rules.proofs.Running.{counting-one}
 use Rattle.tables.specs.declared.tables.Tables.{Tables}
 use Rattle.tables.specs.Tables.{packetAt}
-use Rattle.segment.specs.declared.extraction.Extraction.{Extraction}
+use Rattle.extraction.specs.declared.units.Extraction.{Extraction}
 use Rattle.segment.specs.declared.going.Went.{Went}
-use Rattle.segment.specs.Parts.{StateStands, Pass, GoOnTurn}
+use Rattle.extraction.specs.Extraction.{StateStands}
+use Rattle.segment.specs.Parts.{Pass, GoOnTurn}
 use Rattle.segment.proofs.Looping.{Running}
 
 -- ---- so many packets of a kind more

@@ -6,7 +6,7 @@ ghost use Rattle.comparison.specs.Comparison.{disagreedSays};
 ghost use Rattle.segment_rules.specs.Check.{outputsOf, roomsOf, outputsAfter, checkIn};
 ghost use Rattle.segment_rules.specs.Comparison.{checkCompared};
 ghost use Rattle.segment.specs.Answer.{checking, mapChecked, disagreementOf, checkSays};
-ghost use Rattle.segment.specs.Parts.{disagreeing};
+ghost use Rattle.segment.specs.Parts.{disagreeing, disagreementIn};
 use crate::whole::SegmentCheck;
 use crate::whole::check;
 use comparison::Disagreed;
@@ -38,6 +38,17 @@ fn compare(video: Video, out: &[u8], lens: &[usize], units: usize) -> Disagreed
     }
 }
 
+// Of an accepted segment, whose units and lengths stand in these outputs, the first disagreement; none where it is
+// refused.
+fn disagreement_of(answer: SegmentCheck, video: Video, out: &[u8], lens: &[usize]) -> Disagreed
+    ensures { λ r. ⌜ disagreedSays r ≡ disagreementIn answer video (now (out .entry)) (now (lens .entry)) ⌝ }
+{
+    match answer {
+        SegmentCheck::Refused(_) => Disagreed::None,
+        SegmentCheck::Accepted(summary) => compare(video, out, lens, summary.units),
+    }
+}
+
 // The check of a segment as `check` makes it, with the comparison of what it accepts.
 pub fn check_compared(
     edition: u64,
@@ -61,20 +72,11 @@ pub fn check_compared(
     let checked = check(edition, segment, out, lens, times, &mut none);
     let answer = checked.answer;
     let map = checked.map;
-    match answer {
-        SegmentCheck::Refused(_) => Answered {
-            answer,
-            map,
-            disagreement: Disagreed::None,
-        },
-        SegmentCheck::Accepted(summary) => {
-            let video = map.video;
-            let disagreement = compare(video, out, lens, summary.units);
-            Answered {
-                answer,
-                map,
-                disagreement,
-            }
-        }
+    let video = map.video;
+    let disagreement = disagreement_of(answer, video, out, lens);
+    Answered {
+        answer,
+        map,
+        disagreement,
     }
 }

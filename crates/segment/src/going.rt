@@ -6,8 +6,8 @@ ghost use lib.ListN.{length};
 ghost use Rattle.descriptor.specs.Edition.{Edition};
 ghost use Rattle.segment_rules.specs.Check.{outputsOf};
 ghost use Rattle.segment.specs.Parts.{withLast, DueTurn, GoOnTurn};
-use crate::extraction::Extraction;
-use crate::state::PesSeen;
+use extraction::Extraction;
+use extraction::PesSeen;
 use lists::part;
 use packet::Last;
 use packet::PACKET_LENGTH;
@@ -24,7 +24,7 @@ use tables::kind_of;
 const PAYLOAD_LENGTH: usize = 184;
 
 // Whether packets of a PID may go on with the open PES: the slot of its record, and the counter of its last packet.
-pub(crate) enum Due {
+enum Due {
     None,
     After { slot: usize, counter: u8 },
 }

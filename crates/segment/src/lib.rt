@@ -1,10 +1,7 @@
-// The check of a segment and the extraction of its access units (document 01, "A segment").
+// The check of a segment (document 01, "A segment").
 mod comparing;
-mod extraction;
 mod going;
-mod outputs;
-mod packets;
-mod state;
+mod totals;
 mod whole;
 
 pub use comparing::Answered;

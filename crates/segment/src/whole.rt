@@ -14,9 +14,8 @@ ghost use Rattle.segment_rules.specs.Check.{
 };
 ghost use Rattle.pmt.specs.Answer.{noMap};
 ghost use Rattle.segment.specs.Answer.{summarised, mapAfter, checking, mapChecked, checkSays};
+ghost use Rattle.extraction.specs.Extraction.{roomsIn};
 ghost use Rattle.segment.specs.Parts.{
-  roomsIn,
-  Fits,
   AcceptTurn,
   EndTurn,
   RunTurn,
@@ -25,17 +24,17 @@ ghost use Rattle.segment.specs.Parts.{
   EndFirsts,
   AcceptedFirsts,
 };
-use crate::extraction::Extraction;
-use crate::extraction::close;
-use crate::extraction::fresh_extraction;
-use crate::extraction::note_first;
 use crate::going::go_on;
-use crate::outputs::clear;
-use crate::packets::count_packet;
-use crate::packets::step;
-use crate::state::none_yet;
+use crate::totals::count_packet;
+use crate::totals::none_yet;
 use descriptor::Edition;
 use descriptor::Named;
+use extraction::Extraction;
+use extraction::clear;
+use extraction::close;
+use extraction::fresh_extraction;
+use extraction::note_first;
+use extraction::step;
 use packet::PACKET_LENGTH;
 use plain::nulls;
 use pmt::ProgramMap;
@@ -207,7 +206,6 @@ fn finish(
     times: &mut [u64],
     firsts: &mut [usize],
 ) -> Checked
-    requires { ⌜ Fits (ran .extraction) (roomsIn (now out) (now lens) (now times)) ⌝ }
     ensures { λ r. ⌜ ((edition : Edition·rules) → EndTurn edition ran packets
         (outputsOf (now (out .entry)) (now (lens .entry)) (now (times .entry))) r
         (outputsOf (now (out .entry)) (now (lens .exit)) (now (times .exit)))) ⌝ }

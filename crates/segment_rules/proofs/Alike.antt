@@ -40,9 +40,6 @@ Both {A} {B} R (passed a) w = (b : B) × (w ≡ passed b) × R a b
 Both R (refused number place) w = Unit {0}
 
 module _ {A B : Type 0} (R : A → B → Type 0) where
-  pub both-passed : (a : A) (b : B) → R a b → Both R (passed a) (passed b)
-  both-passed a b r = (b, refl, r)
-
   -- two steps
   pub both-bind : {C D : Type 0} (S : C → D → Type 0) (v : Verdict A) (w : Verdict B) (f : A → Verdict C) (g : B → Verdict D) → Both R v w
       → ((a : A) (b : B) → R a b → Both S (f a) (g b)) → Both S (v >>= f) (w >>= g)

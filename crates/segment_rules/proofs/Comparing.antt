@@ -128,32 +128,36 @@ module _ (d : Fields) where
     pub at : found .unit ≡ index + length front
     pub header : HeaderFound (sequenceHeaders unit) (found .field)
 
-  pub none-found : (index : ℕ) (units : List Bytes) → firstFrom index d units ≡ none → All UnitAgrees units
+  -- the first that disagrees in these carried units, of which the first has this index
+  abbrev pub firstIn : ℕ → List Bytes → Option Disagreement
+  firstIn index units = firstFrom index d (map sequenceHeaders units)
+
+  pub none-found : (index : ℕ) (units : List Bytes) → firstIn index units ≡ none → All UnitAgrees units
   unfolding firstFrom
   none-found index [] e = tt
   none-found index (u ∷ units) e = go (firstOf d (sequenceHeaders u)) refl e (none-found (suc index) units)
     where
-      go : (o : Option ℕ) → firstOf d (sequenceHeaders u) ≡ o → orElse (inUnit index o) (firstFrom (suc index) d units) ≡ none
-          → (firstFrom (suc index) d units ≡ none → All UnitAgrees units) → All UnitAgrees (u ∷ units)
+      go : (o : Option ℕ) → firstOf d (sequenceHeaders u) ≡ o → orElse (inUnit index o) (firstIn (suc index) units) ≡ none
+          → (firstIn (suc index) units ≡ none → All UnitAgrees units) → All UnitAgrees (u ∷ units)
       go none k e more = (header-none (sequenceHeaders u) k, more e)
       go (some n) k e more = absurd (some-not-none _ e)
 
-  pub all-agree : (index : ℕ) (units : List Bytes) → All UnitAgrees units → firstFrom index d units ≡ none
+  pub all-agree : (index : ℕ) (units : List Bytes) → All UnitAgrees units → firstIn index units ≡ none
   unfolding firstFrom
   all-agree index [] h = refl
   all-agree index (u ∷ units) h =
-      ap (λ (o : Option ℕ). orElse (inUnit index o) (firstFrom (suc index) d units)) (header-agree (sequenceHeaders u) (h .0))
+      ap (λ (o : Option ℕ). orElse (inUnit index o) (firstIn (suc index) units)) (header-agree (sequenceHeaders u) (h .0))
       ∙ all-agree (suc index) units (h .1)
 
-  pub found-first : (index : ℕ) (units : List Bytes) (found : Disagreement) → firstFrom index d units ≡ some found
+  pub found-first : (index : ℕ) (units : List Bytes) (found : Disagreement) → firstIn index units ≡ some found
       → UnitFound index units found
   unfolding firstFrom
   found-first index [] found e = absurd (some-not-none found (sym e))
   found-first index (u ∷ units) found e = go (firstOf d (sequenceHeaders u)) refl e (found-first (suc index) units found)
     where
       go : (o : Option ℕ) → firstOf d (sequenceHeaders u) ≡ o
-          → orElse (inUnit index o) (firstFrom (suc index) d units) ≡ some found
-          → (firstFrom (suc index) d units ≡ some found → UnitFound (suc index) units found) → UnitFound index (u ∷ units) found
+          → orElse (inUnit index o) (firstIn (suc index) units) ≡ some found
+          → (firstIn (suc index) units ≡ some found → UnitFound (suc index) units found) → UnitFound index (u ∷ units) found
       go none k e more =
           let f = more e in
           record {

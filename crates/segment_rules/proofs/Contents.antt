@@ -227,7 +227,8 @@ section-octets p o = octets-take (sectionSize (behindPointer (payload p))) (drop
 
 -- what holds of each map that is read from packets of this kind holds of the accepted one
 module _ (edition : Edition) (P : MapContent → Type 0) (Q : Bytes → Type 0)
-    (reads : (program mapPid : ℕ) (p : Bytes) (m : MapContent) → Q p → readPmt edition program mapPid (sectionOf (payload p)) ≡ passed m → P m) where
+    (reads : (program mapPid : ℕ) (p : Bytes) (m : MapContent) → Q p →
+    readPmt edition program mapPid (sectionOf (payload p)) ≡ passed m → P m) where
   abbrev PmtRight : Option FirstPmt → Type 0
   PmtRight none = Unit {0}
   PmtRight (some first) = P (first .says)
@@ -304,7 +305,8 @@ pub streams-few : (edition : Edition) (rooms : Rooms) (s : Bytes) (a : Accepted)
 streams-few edition rooms s a e =
     map-holds edition (λ m. length (m .entries) ≤ mostEntries) (λ p. Unit {0})
     (λ program mapPid p m q r.
-    at-most-twelve mapPid (entryBytes (sectionOf (payload p))) (m .entries) (says edition program mapPid (sectionOf (payload p)) m r .listed))
+    at-most-twelve mapPid (entryBytes (sectionOf (payload p))) (m .entries)
+    (says edition program mapPid (sectionOf (payload p)) m r .listed))
     rooms s a e (all-any (packets s))
 
 -- ---- of an accepted segment of bytes

@@ -81,12 +81,7 @@ pub tables-kept : (Q : Tables → Type 0) (f : Extraction → Verdict Extraction
 unfolding onUnits
 tables-kept Q f st h = holds-each (λ (st : State). Q (st .tables)) _ _ (λ _ _. h)
 
--- a rule on the units keeps what its step keeps
-pub units-step : (Q : Extraction → Type 0) (f : Extraction → Verdict Extraction) → ((x : Extraction) → Q x → Holds Q (f x))
-    → Keeps (λ st. Q (st .extraction)) (onUnits f)
-unfolding onUnits
-units-step Q f k st h = holds-after (λ (st : State). Q (st .extraction)) Q _ _ (k (st .extraction) h) (λ _ q. q)
-
+-- a rule on the tables keeps what its step keeps
 pub tables-step : (Q : Tables → Type 0) (f : Tables → Verdict Tables) → ((t : Tables) → Q t → Holds Q (f t))
     → Keeps (λ st. Q (st .tables)) (onTables f)
 unfolding onTables

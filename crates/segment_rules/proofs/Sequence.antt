@@ -18,7 +18,7 @@ use Rattle.segment_rules.specs.State.{Tables, State, Kind, Av1, withTabl
 use Rattle.segment_rules.specs.Rules.{Rooms, Rule, inSequence, onTables, onUnits, rule, rule21, rule22, rule23}
 use Rattle.segment_rules.specs.Rules.{pcrCounts, clocked, checked, rule24, closing, rule29, rule30, rule31, rule34}
 use Rattle.segment_rules.specs.Rules.{rule8, carried, addedTo, isAv1, isOpen, isPcr, carriedSoFar, mostUnits, withNext}
-use Rattle.segment_rules.specs.Rules.{closePes, upTo24, payloadRules, pesRules, after24, isRepeat, unlessRepeat, packetRules}
+use Rattle.segment_rules.specs.Rules.{closePes, upTo24, payloadRules, pesRules, isRepeat, unlessRepeat}
 
 -- ---- steps in turn
 -- three steps in turn are the first, and then the other two
@@ -67,14 +67,6 @@ either-way p rest st e = case (isRepeat p st) (repeated p rest st) (λ k. not-re
 pub rest-same : (p : Bytes) (rest rest′ : Rule) (st : State) → rest st ≡ rest′ st → unlessRepeat p rest st ≡ unlessRepeat p rest′ st
 unfolding unlessRepeat
 rest-same p rest rest′ st e = ap (λ (v : Verdict State). pick (isRepeat p st) (passed st) v) e
-
-pub whole-table : (edition : Edition) (rooms : Rooms) (i : ℕ) (p : Bytes) (kind : Kind) (st : State)
-    → ((st1 : State) → inSequence (upTo24 i p) st ≡ passed st1 → isRepeat p st1 ≡ false)
-    → packetRules edition rooms i p kind st ≡ inSequence (upTo24 i p ++ after24 edition rooms i p kind) st
-unfolding packetRules
-whole-table edition rooms i p kind st new =
-    bind-where (inSequence (upTo24 i p) st) _ _ (λ st1 e. not-repeated p _ st1 (new st1 e))
-    ∙ sym (sequence-append (upTo24 i p) (after24 edition rooms i p kind) st)
 
 -- a rule that only may refuse, and what follows; where its condition does not hold, what follows alone
 pub rule-then : (i number : ℕ) {b b′ : Bool} (st : State) (f : Rule) → b ≡ b′

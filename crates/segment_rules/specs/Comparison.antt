@@ -8,7 +8,7 @@ use Rattle.refusal.specs.Verdict.{Verdict, passed, _>>=_}
 use Rattle.descriptor.specs.Descriptor.{fieldsOf}
 use Rattle.descriptor.specs.Edition.{Edition, editionOf}
 use Rattle.comparison.specs.declared.Disagreement.{Disagreement}
-use Rattle.comparison.specs.Comparison.{firstFrom}
+use Rattle.comparison.specs.Comparison.{sequenceHeaders, firstFrom}
 use Rattle.pmt.specs.Pmt.{MapContent, videoDescriptors}
 use Rattle.segment_rules.specs.State.{AccessUnit}
 use Rattle.segment_rules.specs.Rules.{Rooms}
@@ -18,7 +18,7 @@ use Rattle.segment_rules.specs.Check.{Accepted, checkSegment}
 -- allows one
 unfoldable pub comparedWith : List Bytes → List AccessUnit → Option Disagreement
 comparedWith [] units = none
-comparedWith (d ∷ more) units = firstFrom 0 (fieldsOf d) (map (λ u. u .carried) units)
+comparedWith (d ∷ more) units = firstFrom 0 (fieldsOf d) (map sequenceHeaders (map (λ u. u .carried) units))
 
 -- 2026-08: "tag 0x80 is not interpreted (2026-04 answers none)"
 abbrev pub compared : Edition → MapContent → List AccessUnit → Option Disagreement

@@ -55,10 +55,10 @@ module _ (r : Refused) where
 
 -- ---- it accepted
 -- what is left in the sheet
-left : (c : Content) (sheet : Bytes) → leaves (putting c (length sheet)) (sheetOf c) sheet
+sheet-left : (c : Content) (sheet : Bytes) → leaves (putting c (length sheet)) (sheetOf c) sheet
     ≡ pick (ltb (length sheet) (length (sheetOf c))) sheet (over (sheetOf c) sheet)
 unfolding leaves putting given pick _>>_
-left c sheet = go (ltb (length sheet) (length (sheetOf c)))
+sheet-left c sheet = go (ltb (length sheet) (length (sheetOf c)))
   where
     go : (b : Bool) → leaves (given 8 b >> passed (length (sheetOf c))) (sheetOf c) sheet ≡ pick b sheet (over (sheetOf c) sheet)
     go true = refl
@@ -139,5 +139,5 @@ module _ (n : ℕ) (s : Bytes) (before : Outputs) (firsts₀ : List ℕ) (long :
     accepted-leaves v sheet sheet′ e f =
         f ∙ ap (λ (w : Verdict ℕ). leaves w (sheetOf content) sheet) e
         ∙ ap (λ (c : Content). leaves (putting c (length sheet)) (sheetOf c) sheet) content-is
-        ∙ left (contentOf a) sheet
+        ∙ sheet-left (contentOf a) sheet
         ∙ ap (λ (w : Verdict Accepted). sheetAfter w sheet) (sym (found .1))

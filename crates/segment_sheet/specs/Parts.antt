@@ -7,7 +7,7 @@ use mathlib.Core.List.{List, [], _∷_, _++_, map, flatten}
 use lib.Dec.{ltb}
 use lib.ListN.{length, take, drop, getD}
 use Rattle.lists.specs.Lists.{Bytes}
-use Rattle.refusal.specs.Verdict.{Verdict, passed, _>>_, given}
+use Rattle.refusal.specs.Verdict.{Verdict, passed, _>>_, given, leaves}
 use Rattle.tsobu.specs.StartCodes.{atStartCode}
 use Rattle.pmt.specs.Answer.{noEntry}
 use Rattle.pmt.specs.declared.listing.Entry.{Entry}
@@ -81,3 +81,8 @@ unfoldable pub putting : Content → ℕ → Verdict ℕ
 putting c room = do
   given 8 (ltb room (length (sheetOf c)))
   passed (length (sheetOf c))
+
+-- the sheet of a content is put: the verdict, and the sheet then
+pub record Puts (c : Content) (sheet : Bytes) (v : Verdict ℕ) (sheet′ : Bytes) : Type 0 where
+  pub answers : v ≡ putting c (length sheet)
+  pub written : sheet′ ≡ leaves v (sheetOf c) sheet

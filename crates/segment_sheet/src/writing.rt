@@ -1,12 +1,7 @@
 // Writing the sheet.
-ghost use mathlib.Core.Path.{_≡_};
-ghost use lib.ListN.{length};
-ghost use Rattle.refusal.specs.Verdict.{leaves};
-ghost use Rattle.sheet.specs.Sheet.{sheetOf};
-ghost use Rattle.segment_rules.specs.Check.{outputsOf, roomsOf, outputsAfter, checkIn};
-ghost use Rattle.segment_sheet.specs.Content.{sheetWriting, sheetAfter};
-ghost use Rattle.segment_sheet.specs.Answer.{writtenSays};
-ghost use Rattle.segment_sheet.specs.Parts.{HandedOut, contentIn, putting};
+ghost use Rattle.segment_rules.specs.Check.{outputsOf};
+ghost use Rattle.segment_sheet.specs.Answer.{writtenSays, Writes};
+ghost use Rattle.segment_sheet.specs.Parts.{HandedOut, contentIn, Puts};
 use crate::numbers::put_number;
 use crate::obus::count_obus;
 use crate::obus::put_obus;
@@ -38,10 +33,8 @@ fn put_sheet(
     sheet: &mut [u8],
 ) -> Written
     requires { ⌜ HandedOut map count (now firsts) (now lens) (now times) (now bytes) ⌝ }
-    ensures { λ r. ⌜ writtenSays r ≡ putting (contentIn map count (now (firsts .entry)) (now (lens .entry))
-        (now (times .entry)) (now (bytes .entry))) (length (now (sheet .entry))) ⌝ }
-    ensures { λ r. ⌜ now (sheet .exit) ≡ leaves (writtenSays r) (sheetOf (contentIn map count (now (firsts .entry))
-        (now (lens .entry)) (now (times .entry)) (now (bytes .entry)))) (now (sheet .entry)) ⌝ }
+    ensures { λ r. ⌜ Puts (contentIn map count (now (firsts .entry)) (now (lens .entry)) (now (times .entry))
+        (now (bytes .entry))) (now (sheet .entry)) (writtenSays r) (now (sheet .exit)) ⌝ }
 {
     let streams = map.count;
     let obus = count_obus(bytes, lens, count);
@@ -74,16 +67,9 @@ pub fn write(
     times: &mut [u64],
     sheet: &mut [u8],
 ) -> Written
-    ensures { λ r. ⌜ writtenSays r ≡ sheetWriting edition
-        (roomsOf (outputsOf (now (out .entry)) (now (lens .entry)) (now (times .entry)))) (now (segment .entry))
-        (length (now (sheet .entry))) ⌝ }
-    ensures { λ _. ⌜ outputsOf (now (out .exit)) (now (lens .exit)) (now (times .exit))
-        ≡ outputsAfter (checkIn edition
-        (roomsOf (outputsOf (now (out .entry)) (now (lens .entry)) (now (times .entry)))) (now (segment .entry)))
-        (outputsOf (now (out .entry)) (now (lens .entry)) (now (times .entry))) ⌝ }
-    ensures { λ _. ⌜ now (sheet .exit) ≡ sheetAfter (checkIn edition
-        (roomsOf (outputsOf (now (out .entry)) (now (lens .entry)) (now (times .entry)))) (now (segment .entry)))
-        (now (sheet .entry)) ⌝ }
+    ensures { λ r. ⌜ Writes edition (now (segment .entry))
+        (outputsOf (now (out .entry)) (now (lens .entry)) (now (times .entry))) (now (sheet .entry)) (writtenSays r)
+        (outputsOf (now (out .exit)) (now (lens .exit)) (now (times .exit))) (now (sheet .exit)) ⌝ }
 {
     let mut firsts = [0usize; MOST_UNITS];
     let checked = check(edition, segment, out, lens, times, &mut firsts);

@@ -135,10 +135,6 @@ bitAt payload c = getD payload (c .place .byte) 0 / 2 ^ (7 - c .bit) % 2
 abbrev pub inByte : Cursor → Cursor
 inByte c = record { place = c .place; bit = c .bit + 1; cut = false }
 
--- the cursor that the code answers where the end is passed
-abbrev pub ended : Cursor
-ended = record { place = record { byte = 0; paired = false }; bit = 0; cut = true }
-
 module _ (payload : Bytes) (c : Cursor) where
   pub none-left : length payload ≤ c .place .byte → left payload c ≡ []
   unfolding left

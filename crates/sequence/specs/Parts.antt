@@ -38,6 +38,10 @@ pub record Starts (payload : Bytes) (at : ℕ) (c : Cursor) : Type 0 where
 unfoldable pub said : {A : Type 0} → Bytes → A → Cursor → Outcome A
 said payload v c = pick (c .cut) cutShort (read v (left payload c))
 
+-- the cursor that the code answers where the end is passed
+abbrev pub ended : Cursor
+ended = record { place = record { byte = 0; paired = false }; bit = 0; cut = true }
+
 -- from c on, the payload reads as m: the value is v and the cursor behind it d, or d is cut
 pub record Reads {A : Type 0} (payload : Bytes) (c : Cursor) (m : Reader A) (v : A) (d : Cursor) : Type 0 where
   pub inside : c .bit < 8 → d .bit < 8

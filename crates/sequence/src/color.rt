@@ -22,7 +22,7 @@ pub(crate) struct Color {
     pub position: u8,
 }
 
-pub(crate) struct ColorRead {
+struct ColorRead {
     pub color: Color,
     pub next: Cursor,
 }
@@ -34,7 +34,7 @@ pub(crate) struct Description {
     pub matrix: u8,
 }
 
-pub(crate) struct DescriptionRead {
+struct DescriptionRead {
     pub description: Description,
     pub next: Cursor,
 }

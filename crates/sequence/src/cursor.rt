@@ -6,7 +6,7 @@ ghost use Rattle.lists.specs.Lists.{pick};
 ghost use Rattle.emulation.specs.Parts.{marked};
 ghost use Rattle.sequence.specs.Bits.{f, when, return};
 ghost use Rattle.sequence.specs.Bits.{flag as Bits·flag, skip as Bits·skip, uvlc as Bits·uvlc};
-ghost use Rattle.sequence.specs.Parts.{Follows, Starts, Reads, Falls, CountsZeros};
+ghost use Rattle.sequence.specs.Parts.{ended, Follows, Starts, Reads, Falls, CountsZeros};
 
 // A byte of the OBU in its payload; paired where it is the second 00 of a 00 00 03, whose 03 is to be dropped.
 pub(crate) struct Place {
@@ -34,7 +34,7 @@ pub(crate) struct FlagRead {
 }
 
 // A count of zeros, and the cursor behind the one that ended them.
-pub(crate) struct ZerosRead {
+struct ZerosRead {
     pub count: u8,
     pub next: Cursor,
 }
@@ -103,40 +103,40 @@ pub(crate) fn start(payload: &[u8], at: usize) -> Cursor
     }
 }
 
+// A read past the payload's end: 0, and a cursor that is cut.
+fn past_end() -> NumberRead
+    ensures { λ r. ⌜ r ≡ record { value = 0; next = ended } ⌝ }
+{
+    NumberRead {
+        value: 0,
+        next: Cursor {
+            place: Place {
+                byte: 0,
+                paired: false,
+            },
+            bit: 0,
+            cut: true,
+        },
+    }
+}
+
 // The next bit.
 fn bit(payload: &[u8], at: Cursor) -> NumberRead
     ensures { λ r. ⌜ Reads (now (payload .entry)) at (f 1) (r .value) (r .next) ⌝ }
     ensures { λ r. ⌜ r .value < 2 ⌝ }
     ensures { λ r. ⌜ Falls (now (payload .entry)) at (r .next) ⌝ }
 {
-    let end = Cursor {
-        place: Place {
-            byte: 0,
-            paired: false,
-        },
-        bit: 0,
-        cut: true,
-    };
     if at.cut {
-        return NumberRead {
-            value: 0,
-            next: end,
-        };
+        return past_end();
     }
     let place = at.place;
     let byte = place.byte;
     if payload.len() <= byte {
-        return NumberRead {
-            value: 0,
-            next: end,
-        };
+        return past_end();
     }
     let bit = at.bit;
     if 7 < bit {
-        return NumberRead {
-            value: 0,
-            next: end,
-        };
+        return past_end();
     }
     let value = (payload[byte] >> (7 - bit)) % 2;
     if bit < 7 {

@@ -154,7 +154,7 @@ fn more_points(payload: &[u8], at: Cursor, count: u8, length: u8, delay_present:
     next
 }
 
-pub(crate) fn operating_points(payload: &[u8], at: Cursor) -> PointRead
+fn operating_points(payload: &[u8], at: Cursor) -> PointRead
     ensures { λ r. ⌜ Reads (now (payload .entry)) at operatingPoints (r .point) (r .next) ⌝ }
 {
     let length = delay_length(payload, at);
@@ -176,7 +176,7 @@ pub(crate) fn operating_points(payload: &[u8], at: Cursor) -> PointRead
     PointRead { point, next }
 }
 
-pub(crate) fn reduced_point(payload: &[u8], at: Cursor) -> PointRead
+fn reduced_point(payload: &[u8], at: Cursor) -> PointRead
     ensures { λ r. ⌜ Reads (now (payload .entry)) at reducedPoint (r .point) (r .next) ⌝ }
 {
     let level = number(payload, at, 5);

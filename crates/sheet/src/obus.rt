@@ -17,14 +17,14 @@ const MOST_TYPE: u64 = 15;
 const MOST_IN_UNIT: u64 = 64;
 
 // How far the OBUs have come: the units begun, the OBUs of the last of them, and where its last payload ends.
-pub(crate) struct Progress {
-    pub begun: u64,
-    pub count: u64,
-    pub end: u64,
+struct Progress {
+    begun: u64,
+    count: u64,
+    end: u64,
 }
 
 // The progress behind an OBU, or the OBU has no place there.
-pub(crate) enum Step {
+enum Step {
     Progress(Progress),
     Wrong,
 }

@@ -1,12 +1,7 @@
 // Reading a sheet.
 ghost use mathlib.Core.Path.{_≡_};
 ghost use Prim.Native.Nat.{_≤_};
-ghost use lib.ListN.{length};
-ghost use Rattle.refusal.specs.Verdict.{leaves};
-ghost use Rattle.sheet.specs.Sheet.{numbersOf, streamNumbers, unitNumbers, obuNumbers};
-ghost use Rattle.sheet.specs.Reading.{contentOf};
-ghost use Rattle.sheet.specs.Answer.{readSays};
-ghost use Rattle.sheet.specs.Reading.{reading as Reading·reading};
+ghost use Rattle.sheet.specs.Answer.{readSays, numbersIn, readInto, LeavesNumbers};
 ghost use Rattle.sheet.specs.Passing.{roomsShort};
 use crate::checking::check;
 use crate::numbers::copy_numbers;
@@ -38,16 +33,11 @@ fn outputs_short(sections: Sections, streams: usize, units: usize, obus: usize) 
 
 // The numbers of the sheet's streams, units and OBUs over the fronts of the three outputs; 45, then 8.
 pub fn read(sheet: &[u8], streams: &mut [u64], units: &mut [u64], obus: &mut [u64]) -> SheetRead
-    ensures { λ r. ⌜ readSays r
-        ≡ Reading·reading (now (sheet .entry)) (length (now (streams .entry))) (length (now (units .entry)))
-        (length (now (obus .entry))) ⌝ }
-    ensures { λ r. ⌜ now (streams .exit)
-        ≡ leaves (readSays r) (numbersOf streamNumbers (contentOf (now (sheet .entry)) .streams))
-        (now (streams .entry)) ⌝ }
-    ensures { λ r. ⌜ now (units .exit)
-        ≡ leaves (readSays r) (numbersOf unitNumbers (contentOf (now (sheet .entry)) .units)) (now (units .entry)) ⌝ }
-    ensures { λ r. ⌜ now (obus .exit)
-        ≡ leaves (readSays r) (numbersOf obuNumbers (contentOf (now (sheet .entry)) .obus)) (now (obus .entry)) ⌝ }
+    ensures { λ r. ⌜ readSays r ≡ readInto (now (sheet .entry))
+        (numbersIn (now (streams .entry)) (now (units .entry)) (now (obus .entry))) ⌝ }
+    ensures { λ r. ⌜ LeavesNumbers (readSays r) (now (sheet .entry))
+        (numbersIn (now (streams .entry)) (now (units .entry)) (now (obus .entry)))
+        (numbersIn (now (streams .exit)) (now (units .exit)) (now (obus .exit))) ⌝ }
 {
     let checked = check(sheet);
     let Checked::Sections(sections) = checked else {

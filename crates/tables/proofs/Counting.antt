@@ -120,19 +120,19 @@ map-put pat.None m c s = refl
 map-put (pat.First f) pmt.None c s = refl
 map-put (pat.First f) (pmt.First g) c s = refl
 
-listed-there : (q : PatSeen) (m : PmtSeen) (c : Counters) (i : ℕ) → suc (suc i) < length (streamsIn q m c) → recordAt (c .listed) i ≡ getD
-    (streamsIn q m c) (suc (suc i)) (namedStream 0)
+pub listed-there : (q : PatSeen) (m : PmtSeen) (c : Counters) (i : ℕ) → suc (suc i) < length (streamsIn q m c)
+    → recordAt (c .listed) i ≡ getD (streamsIn q m c) (suc (suc i)) (namedStream 0)
 listed-there pat.None m c i h = absurd (omega arith)
 listed-there (pat.First f) pmt.None c i h = absurd (omega arith)
 listed-there (pat.First f) (pmt.First g) c i h = refl
 
-listed-put : (q : PatSeen) (m : PmtSeen) (c : Counters) (i : ℕ) (s : Stream) → streamsIn q m (withListedRecord c i s) ≡ set
+pub listed-put : (q : PatSeen) (m : PmtSeen) (c : Counters) (i : ℕ) (s : Stream) → streamsIn q m (withListedRecord c i s) ≡ set
     (streamsIn q m c) (suc (suc i)) s
 listed-put pat.None m c i s = refl
 listed-put (pat.First f) pmt.None c i s = refl
 listed-put (pat.First f) (pmt.First g) c i s = ap (λ (l : List Stream). c .pat ∷ c .map ∷ l) (put-listed (c .listed) i s)
 
-within : (n : ℕ) (l : List Stream) (j : ℕ) → lookUp n (pidsIn l) ≡ slots.At j → j < length l
+pub within : (n : ℕ) (l : List Stream) (j : ℕ) → lookUp n (pidsIn l) ≡ slots.At j → j < length l
 within n l j e = omega (arith, look-up-at n (pidsIn l) j e .within, length-map l (λ (s : Stream). s .pid))
 
 module _ (segment : Bytes) where

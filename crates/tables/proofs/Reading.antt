@@ -201,8 +201,3 @@ pub by-kind : {edition : Edition} {segment : Bytes} {c : Tables} (k j : Kind) (s
     (sectionRead edition (kindSays k) start payload)
 by-kind {edition} {segment} {c} k j start payload r e h =
     subst (λ (x : Kind). CarriesOut edition segment c r (sectionRead edition (kindSays x) start payload)) (sym e) h
-
-pub no-section : (edition : Edition) (k : state.Kind) (start : Bool) (payload : Bytes) (t : state.Tables) → sectionRead edition state.Null
-    start payload t ≡ passed t
-unfolding sectionRead
-no-section edition k start payload t = refl

@@ -1,7 +1,6 @@
 -- Laws of `Turns`: a turn from its outcome and the verdict, and the verdict from a turn. Assumes nothing.
 use Prim.Native.Nat.{ℕ}
-use mathlib.Core.Bool.{Bool, true, false, not}
-use mathlib.Core.Path.{_≡_, refl, sym, ap, subst}
+use mathlib.Core.Path.{_≡_, sym, ap, subst}
 use native.Mathlib.Omega.{arith}
 use Rattle.refusal.specs.Verdict.{Verdict, passed, _>>=_, atPlace}
 use Rattle.refusal.specs.Number.{refusedBy}
@@ -50,25 +49,3 @@ module _ {A : Type 0} (v : Verdict A) (S : A → Type 0) where
   unfolding _>>=_
   turn-then {B} T f outcome.Passed t k = (f (t .0), ap (λ (w : Verdict A). w >>= λ a. passed (f a)) (t .1), k (t .0) (t .1) (t .2))
   turn-then {B} T f (outcome.Refused q) t k = ap (λ (w : Verdict A). w >>= λ a. passed (f a)) t
-
-  -- the first of two steps refused
-  pub turn-stops : {B : Type 0} (T : B → Type 0) (f : A → Verdict B) (o : Outcome) (q : Refused) → o ≡ outcome.Refused q → Turns o v S
-      → (o′ : Outcome) → o′ ≡ outcome.Refused q → Turns o′ (v >>= f) T
-  unfolding _>>=_
-  turn-stops {B} T f o q e t o′ e′ =
-      subst (λ (x : Outcome). Turns x (v >>= f) T) (sym e′) (ap (λ (w : Verdict A). w >>= f) (refused-turn o q e t))
-
-  -- it passed, and the second follows from there
-  pub turn-goes : {B : Type 0} (T : B → Type 0) (f : A → Verdict B) (a : A) (o : Outcome) → v ≡ passed a → Turns o (f a) T → Turns o
-      (v >>= f) T
-  unfolding _>>=_
-  turn-goes {B} T f a o e t = subst (λ (w : Verdict A). Turns o (w >>= f) T) (sym e) t
-
--- a test that was turned round
-pub negated : (b : Bool) → not b ≡ true → b ≡ false
-negated true e = sym e
-negated false e = refl
-
-pub affirmed : (b : Bool) → not b ≡ false → b ≡ true
-affirmed true e = refl
-affirmed false e = sym e

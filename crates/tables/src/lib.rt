@@ -1,5 +1,5 @@
-// What the packets of a segment say beside its access units (document 01, "A segment"): what a PID is, the counters, the
-// PCR, PAT and PMT; rules 24 to 28.
+// What the packets of a segment say beside its access units (document 01, "A segment"): what a PID is, the counters,
+// the PCR, PAT and PMT; rules 24 to 28.
 mod counters;
 mod sections;
 mod state;

@@ -69,7 +69,8 @@ to-reader unit {at} {at′} (first {ps = ps} p e w) =
     let on = subst (λ (n : ℕ). ReaderHandsOut (reader-at unit n) ps walk′) (sym (next-is walk p e)) (to-reader unit w) in
     subst (λ (x : Bytes). ReaderHandsOut walk (x ∷ ps) walk′) (part-is walk p e) (reader-first p e on)
 
-pub reader-says : (unit : RefT Bytes) (ps : List Bytes) (says : Verdict Found) → WalkSays (now unit) 0 ps says → ReaderSays (fresh unit) ps says
+pub reader-says : (unit : RefT Bytes) (ps : List Bytes) (says : Verdict Found) → WalkSays (now unit) 0 ps says
+    → ReaderSays (fresh unit) ps says
 reader-says unit ps says (at′, w, e) = (reader-at unit at′, to-reader unit w, e)
 
 -- ---- whole walks

@@ -1,6 +1,6 @@
 -- A string from one of its places on: what stands before the next start code, and the payloads from a start code on. Assumes nothing.
 use Prim.Native.Nat.{ℕ, zero, suc, _+_, _-_, _≤_, _<_}
-use mathlib.Core.Bool.{Bool, true, false}
+use mathlib.Core.Bool.{true, false}
 use mathlib.Core.Path.{_≡_, refl, sym, ap, ap₂, _∙_}
 use mathlib.Core.Logic.{_⊎_, inl, inr}
 use mathlib.Core.List.{List, [], _∷_}
@@ -12,25 +12,26 @@ use lib.ListN.{length, take, drop, getD, length-drop, drop-of-length-le}
 use lib.Seq.{drop-drop}
 use Rattle.lists.specs.Lists.{Bytes, those}
 use Rattle.lists.proofs.Tests.{case, clash}
-use Rattle.lists.proofs.Parts.{next, next3}
+use Rattle.lists.proofs.Parts.{next}
+use Rattle.lists.proofs.Threes.{AsksThree, three-long, three-end, three-at}
+use Rattle.lists.proofs.Elements.{those-first, those-others}
 use Rattle.tsobu.specs.StartCodes.{startCode3, atStartCode, startCodesFrom, Split, split, payloads}
 use Rattle.tsobu.specs.Walk.{obuIndex}
+pub use Rattle.tsobu.specs.Parts.{Place}
 use Rattle.tsobu.proofs.Splits.{split-code, split-byte, at-code, codes-yes, codes-no, count-codes}
 
 -- ---- a start code at a place
-code-short : (l : Bytes) → length l < 3 → atStartCode l ≡ false
+pub code-three : AsksThree atStartCode
 unfolding atStartCode
-code-short [] h = refl
-code-short (a ∷ []) h = refl
-code-short (a ∷ b ∷ []) h = refl
-code-short (a ∷ b ∷ c ∷ s) h = absurd (omega arith)
+code-three = record { none = refl; one = λ a. refl; two = λ a b. refl }
 
 pub code-at-end : (s : Bytes) (i : ℕ) → length s - i < 3 → atStartCode (drop i s) ≡ false
-code-at-end s i h = code-short (drop i s) (rw length-drop h)
+code-at-end = three-end code-three
 
-pub code-at : (s : Bytes) (i : ℕ) → i + 2 < length s → atStartCode (drop i s) ≡ startCode3 (getD s i 0) (getD s (i + 1) 0) (getD s (i + 2) 0)
+pub code-at : (s : Bytes) (i : ℕ) → i + 2 < length s
+    → atStartCode (drop i s) ≡ startCode3 (getD s i 0) (getD s (i + 1) 0) (getD s (i + 2) 0)
 unfolding atStartCode
-code-at s i h = rw (next3 s i h)
+code-at = three-at atStartCode startCode3 (λ a b c s. refl)
 
 pub code3-rest : (a b c : ℕ) → a ≡ 0 → b ≡ 0 → startCode3 a b c ≡ eqb c 1
 code3-rest a b c p q = rw (p, q)
@@ -80,7 +81,9 @@ cut (a ∷ s) = go (cut s)
         let b : before (a ∷ s) ≡ suc (before s) = ap (λ (x : Split). length (x .before)) p in
         record {
           taken = ap (λ (n : ℕ). take n (a ∷ s)) b ∙ ap (λ (l : Bytes). a ∷ l) (r .taken) ∙ sym (ap (λ (x : Split). x .before) p);
-          rest = ap (λ (n : ℕ). split (drop n (a ∷ s))) b ∙ r .rest ∙ sym (ap (λ (x : Split). record { before = []; payloads = x .payloads }) p);
+          rest =
+              ap (λ (n : ℕ). split (drop n (a ∷ s))) b ∙ r .rest
+              ∙ sym (ap (λ (x : Split). record { before = []; payloads = x .payloads }) p);
           ends = rw b (r .ends);
           short = omega (arith, r .short);
         })
@@ -102,15 +105,8 @@ before-short s = cut s .short
 abbrev pub nextCode : Bytes → ℕ → ℕ
 nextCode s at = at + 3 + before (drop (at + 3) s)
 
-code-long : (l : Bytes) → atStartCode l ≡ true → 3 ≤ length l
-unfolding atStartCode
-code-long [] e = clash e refl
-code-long (a ∷ []) e = clash e refl
-code-long (a ∷ b ∷ []) e = clash e refl
-code-long (a ∷ b ∷ c ∷ s) e = omega arith
-
 pub code-fits : (s : Bytes) (at : ℕ) → atStartCode (drop at s) ≡ true → at + 3 ≤ length s
-code-fits s at e = omega (arith, code-long (drop at s) e, length-drop at s)
+code-fits s at e = omega (arith, three-long code-three (drop at s) e, length-drop at s)
 
 pub next-fits : (s : Bytes) (at : ℕ) → atStartCode (drop at s) ≡ true → nextCode s at ≤ length s
 next-fits s at e = omega (arith, code-fits s at e, before-short (drop (at + 3) s), length-drop (at + 3) s)
@@ -135,7 +131,8 @@ pub payload-length : (s : Bytes) (at : ℕ) → length (payloadAt s at) ≡ befo
 payload-length s at = ap length (payload-is s at)
 
 -- the payloads from a start code on: its own, and those from the next place on
-pub payloads-from : (s : Bytes) (at : ℕ) → atStartCode (drop at s) ≡ true → payloads (drop at s) ≡ payloadAt s at ∷ payloads (drop (nextCode s at) s)
+pub payloads-from : (s : Bytes) (at : ℕ) → atStartCode (drop at s) ≡ true
+    → payloads (drop at s) ≡ payloadAt s at ∷ payloads (drop (nextCode s at) s)
 payloads-from s at e =
     let d : drop 3 (drop at s) ≡ drop (at + 3) s = drop-drop 3 at s in
     open-code (drop at s) e
@@ -146,10 +143,6 @@ payloads-from s at e =
 pub payloads-end : (s : Bytes) (at : ℕ) → length s ≤ at → payloads (drop at s) ≡ []
 unfolding split
 payloads-end s at h = rw (drop-of-length-le s h)
-
--- a place where a start code stands, or the end
-abbrev pub Place : Bytes → ℕ → Type 0
-Place s at = (at ≡ length s) ⊎ (atStartCode (drop at s) ≡ true)
 
 -- the next place is one
 pub next-place : (s : Bytes) (at : ℕ) → atStartCode (drop at s) ≡ true → Place s (nextCode s at)
@@ -171,14 +164,6 @@ place-code s at (inr c) h = c
 abbrev pub codesBefore : ℕ → ℕ → Bytes → ℕ
 codesBefore at i s = length (those (λ code. ltb code at) (startCodesFrom i (drop i s)))
 
-those-yes : (f : ℕ → Bool) (a : ℕ) (l : List ℕ) → f a ≡ true → those f (a ∷ l) ≡ a ∷ those f l
-unfolding those
-those-yes f a l e = rw (e, those)
-
-those-no : (f : ℕ → Bool) (a : ℕ) (l : List ℕ) → f a ≡ false → those f (a ∷ l) ≡ those f l
-unfolding those
-those-no f a l e = rw (e, those)
-
 -- those from a place on, where one stands at it and where none does
 module _ (i : ℕ) (s : Bytes) (k : i < length s) where
   codes-code : atStartCode (drop i s) ≡ true → startCodesFrom i (drop i s) ≡ i ∷ startCodesFrom (i + 1) (drop (i + 1) s)
@@ -197,7 +182,7 @@ pub index-code : (at i : ℕ) (s : Bytes) → i < at → i < length s → atStar
     → codesBefore at i s ≡ suc (codesBefore at (i + 1) s)
 index-code at i s h k e =
     ap (λ (l : List ℕ). length (those (λ code. ltb code at) l)) (codes-code i s k e)
-    ∙ ap length (those-yes (λ code. ltb code at) i (startCodesFrom (i + 1) (drop (i + 1) s)) (lt-ltb i at h))
+    ∙ ap length (those-first (λ code. ltb code at) i (startCodesFrom (i + 1) (drop (i + 1) s)) (lt-ltb i at h))
 
 pub index-byte : (at i : ℕ) (s : Bytes) → i < length s → atStartCode (drop i s) ≡ false → codesBefore at i s ≡ codesBefore at (i + 1) s
 index-byte at i s k e = ap (λ (l : List ℕ). length (those (λ code. ltb code at) l)) (codes-byte i s k e)
@@ -210,7 +195,7 @@ none-before at i (a ∷ s) h =
     case (atStartCode (a ∷ s))
     (λ e.
     ap (those (λ code. ltb code at)) (codes-yes i a s e)
-    ∙ those-no (λ code. ltb code at) i (startCodesFrom (suc i) s) (le-ltb i at h)
+    ∙ those-others (λ code. ltb code at) i (startCodesFrom (suc i) s) (le-ltb i at h)
     ∙ none-before at (suc i) s (omega arith))
     (λ e. ap (those (λ code. ltb code at)) (codes-no i a s e) ∙ none-before at (suc i) s (omega arith))
 

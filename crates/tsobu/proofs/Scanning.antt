@@ -6,52 +6,48 @@ use mathlib.Core.Path.{_≡_, refl, sym, ap, ap₂, _∙_}
 use mathlib.Core.Logic.{_⊎_, inl, inr}
 use mathlib.Core.List.{[], _∷_, _++_}
 use native.Mathlib.Omega.{arith}
-use borrow.Author.Tests.{eqb-true, le-leb, lt-leb, leb-true, not-false}
-use lib.Dec.{leb, eqb}
+use borrow.Author.Tests.{not-false}
+use lib.Dec.{eqb}
 use lib.ListN.{length, take, drop, length-drop, take-append-drop}
 use lib.Seq.{drop-drop}
 use Rattle.lists.specs.Lists.{Bytes}
-use Rattle.lists.proofs.Tests.{case, clash, and-both}
+use Rattle.lists.proofs.Tests.{case, clash}
+use Rattle.lists.proofs.Threes.{by-three}
 use Rattle.emulation.specs.Payload.{above3, forbidden, firstForbidden, legal, dropped}
 use Rattle.emulation.specs.Parts.{block, hits, marked}
-use Rattle.emulation.proofs.Hits.{one, none-keeps}
-use Rattle.emulation.proofs.Steps.{first-yes, first-no, forbidden-long}
+use Rattle.emulation.proofs.Hits.{one, none-keeps, free-short, free-counted, is-free}
+use Rattle.emulation.proofs.Steps.{first-yes, first-no, forbidden-long, legal-yes, legal-no}
 use Rattle.emulation.proofs.Judging.{dropped-one, marked-until}
 use Rattle.tsobu.specs.StartCodes.{atStartCode, Split, split}
 use Rattle.tsobu.specs.Parts.{coded, ScannedAt}
 use Rattle.tsobu.proofs.Splits.{split-byte, code-is}
-use Rattle.tsobu.proofs.Places.{before, before-code, before-byte, before-end, before-taken, before-ends}
+use Rattle.tsobu.proofs.Places.{code-three, before, before-code, before-byte, before-end, before-taken, before-ends}
 
 -- ---- blocks without a start code
 pub coded-short : (s : Bytes) (i : ℕ) → length s - i < block + 2 → coded (drop i s) ≡ true
 unfolding coded
-coded-short s i h = rw (length-drop, lt-leb (block + 2) (length s - i) h)
+coded-short s i h = rw (free-short atStartCode s i h)
 
 pub coded-counted : (s : Bytes) (i : ℕ) → block + 2 ≤ length s - i → coded (drop i s) ≡ not (eqb (hits atStartCode block (drop i s)) 0)
 unfolding coded
-coded-counted s i h = rw (length-drop, le-leb (block + 2) (length s - i) h)
+coded-counted s i h = rw (free-counted atStartCode s i h)
 
 -- such a block is passed over
 pub uncoded-passes : (s : Bytes) (i : ℕ) → coded (drop i s) ≡ false
     → (i + block ≤ length s) × (i + block + before (drop (i + block) s) ≡ i + before (drop i s))
 unfolding coded
 uncoded-passes s i e =
-    let h = and-both (leb (block + 2) (length (drop i s))) (eqb (hits atStartCode block (drop i s)) 0) (not-false _ e) in
-    let k = leb-true (block + 2) (length (drop i s)) (h .0) in
-    let w : i + block ≤ length s = omega (arith, length-drop i s) in (
+    let h = is-free atStartCode s i (not-false _ e) in
+    let w : i + block ≤ length s = omega (arith, h .0) in (
       w,
       none-keeps atStartCode s (λ j. j + before (drop j s) ≡ i + before (drop i s))
-          (λ j l f p. omega (arith, p, before-byte s j l f)) block i w
-          (eqb-true (hits atStartCode block (drop i s)) 0 (h .1)) refl,
+          (λ j l f p. omega (arith, p, before-byte s j l f)) block i w (h .1) refl,
     )
 
 -- ---- a start code is a forbidden sequence
 code-forbidden : (l : Bytes) → atStartCode l ≡ true → forbidden l ≡ true
 unfolding atStartCode forbidden
-code-forbidden [] e = absurd (true≢false (sym e))
-code-forbidden (a ∷ []) e = absurd (true≢false (sym e))
-code-forbidden (a ∷ b ∷ []) e = absurd (true≢false (sym e))
-code-forbidden (a ∷ b ∷ c ∷ s) e = let z = code-is a b c e in rw (z .0, z .1, z .2)
+code-forbidden = by-three code-three (λ l. forbidden l ≡ true) (λ a b c s e. let z = code-is a b c e in rw (z .0, z .1, z .2))
 
 -- so none stands before the first forbidden sequence
 pub before-first : (t : Bytes) → before t ≡ firstForbidden t + before (drop (firstForbidden t) t)
@@ -127,14 +123,6 @@ short-fine (a ∷ []) h = (refl, refl)
 short-fine (a ∷ b ∷ []) h = (refl, refl)
 short-fine (a ∷ b ∷ c ∷ l) h = absurd (omega arith)
 
-legal-more : (a : ℕ) (p : Bytes) → forbidden (a ∷ p) ≡ false → legal (a ∷ p) ≡ legal p
-unfolding legal
-legal-more a p e = rw e
-
-legal-never : (a : ℕ) (p : Bytes) → forbidden (a ∷ p) ≡ true → legal (a ∷ p) ≡ false
-unfolding legal
-legal-never a p e = rw e
-
 legal-behind : (a : ℕ) (p : Bytes) → legal p ≡ false → legal (a ∷ p) ≡ false
 unfolding legal
 legal-behind a p e = rw e (and-false (not (forbidden (a ∷ p))))
@@ -155,7 +143,7 @@ near (a ∷ p) r b h =
     let n : firstForbidden (a ∷ p ++ r) ≡ suc f = first-no a (p ++ r) e in
     let k = near p r b (omega arith) in
     let m : marked (a ∷ p) ≡ marked (a ∷ take f (p ++ r)) = sym (marked-in a p r b) ∙ sym (marked-until a (p ++ r)) in
-    (legal-more a p (lawful-in a p r b e) ∙ k .0, rw n (omega (arith, dropped-one a p, dropped-one a (take f (p ++ r)), ap one m, k .1))))
+    (legal-no a p (lawful-in a p r b e) ∙ k .0, rw n (omega (arith, dropped-one a p, dropped-one a (take f (p ++ r)), ap one m, k .1))))
 
 -- one that goes on for three bytes from there is not
 far : (p r : Bytes) → Behind r → firstForbidden (p ++ r) + 3 ≤ length p → legal p ≡ false
@@ -168,7 +156,7 @@ far (a ∷ p) r b h =
     go : (q : Bytes) → forbidden (a ∷ q ++ r) ≡ true → 2 ≤ length q → legal (a ∷ q) ≡ false
     go [] e k = absurd (omega arith)
     go (x ∷ []) e k = absurd (omega arith)
-    go (x ∷ y ∷ q) e k = legal-never a (x ∷ y ∷ q) (sym (forbidden-in a x y q r b) ∙ e)
+    go (x ∷ y ∷ q) e k = legal-yes a (x ∷ y ∷ q) (sym (forbidden-in a x y q r b) ∙ e)
 
 -- ---- the payload at the head of a string
 module _ (t : Bytes) where
@@ -195,24 +183,29 @@ module _ (t : Bytes) where
           (λ e. rw (first-yes a l e) e)
           (λ e. rw (first-no a l e) (first-at l (omega (arith, first-no a l e))))
 
--- ---- the same from a place of a string on; the first forbidden sequence stands at `place`
-module _ (s : Bytes) (start place count : ℕ) (at : place ≡ start + firstForbidden (drop start s))
-    (drops : count ≡ dropped (take (firstForbidden (drop start s)) (drop start s))) where
-  there : drop (firstForbidden (drop start s)) (drop start s) ≡ drop place s
-  there = drop-drop (firstForbidden (drop start s)) start s ∙ ap (λ (n : ℕ). drop n s) (sym at)
+-- ---- the same from a place of a string on; the first forbidden sequence stands at `place`, and before it so many bytes are dropped
+pub record First (s : Bytes) (start place count : ℕ) : Type 0 where
+  pub at : place ≡ start + firstForbidden (drop start s)
+  pub drops : count ≡ dropped (take (firstForbidden (drop start s)) (drop start s))
 
-  pub scan-before : start + before (drop start s) ≡ place + before (drop place s)
-  scan-before = omega (arith, at, before-first (drop start s), ap before there)
+module _ {s : Bytes} {start place count : ℕ} (first : First s start place count) where
+  there : drop (firstForbidden (drop start s)) (drop start s) ≡ drop place s
+  there = drop-drop (firstForbidden (drop start s)) start s ∙ ap (λ (n : ℕ). drop n s) (sym (first .at))
+
+  scan-before : start + before (drop start s) ≡ place + before (drop place s)
+  scan-before = omega (arith, first .at, before-first (drop start s), ap before there)
 
   pub scan-long : place < length s → place + 3 ≤ length s
-  scan-long h = omega (arith, at, first-long (drop start s) (omega (arith, length-drop start s)), length-drop start s)
+  scan-long h =
+      let e = first .at in
+      omega (arith, first-long (drop start s) (omega (arith, length-drop start s)), length-drop start s)
 
   -- the payload ends there, or up to two bytes further on
   pub scan-legal : (n end : ℕ) → n ≤ 2 → before (drop place s) ≡ n → end ≡ place + n
       → ScannedAt s start (record { end = end; legal = true; dropped = count })
   scan-legal n end h e f =
-      let k = head-legal (drop start s) (omega (arith, at, scan-before)) in
-      record { ends = omega (arith, scan-before); lawful = sym (k .0); drops = λ t. drops ∙ sym (k .1) }
+      let k = head-legal (drop start s) (omega (arith, first .at, scan-before)) in
+      record { ends = omega (arith, scan-before); lawful = sym (k .0); drops = λ t. first .drops ∙ sym (k .1) }
 
   -- it goes on for three bytes and more
   pub scan-illegal : (end : ℕ) → 3 ≤ before (drop place s) → end ≡ place + before (drop place s)
@@ -220,7 +213,7 @@ module _ (s : Bytes) (start place count : ℕ) (at : place ≡ start + firstForb
   scan-illegal end h e =
       record {
         ends = omega (arith, scan-before);
-        lawful = sym (head-illegal (drop start s) (omega (arith, at, scan-before)));
+        lawful = sym (head-illegal (drop start s) (omega (arith, first .at, scan-before)));
         drops = λ t. absurd (true≢false (sym t));
       }
 
@@ -232,28 +225,17 @@ module _ (s : Bytes) (start place count : ℕ) (at : place ≡ start + firstForb
       → before (drop place s) ≡ 1
   one-left h e f = omega (arith, before-byte s place (omega arith) e, before-code (drop (place + 1) s) f)
 
+  two-on : place + 3 ≤ length s → atStartCode (drop place s) ≡ false → atStartCode (drop (place + 1) s) ≡ false
+      → before (drop place s) ≡ 2 + before (drop (place + 2) s)
+  two-on h e f =
+      let n : place + 1 + 1 ≡ place + 2 = omega arith in
+      let b = before-byte s (place + 1) (omega arith) f in
+      omega (arith, before-byte s place (omega arith) e, ap (λ (k : ℕ). before (drop k s)) n)
+
   pub two-left : place + 3 ≤ length s → atStartCode (drop place s) ≡ false → atStartCode (drop (place + 1) s) ≡ false
       → atStartCode (drop (place + 2) s) ≡ true → before (drop place s) ≡ 2
-  two-left h e f g =
-      let n : place + 1 + 1 ≡ place + 2 = omega arith in
-      omega (
-        arith,
-        before-byte s place (omega arith) e,
-        before-byte s (place + 1) (omega arith) f,
-        ap
-            (λ (k : ℕ). before (drop k s)) n,
-        before-code (drop (place + 2) s) g,
-      )
+  two-left h e f g = omega (arith, two-on h e f, before-code (drop (place + 2) s) g)
 
   pub more-left : place + 3 ≤ length s → atStartCode (drop place s) ≡ false → atStartCode (drop (place + 1) s) ≡ false
       → atStartCode (drop (place + 2) s) ≡ false → 3 ≤ before (drop place s)
-  more-left h e f g =
-      let n : place + 1 + 1 ≡ place + 2 = omega arith in
-      omega (
-        arith,
-        before-byte s place (omega arith) e,
-        before-byte s (place + 1) (omega arith) f,
-        ap
-            (λ (k : ℕ). before (drop k s)) n,
-        before-byte s (place + 2) (omega arith) g,
-      )
+  more-left h e f g = omega (arith, two-on h e f, before-byte s (place + 2) (omega arith) g)

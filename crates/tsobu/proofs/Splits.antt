@@ -1,7 +1,7 @@
 -- Start codes and payloads of any string, and of legal payloads each behind its start code. Assumes nothing.
 use Prim.Native.Nat.{ℕ, suc, _+_}
-use mathlib.Core.Bool.{Bool, true, false, not, _&&_, and-false}
-use mathlib.Core.Path.{_≡_, refl, sym, ap, ap₂, subst, _∙_}
+use mathlib.Core.Bool.{true, false, not, _&&_, and-false}
+use mathlib.Core.Path.{_≡_, refl, ap, ap₂, _∙_}
 use mathlib.Core.List.{List, [], _∷_, _++_, append-nil}
 use native.Mathlib.Omega.{arith}
 use borrow.Author.Tests.{eqb-true, not-true}
@@ -9,7 +9,7 @@ use lib.Dec.{eqb}
 use lib.ListN.{length}
 use Rattle.emulation.specs.Payload.{legal, forbidden}
 use Rattle.lists.specs.Lists.{Bytes}
-use Rattle.lists.proofs.Tests.{case, and-both, clash}
+use Rattle.lists.proofs.Tests.{case, chosen-true, chosen-false, and-both, clash}
 use Rattle.refusal.proofs.Verdicts.{All}
 use Rattle.tsobu.specs.StartCodes.{startCode3, atStartCode, startCodesFrom, startCodes, Split, opened, byteBefore, split, payloads}
 
@@ -22,15 +22,13 @@ code-is a b c e =
 -- ---- one step of `split`
 pub split-code : (a b c : ℕ) (s : Bytes) → startCode3 a b c ≡ true → split (a ∷ b ∷ c ∷ s) ≡ opened (split s)
 unfolding split
-split-code a b c s e =
-    subst (λ (t : Bool). _≡_ {A = Split} (elim t [ true ↦ opened (split s) | false ↦ byteBefore a (split (b ∷ c ∷ s)) ]) (opened (split s))) (sym e) refl
+split-code a b c s e = chosen-true (opened (split s)) (byteBefore a (split (b ∷ c ∷ s))) e
 
 pub split-byte : (a : ℕ) (s : Bytes) → atStartCode (a ∷ s) ≡ false → split (a ∷ s) ≡ byteBefore a (split s)
 unfolding split atStartCode
 split-byte a [] e = refl
 split-byte a (b ∷ []) e = refl
-split-byte a (b ∷ c ∷ s) e =
-    subst (λ (t : Bool). _≡_ {A = Split} (elim t [ true ↦ opened (split s) | false ↦ byteBefore a (split (b ∷ c ∷ s)) ]) (byteBefore a (split (b ∷ c ∷ s)))) (sym e) refl
+split-byte a (b ∷ c ∷ s) e = chosen-false (opened (split s)) (byteBefore a (split (b ∷ c ∷ s))) e
 
 -- ---- any string is what comes before the first start code, and then the payloads, each behind a start code
 unfoldable pub joined : List Bytes → Bytes
@@ -57,7 +55,9 @@ split-whole (a ∷ b ∷ []) = refl
 split-whole (a ∷ b ∷ c ∷ s) =
     case (startCode3 a b c)
     (λ e. again-code a b c s (split (a ∷ b ∷ c ∷ s)) (split s) e (split-code a b c s e) (split-whole s))
-    (λ e. again-byte a (b ∷ c ∷ s) (split (a ∷ b ∷ c ∷ s)) (split (b ∷ c ∷ s)) (split-byte a (b ∷ c ∷ s) (unfold atStartCode in e)) (split-whole (b ∷ c ∷ s)))
+    (λ e.
+    again-byte a (b ∷ c ∷ s) (split (a ∷ b ∷ c ∷ s)) (split (b ∷ c ∷ s)) (split-byte a (b ∷ c ∷ s) (unfold atStartCode in e))
+    (split-whole (b ∷ c ∷ s)))
 
 -- a string with a start code at its head has nothing before it
 pub at-code : (s : Bytes) → atStartCode s ≡ true → split s .before ≡ []
@@ -138,17 +138,20 @@ codes-code : (place : ℕ) (s : Bytes) → startCodesFrom place (0 ∷ 0 ∷ 1 �
 codes-code place s =
     let e : suc (suc (suc place)) ≡ place + 3 = omega arith in
     codes-yes place 0 (0 ∷ 1 ∷ s) (unfold atStartCode in refl)
-    ∙ ap (λ (l : List ℕ). place ∷ l) (codes-no (suc place) 0 (1 ∷ s) (second-no s) ∙ codes-no (suc (suc place)) 1 s (third-no s) ∙ ap (λ (n : ℕ). startCodesFrom n s) e)
+    ∙ ap (λ (l : List ℕ). place ∷ l)
+    (codes-no (suc place) 0 (1 ∷ s) (second-no s) ∙ codes-no (suc (suc place)) 1 s (third-no s) ∙ ap (λ (n : ℕ). startCodesFrom n s) e)
 
 abbrev Starts : ℕ → Bytes → Split → Type 0
 Starts place s r = startCodesFrom place s ≡ starts (place + length (r .before)) (r .payloads)
 
-starts-byte : (place a : ℕ) (s : Bytes) (r r' : Split) → atStartCode (a ∷ s) ≡ false → r ≡ byteBefore a r' → Starts (suc place) s r' → Starts place (a ∷ s) r
+starts-byte : (place a : ℕ) (s : Bytes) (r r' : Split) → atStartCode (a ∷ s) ≡ false → r ≡ byteBefore a r' → Starts (suc place) s r'
+    → Starts place (a ∷ s) r
 starts-byte place a s r r' k e h =
     let n : suc place + length (r' .before) ≡ place + suc (length (r' .before)) = omega arith in
     codes-no place a s k ∙ h ∙ rw e (ap (λ (m : ℕ). starts m (r' .payloads)) n)
 
-starts-code : (place a b c : ℕ) (s : Bytes) (r r' : Split) → startCode3 a b c ≡ true → r ≡ opened r' → Starts (place + 3) s r' → Starts place (a ∷ b ∷ c ∷ s) r
+starts-code : (place a b c : ℕ) (s : Bytes) (r r' : Split) → startCode3 a b c ≡ true → r ≡ opened r' → Starts (place + 3) s r'
+    → Starts place (a ∷ b ∷ c ∷ s) r
 unfolding starts
 starts-code place a b c s r r' k e h =
     let z = code-is a b c k in
@@ -159,18 +162,24 @@ starts-code place a b c s r r' k e h =
 codes-starts : (place : ℕ) (s : Bytes) → Starts place s (split s)
 unfolding split starts
 codes-starts place [] = unfold startCodesFrom in refl
-codes-starts place (a ∷ []) = starts-byte place a [] (split (a ∷ [])) (split []) (unfold atStartCode in refl) refl (unfold startCodesFrom in refl)
+codes-starts place (a ∷ []) =
+    starts-byte place a [] (split (a ∷ [])) (split []) (unfold atStartCode in refl) refl (unfold startCodesFrom in refl)
 codes-starts place (a ∷ b ∷ []) =
     starts-byte place a (b ∷ []) (split (a ∷ b ∷ [])) (split (b ∷ [])) (unfold atStartCode in refl) refl
     (starts-byte (suc place) b [] (split (b ∷ [])) (split []) (unfold atStartCode in refl) refl (unfold startCodesFrom in refl))
 codes-starts place (a ∷ b ∷ c ∷ s) =
     case (startCode3 a b c)
     (λ e. starts-code place a b c s (split (a ∷ b ∷ c ∷ s)) (split s) e (split-code a b c s e) (codes-starts (place + 3) s))
-    (λ e. starts-byte place a (b ∷ c ∷ s) (split (a ∷ b ∷ c ∷ s)) (split (b ∷ c ∷ s)) (unfold atStartCode in e) (split-byte a (b ∷ c ∷ s) (unfold atStartCode in e)) (codes-starts (suc place) (b ∷ c ∷ s)))
+    (λ e.
+    let none : atStartCode (a ∷ b ∷ c ∷ s) ≡ false = unfold atStartCode in e in
+    starts-byte place a (b ∷ c ∷ s) (split (a ∷ b ∷ c ∷ s)) (split (b ∷ c ∷ s)) none (split-byte a (b ∷ c ∷ s) none)
+    (codes-starts (suc place) (b ∷ c ∷ s)))
 
 -- of any string: the first start code stands behind what comes before it, each other behind the payload before it
 pub start-codes : (s : Bytes) → startCodes s ≡ starts (length (split s .before)) (payloads s)
-start-codes s = let e : 0 + length (split s .before) ≡ length (split s .before) = omega arith in codes-starts 0 s ∙ ap (λ (n : ℕ). starts n (payloads s)) e
+start-codes s =
+    let e : 0 + length (split s .before) ≡ length (split s .before) = omega arith in
+    codes-starts 0 s ∙ ap (λ (n : ℕ). starts n (payloads s)) e
 
 count-starts : (place : ℕ) (ps : List Bytes) → length (starts place ps) ≡ length ps
 unfolding starts

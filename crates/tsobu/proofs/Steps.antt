@@ -9,7 +9,7 @@ use borrow.Author.Tests.{lt-ltb, le-leb, eq-eqb, ne-eqb, ltb-true, ltb-false, le
 use lib.Dec.{leb, ltb, eqb}
 use lib.ListN.{length, take, drop}
 use Rattle.lists.specs.Lists.{Bytes}
-use Rattle.lists.proofs.Tests.{case, clash, and-both, and-second, and-by-true}
+use Rattle.lists.proofs.Tests.{case, clash, apart, and-both, and-second, and-by-true}
 use Rattle.refusal.specs.Verdict.{Verdict, passed, refused, given, atPlace}
 use Rattle.refusal.proofs.Verdicts.{refuse, pass-on, refuse-at, pass-at, never, passed-same, passed-after, given-passed, at-passed}
 use Rattle.refusal.proofs.Turns.{same-number, same-place}
@@ -22,7 +22,7 @@ use Rattle.tsobu.proofs.Places.{nextCode, payloadAt, code-fits, next-pl
 
 -- a payload is not the end
 pub not-end : {p : Part} → _≡_ {A = Verdict Found} (passed (payload p)) (passed end) → ⊥
-not-end h = let z : _≡_ {A = ℕ} 0 1 = cc in omega arith
+not-end h = apart (cc)
 
 module _ (unit : Bytes) (at : ℕ) where
   -- ---- the end

@@ -1,13 +1,13 @@
 -- What the promises of private functions cite; no public promise does. Assumes nothing.
-use Prim.Native.Nat.{ℕ, _+_}
-use mathlib.Core.Bool.{Bool, true, not, _&&_}
+use Prim.Native.Nat.{ℕ}
+use mathlib.Core.Bool.{Bool, true, not}
 use mathlib.Core.Path.{_≡_}
-use lib.Dec.{leb, eqb}
+use mathlib.Core.Logic.{_⊎_}
 use lib.ListN.{length, drop}
 use Rattle.lists.specs.Lists.{Bytes}
 use Rattle.refusal.specs.Verdict.{Verdict, passed, _>>=_}
 use Rattle.emulation.specs.Payload.{legal, unescape, dropped}
-use Rattle.emulation.specs.Parts.{block, hits}
+use Rattle.emulation.specs.Parts.{freeOf}
 use Rattle.obu.specs.Header.{judged}
 use Rattle.tsobu.specs.StartCodes.{atStartCode, split, codeFrom}
 use Rattle.tsobu.specs.declared.codes.Scanned.{Scanned}
@@ -15,7 +15,11 @@ use Rattle.tsobu.specs.declared.judging.Figures.{Figures}
 
 -- a start code stands at one of the places of a block, or two bytes do not come after it
 unfoldable pub coded : Bytes → Bool
-coded s = not (leb (block + 2) (length s) && eqb (hits atStartCode block s) 0)
+coded s = not (freeOf atStartCode s)
+
+-- a place where a start code stands, or the end
+abbrev pub Place : Bytes → ℕ → Type 0
+Place s at = (at ≡ length s) ⊎ (atStartCode (drop at s) ≡ true)
 
 -- where the payload from a place on ends, whether it is legal, and how many bytes of a legal one are dropped
 pub record ScannedAt (s : Bytes) (start : ℕ) (r : Scanned) : Type 0 where

@@ -1,5 +1,5 @@
--- The verdict on one tsOBU, by its payload. The words of document 01, "One access unit", stand over each definition, and
--- of requests 2026-02 and 2026-03 where they amend them. Assumes nothing.
+-- The verdict on one tsOBU, by its payload. The words of document 01, "One access unit", stand over each definition,
+-- and of requests 2026-02 and 2026-03 where they amend them. Assumes nothing.
 use mathlib.Core.Bool.{not}
 use lib.Dec.{eqb}
 use lib.ListN.{length}

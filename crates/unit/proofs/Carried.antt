@@ -1,14 +1,13 @@
--- The writer's string: its start codes stand at the OBUs' offsets, and splitting it gives the escaped OBUs back. Assumes nothing.
+-- The writer's string: splitting it gives the escaped OBUs back. Assumes nothing.
 use mathlib.Core.Bool.{true}
 use mathlib.Core.Path.{_≡_, refl, ap, _∙_}
 use mathlib.Core.List.{List, [], _∷_, _++_, map}
-use lib.ListN.{length}
 use Rattle.lists.specs.Lists.{Bytes}
 use Rattle.refusal.proofs.Verdicts.{All}
 use Rattle.emulation.specs.Payload.{legal, escape}
 use Rattle.emulation.proofs.Theorems.{escape-legal}
-use Rattle.tsobu.specs.StartCodes.{startCodes, Split, split}
-use Rattle.tsobu.proofs.Splits.{joined, parts, split-joined, starts, start-codes}
+use Rattle.tsobu.specs.StartCodes.{split}
+use Rattle.tsobu.proofs.Splits.{joined, parts, split-joined}
 use Rattle.unit.specs.Unit.{carried}
 
 pub carried-joined : (l : List Bytes) → carried l ≡ joined (map escape l)
@@ -23,7 +22,3 @@ escaped-legal (b ∷ l) = (escape-legal b, escaped-legal l)
 -- `split` gives the escaped OBUs back
 pub split-carried : (l : List Bytes) → split (carried l) ≡ parts [] (map escape l)
 split-carried l = ap split (carried-joined l) ∙ split-joined (map escape l) (escaped-legal l)
-
--- of the writer's string: the OBUs' offsets
-pub start-codes-carried : (l : List Bytes) → startCodes (carried l) ≡ starts 0 (map escape l)
-start-codes-carried l = start-codes (carried l) ∙ ap (λ (r : Split). starts (length (r .before)) (r .payloads)) (split-carried l)

@@ -51,19 +51,23 @@ unescape-closing (a ∷ b ∷ c ∷ s) e =
 pub data Closings : List Bytes → List Bytes → Type 0 where
   nothing : Closings [] []
   plain : (obu : Bytes) {l ps : List Bytes} → Closings l ps → Closings (obu ∷ l) (escape obu ∷ ps)
-  closing : (obu : Bytes) {l ps : List Bytes} → endsIn00 (escape obu) ≡ true → Closings l ps → Closings (obu ∷ l) ((escape obu ++ (3 ∷ [])) ∷ ps)
+  closing : (obu : Bytes) {l ps : List Bytes} → endsIn00 (escape obu) ≡ true → Closings l ps
+      → Closings (obu ∷ l) ((escape obu ++ (3 ∷ [])) ∷ ps)
 
 pub closing-ends : (p obu : Bytes) → unescape p ≡ obu → p ≡ escape obu ++ (3 ∷ []) → endsIn00 (escape obu) ≡ true
 closing-ends p obu u e =
     case (endsIn00 (escape obu))
     (λ t. t)
     (λ t.
-    let w : obu ≡ obu ++ (3 ∷ []) = sym u ∙ ap unescape e ∙ unescape-closing (escape obu) t ∙ ap (λ (l : Bytes). l ++ (3 ∷ [])) (unescape-escape obu) in
+    let w : obu ≡ obu ++ (3 ∷ []) =
+    sym u ∙ ap unescape e ∙ unescape-closing (escape obu) t ∙ ap (λ (l : Bytes). l ++ (3 ∷ [])) (unescape-escape obu) in
     absurd (omega (arith, ap length w, length-append obu (3 ∷ []))))
 
-one-payload : (p : Bytes) (l ps : List Bytes) → (p ≡ escape (unescape p)) ⊎ (p ≡ escape (unescape p) ++ (3 ∷ [])) → Closings l ps → Closings (unescape p ∷ l) (p ∷ ps)
+one-payload : (p : Bytes) (l ps : List Bytes) → (p ≡ escape (unescape p)) ⊎ (p ≡ escape (unescape p) ++ (3 ∷ [])) → Closings l ps
+    → Closings (unescape p ∷ l) (p ∷ ps)
 one-payload p l ps (inl e) h = subst (λ (q : Bytes). Closings (unescape p ∷ l) (q ∷ ps)) (sym e) (plain (unescape p) h)
-one-payload p l ps (inr e) h = subst (λ (q : Bytes). Closings (unescape p ∷ l) (q ∷ ps)) (sym e) (closing (unescape p) (closing-ends p (unescape p) refl e) h)
+one-payload p l ps (inr e) h =
+    subst (λ (q : Bytes). Closings (unescape p ∷ l) (q ∷ ps)) (sym e) (closing (unescape p) (closing-ends p (unescape p) refl e) h)
 
 pub closings : (ps : List Bytes) → All (λ p. legal p ≡ true) ps → Closings (map unescape ps) ps
 closings [] h = nothing
@@ -73,17 +77,21 @@ closings (p ∷ ps) h = one-payload p (map unescape ps) ps (legal-unescape p (un
 abbrev Shortest : List Bytes → List Bytes → Type 0
 Shortest l ps = (joined ps ≡ joined (map escape l)) ⊎ (length (joined (map escape l)) < length (joined ps))
 
-longer-plain : (p : Bytes) (l ps : List Bytes) → Shortest l ps → (joined (p ∷ ps) ≡ 0 ∷ 0 ∷ 1 ∷ p ++ joined (map escape l)) ⊎ (length (0 ∷ 0 ∷ 1 ∷ p ++ joined (map escape l)) < length (joined (p ∷ ps)))
+longer-plain : (p : Bytes) (l ps : List Bytes) → Shortest l ps
+    → (joined (p ∷ ps) ≡ 0 ∷ 0 ∷ 1 ∷ p ++ joined (map escape l))
+    ⊎ (length (0 ∷ 0 ∷ 1 ∷ p ++ joined (map escape l)) < length (joined (p ∷ ps)))
 unfolding joined
 longer-plain p l ps (inl e) = inl (ap (λ (s : Bytes). 0 ∷ 0 ∷ 1 ∷ p ++ s) e)
 longer-plain p l ps (inr e) = inr (omega (arith, length-append p (joined ps), length-append p (joined (map escape l))))
 
-longer-closing : (p : Bytes) (l ps : List Bytes) → Shortest l ps → length (0 ∷ 0 ∷ 1 ∷ p ++ joined (map escape l)) < length (joined ((p ++ (3 ∷ [])) ∷ ps))
+longer-closing : (p : Bytes) (l ps : List Bytes) → Shortest l ps
+    → length (0 ∷ 0 ∷ 1 ∷ p ++ joined (map escape l)) < length (joined ((p ++ (3 ∷ [])) ∷ ps))
 unfolding joined
-longer-closing p l ps (inl e) = omega (arith, length-append (p ++ (3 ∷ [])) (joined ps), length-append p (3 ∷ []), length-append p (joined (map escape l)), ap length e)
-longer-closing p l ps (inr e) = omega (arith, length-append (p ++ (3 ∷ [])) (joined ps), length-append p (3 ∷ []), length-append p (joined (map escape l)))
+longer-closing p l ps (inl e) = simp length-append (omega (arith, ap length e))
+longer-closing p l ps (inr e) = simp length-append (omega arith)
 
-pub shortest : {l ps : List Bytes} → Closings l ps → (joined ps ≡ joined (map escape l)) ⊎ (length (joined (map escape l)) < length (joined ps))
+pub shortest : {l ps : List Bytes} → Closings l ps
+    → (joined ps ≡ joined (map escape l)) ⊎ (length (joined (map escape l)) < length (joined ps))
 unfolding joined
 shortest nothing = inl refl
 shortest (plain obu {l = l} {ps = ps} h) = longer-plain (escape obu) l ps (shortest h)

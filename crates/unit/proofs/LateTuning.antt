@@ -11,7 +11,7 @@ use lib.Dec.{leb}
 use lib.ListN.{length, drop}
 use denote.Ref.{now}
 use Rattle.lists.specs.Lists.{Bytes, those}
-use Rattle.lists.proofs.Tests.{case}
+use Rattle.lists.proofs.Tests.{case, apart}
 use Rattle.lists.proofs.Elements.{those-first, those-others}
 use Rattle.refusal.specs.Verdict.{passed}
 use Rattle.refusal.proofs.Verdicts.{All, pass-on}
@@ -176,8 +176,8 @@ gives s ps c e f =
 -- the first of the placed payloads
 first-placed : (n : ℕ) (ps : List Bytes) (t : Sent) (l : List Sent) → placed n ps ≡ t ∷ l → (t .place ≡ n) × (ps ≡ [] → ⊥)
 unfolding placed
-first-placed n [] t l e = absurd (let z : _≡_ {A = ℕ} 0 1 = cc in omega arith)
-first-placed n (p ∷ ps) t l e = (cc, λ z. let y : _≡_ {A = ℕ} 0 1 = cc in omega arith)
+first-placed n [] t l e = apart (cc)
+first-placed n (p ∷ ps) t l e = (cc, λ z. apart (cc))
 
 module _ (l : List Bytes) (a : Accepted l) (offset : ℕ) (h : offset ≤ length (carried l)) where
   abbrev rest : Bytes

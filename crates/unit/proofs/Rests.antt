@@ -48,7 +48,9 @@ sum-is total n rest e =
 module _ (lens : List ℕ) (bytes : Bytes) (i at : ℕ) where
   pub left-next : i < length lens → left lens bytes i at ≡ nextObu lens bytes i at ∷ left lens bytes (i + 1) (at + getD lens i 0)
   unfolding obusOf
-  left-next h = rw (next lens i h) (ap (λ (s : Bytes). nextObu lens bytes i at ∷ obusOf (drop (i + 1) lens) s) (drop-drop (getD lens i 0) at bytes))
+  left-next h =
+      rw (next lens i h)
+      (ap (λ (s : Bytes). nextObu lens bytes i at ∷ obusOf (drop (i + 1) lens) s) (drop-drop (getD lens i 0) at bytes))
 
   pub left-end : length lens ≤ i → left lens bytes i at ≡ []
   unfolding obusOf

@@ -1,6 +1,6 @@
--- Demand 3 about the definitions: the writer's string is one of those that reading accepts as the list, and the one shortest. Why: no start code begins inside a
--- legal payload or across its end, so that an accepted string is its payloads, each behind a start code; and a legal payload is the escaped form of its
--- OBU, but for a closing 03. Assumes nothing.
+-- Demand 3 about the definitions: the writer's string is one of those that reading accepts as the list, and the one shortest. Why: no start
+-- code begins inside a legal payload or across its end, so that an accepted string is its payloads, each behind a start code; and a legal
+-- payload is the escaped form of its OBU, but for a closing 03. Assumes nothing.
 use Prim.Native.Nat.{ℕ, _+_, _*_, _≤_, _<_}
 use mathlib.Core.Bool.{true, not}
 use mathlib.Core.Path.{_≡_, refl, sym, ap, ap₂, subst, _∙_}
@@ -11,14 +11,15 @@ use borrow.Author.Tests.{ne-eqb, ltb-true, ltb-false, lt-ltb, le-ltb, not-false}
 use lib.Dec.{ltb}
 use lib.ListN.{length, length-append, length-map}
 use Rattle.lists.specs.Lists.{Bytes, pick}
-use Rattle.lists.proofs.Tests.{case}
+use Rattle.lists.proofs.Tests.{case, apart}
 use Rattle.refusal.specs.Verdict.{passed, refused, _>>=_, _>>_, given, leaves}
-use Rattle.refusal.proofs.Verdicts.{refuse, pass-on, follows, never, passed-after, given-passed, All}
+use Rattle.refusal.proofs.Verdicts.{refuse, pass-on, follows, never, passed-after, given-passed, All, all-so}
 use Rattle.emulation.specs.Payload.{legal, unescape, escape}
 use Rattle.emulation.proofs.Theorems.{unescape-escape, escape-legal, escape-length, escape-longer, inserted-bound}
 use Rattle.obu.specs.Header.{obuRefusal, judged, headerOf}
 use Rattle.obu.specs.Order.{kindOf, orderRefusal}
-use Rattle.unit.specs.Unit.{mostObus, mostObuBytes, mostCarried, obusIn, sum, AcceptsAs, obusOf, writeRefusal, Accepted, carried, writeUnit}
+use Rattle.unit.specs.Unit.{mostObus, mostObuBytes, mostCarried, obusIn, sum, AcceptsAs, obusOf, writeRefusal, Accepted, carried}
+use Rattle.unit.specs.Unit.{writeUnit}
 use Rattle.tsobu.specs.StartCodes.{atStartCode, Split, payloads}
 use Rattle.tsobu.specs.TsObu.{tsobuRefusal}
 use Rattle.unit.specs.Demand3.{Demand3, Demand3Lent}
@@ -68,7 +69,7 @@ obus-carried l = ap (λ (r : Split). map unescape (r .payloads)) (split-carried 
 
 empty-refused : obuRefusal [] ≡ passed tt → ⊥
 unfolding judged headerOf given pick _>>_ _>>=_
-empty-refused e = let z : _≡_ {A = ℕ} 0 1 = cc in omega arith
+empty-refused e = apart (cc)
 
 -- an OBU that passes has a byte
 pub obu-some : (b : Bytes) → obuRefusal b ≡ passed tt → 1 ≤ length b
@@ -116,24 +117,21 @@ tsobu-legal p e =
     let h = passed-after _ _ tt (passed-after _ _ tt e .1) in
     not-false (legal p) (given-passed 10 _ (h .0))
 
-all-map : {A : Type 0} (P Q : A → Type 0) → ((x : A) → P x → Q x) → (l : List A) → All P l → All Q l
-all-map P Q f [] h = tt
-all-map P Q f (x ∷ l) h = (f x (h .0), all-map P Q f l (h .1))
-
 -- "an accepted string of l is `carried l` with a closing 03 after some payloads that end in 00 00"
 pub accepted-is : (s : Bytes) (l : List Bytes) → AcceptsAs s l → (s ≡ joined (payloads s)) × Closings l (payloads s)
 accepted-is s l a =
     let r = reads s l a in (
       from-code s (r .0 .headed),
       subst (λ (k : List Bytes). Closings k (payloads s)) (r .1)
-          (closings (payloads s) (all-map (λ p. tsobuRefusal p ≡ passed tt) (λ p. legal p ≡ true) tsobu-legal (payloads s) (r .0 .tsobus))),
+          (closings (payloads s) (all-so (payloads s) tsobu-legal (r .0 .tsobus))),
     )
 
 -- (b)
 pub no-other : (s : Bytes) (l : List Bytes) → AcceptsAs s l → (s ≡ carried l) ⊎ (length (carried l) < length s)
 no-other s l a =
     let h = accepted-is s l a in
-    rw (carried-joined l) (subst (λ (t : Bytes). (t ≡ joined (map escape l)) ⊎ (length (joined (map escape l)) < length t)) (sym (h .0)) (shortest (h .1)))
+    rw (carried-joined l)
+    (subst (λ (t : Bytes). (t ≡ joined (map escape l)) ⊎ (length (joined (map escape l)) < length t)) (sym (h .0)) (shortest (h .1)))
 
 -- (c) for any room
 at-least : (s : Bytes) (l : List Bytes) → (s ≡ carried l) ⊎ (length (carried l) < length s) → length (carried l) ≤ length s
@@ -148,7 +146,8 @@ room l a n = ((λ h s e. omega (arith, at-least s l (no-other s l e))), (λ f. f
 abbrev pub written : List ℕ → Bytes → Bytes → Bytes
 written lens bytes out = leaves (writeUnit lens bytes (length out)) (carried (obusOf lens bytes)) out
 
-short : (lens : List ℕ) (bytes : Bytes) (n : ℕ) → writeRefusal lens bytes ≡ passed tt → n < length (carried (obusOf lens bytes)) → writeUnit lens bytes n ≡ refused 8 0
+short : (lens : List ℕ) (bytes : Bytes) (n : ℕ) → writeRefusal lens bytes ≡ passed tt → n < length (carried (obusOf lens bytes))
+    → writeUnit lens bytes n ≡ refused 8 0
 unfolding writeUnit
 short lens bytes n a h = sym (follows a (refuse 8 _ (lt-ltb n (length (carried (obusOf lens bytes))) h)))
 
@@ -158,7 +157,8 @@ unfolding writeUnit
 long lens bytes n a h = sym (follows a (pass-on 8 (le-ltb n (length (carried (obusOf lens bytes))) h) refl))
 
 -- demand 3, of OBUs lent with their lengths, and every lent output
-pub demand3-lent : (lens : List ℕ) (bytes out : Bytes) → Demand3Lent lens bytes out (writeUnit lens bytes (length out)) (written lens bytes out)
+pub demand3-lent : (lens : List ℕ) (bytes out : Bytes)
+    → Demand3Lent lens bytes out (writeUnit lens bytes (length out)) (written lens bytes out)
 unfolding leaves
 demand3-lent lens bytes out a =
     let l = obusOf lens bytes in
@@ -189,5 +189,7 @@ demand3-lent lens bytes out a =
 pub demand3 : (l : List Bytes) → Accepted l → (out : Bytes)
     → Demand3 l out (writeUnit (map length l) (flatten l) (length out)) (written (map length l) (flatten l) out)
 demand3 l a out =
-    subst (λ (k : List Bytes). Demand3 k out (writeUnit (map length l) (flatten l) (length out)) (written (map length l) (flatten l) out)) (obus-of l)
+    subst
+    (λ (k : List Bytes). Demand3 k out (writeUnit (map length l) (flatten l) (length out)) (written (map length l) (flatten l) out))
+    (obus-of l)
     (demand3-lent (map length l) (flatten l) out a)

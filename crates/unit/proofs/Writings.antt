@@ -11,7 +11,7 @@ use Rattle.lists.proofs.Parts.{tail-lent, tail-placed}
 use Rattle.lists.proofs.Writing.{Part, start, counted, done, put-all}
 use Rattle.refusal.specs.declared.Refused.{Refused}
 use Rattle.refusal.specs.Verdict.{passed}
-use Rattle.refusal.proofs.Verdicts.{pass-on, passed-same}
+use Rattle.refusal.proofs.Verdicts.{pass-on, never, passed-same}
 use Rattle.emulation.specs.Payload.{escape}
 use Rattle.emulation.specs.Answer.{mostEscaped, measuring, escapedSays}
 use Rattle.emulation.specs.declared.escaping.Escaped.{Escaped}
@@ -31,7 +31,7 @@ module _ (obu : Bytes) (h : length obu ≤ mostEscaped) (q : Escaped) (e : escap
   measured n k = passed-same n (length (escape obu)) (sym (ap escapedSays k) ∙ e ∙ measuring-is obu h)
 
   pub not-refused : {P : Type 0} (r : Refused) → q ≡ escaped.Refused r → P
-  not-refused r k = let f = sym (ap escapedSays k) ∙ e ∙ measuring-is obu h in let z : _≡_ {A = ℕ} 0 1 = cc in absurd (omega arith)
+  not-refused r k = never (sym (ap escapedSays k) ∙ e ∙ measuring-is obu h)
 
 -- ---- the carried unit: a tsOBU for each OBU in turn
 abbrev tsObu : Bytes → Bytes

@@ -9,8 +9,8 @@ use Rattle.refusal.specs.Verdict.{Verdict, passed, refused}
 use Rattle.emulation.specs.Payload.{inserted}
 use Rattle.unit.specs.Unit.{AcceptsAs, obusOf, writeRefusal, carried}
 
--- "For every list of OBUs that 01 accepts as one access unit" (l, which is `Accepted`), of a lent output `before`, the writer's answer and the output
--- `after` it:
+-- "For every list of OBUs that 01 accepts as one access unit" (l, which is `Accepted`), of a lent output `before`, the
+-- writer's answer and the output `after` it:
 pub record Demand3 (l : List Bytes) (before : Bytes) (answer : Verdict ℕ) (after : Bytes) : Type 0 where
   -- (a) "the writer's string is accepted by the reader as exactly that list"
   pub one-of-them : AcceptsAs (carried l) l
@@ -23,7 +23,8 @@ pub record Demand3 (l : List Bytes) (before : Bytes) (answer : Verdict ℕ) (aft
   -- (e) "an OBU of n bytes costs at most (n-1)/2"
   pub cost : (obu : Bytes) → List·Memᴰ obu l → 1 ≤ length obu → inserted obu ≤ (length obu - 1) / 2
 
--- The same of OBUs lent back to back with their lengths, which writing does not refuse (but by 8). Lengths that don't add up to the bytes can still cut
--- out an accepted list, so this asks for no refusal and not for an accepted list.
+-- The same of OBUs lent back to back with their lengths, which writing does not refuse (but by 8). Lengths that don't
+-- add up to the bytes can still cut out an accepted list, so this asks for no refusal and not for an accepted list.
 abbrev pub Demand3Lent : List ℕ → Bytes → Bytes → Verdict ℕ → Bytes → Type 0
-Demand3Lent lens bytes before answer after = writeRefusal lens bytes ≡ passed tt → Demand3 (obusOf lens bytes) before answer after
+Demand3Lent lens bytes before answer after =
+    writeRefusal lens bytes ≡ passed tt → Demand3 (obusOf lens bytes) before answer after

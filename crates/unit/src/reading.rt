@@ -12,9 +12,10 @@ ghost use Rattle.emulation.specs.Payload.{unescape};
 ghost use Rattle.emulation.specs.Payload.{dropped as Payload·dropped};
 ghost use Rattle.obu.specs.Header.{sizeWidth};
 ghost use Rattle.tsobu.specs.StartCodes.{atStartCode, payloads};
-ghost use Rattle.unit.specs.Unit.{mostObus, obusIn, droppedIn};
+ghost use Rattle.unit.specs.Unit.{mostObus, obusIn};
 ghost use Rattle.unit.specs.Answer.{checking, tooShort, readingWidths, readSays};
-ghost use Rattle.unit.specs.Parts.{Place, Judges, wholeCounts, Notes, endsFrom};
+ghost use Rattle.tsobu.specs.Parts.{Place};
+ghost use Rattle.unit.specs.Parts.{Judges, wholeCounts, Notes, Measured};
 use crate::limits::MOST_CARRIED;
 use crate::limits::MOST_OBU_BYTES;
 use crate::limits::MOST_OBUS;
@@ -199,8 +200,7 @@ fn copy_obus(
     out: &mut [u8],
     lens: &mut [usize],
 )
-    requires { ⌜ (atStartCode (now unit) ≡ true) × (count ≡ length (payloads (now unit))) × (count ≤ 64)
-        × (take count (now ends) ≡ endsFrom 0 (payloads (now unit))) × (dropped ≡ droppedIn (now unit)) ⌝ }
+    requires { ⌜ Measured (now unit) count dropped (now ends) ⌝ }
     requires { ⌜ (length (flatten (obusIn (now unit))) ≤ length (now out)) × (count ≤ length (now lens)) ⌝ }
     ensures { λ _. ⌜ now (out .exit) ≡ over (flatten (obusIn (now (unit .entry)))) (now (out .entry)) ⌝ }
     ensures { λ _. ⌜ now (lens .exit) ≡ over (map length (obusIn (now (unit .entry)))) (now (lens .entry)) ⌝ }

@@ -19,7 +19,7 @@ returns c =
     let i = start .args .i in
     let byte : (j : ℕ) → getD s j 0 < 256 = λ j. omega (arith, c .before .shared-slice-known .given j) in
     ap (λ (r : ℕ). crcFrom r (drop (i + 4) s)) (c .left-by-four .ensures)
-    ∙ sym (by-four (start .args .register) s i (omega arith) byte (start .pre .1))
+    ∙ sym (by-four (start .args .register) s i (omega arith) byte (start .pre))
 
 pub four-spec : {M : Type 1} → statement M
 four-spec = tie.close (tie.spec left-by-four-requires returns)

@@ -1,4 +1,4 @@
--- Each of the four bytes, added to its byte of the register, leaves what the table says of it; `four-leave` adds the four up.
+-- Each of the four bytes, added to its byte of the register, leaves what `left` says of it; `four-leave` adds the four up.
 use mathlib.Core.Path.{ap₂, sym, _∙_}
 use Prim.Native.Nat.{ℕ, _<_}
 use native.Mathlib.Omega.{arith}

@@ -1,26 +1,35 @@
 -- As many packets as n says have gone on, and their payloads are written (`Followed`).
 use borrow.Author.Needs.{needs}
 use native.Mathlib.Omega.{arith}
-use Prim.Native.Nat.{_+_, _-_, _/_, _≤_, _<_}
-use lib.ListN.{length, drop}
-use mathlib.Core.Path.{sym, ap, _∙_}
+use Prim.Native.Nat.{ℕ, _+_, _-_, _*_, _/_, _≤_, _<_}
+use lib.ListN.{length, take, drop, length-drop}
+use mathlib.Core.Path.{_≡_, sym, ap, _∙_}
 use borrow.Author.Tests.{not-true, not-false}
-use Rattle.lists.specs.Lists.{placed}
-use Rattle.lists.proofs.Parts.{tail-prefix}
+use Rattle.lists.specs.Lists.{Bytes}
+use Rattle.lists.proofs.Parts.{tail-lent, tail-placed}
 use Rattle.packet.specs.Header.{packets}
-use Rattle.plain.proofs.Following.{Followed, none-put, none-goes, follows-none, kept, at-end, no-room, another, payload-long, follows-one}
+use Rattle.plain.proofs.Following.{Followed, none-put, none-goes, follows-none, kept, at-end, no-room, another, payload-long}
+use Rattle.plain.proofs.Following.{follows-one}
+use Rattle.plain.proofs.Places.{packetAt, packet-length}
 use Rattle.plain.proofs.follow.Statement.{statement}
 use Rattle.plain.proofs.follow.Tie as tie
 
+-- what is lent of the segment is a packet of it
+lent-packet : (s : Bytes) (k : ℕ) → take (k * 188 + 188 - k * 188) (drop (k * 188) s) ≡ packetAt s k
+lent-packet s k = let e : k * 188 + 188 - k * 188 ≡ 188 = omega arith in ap (λ (m : ℕ). take m (drop (k * 188) s)) e
+
 abbrev Inv-loop : tie.InvT-loop
-Inv-loop segment from pid last out₀ count n₀ counter₀ written₀ out n counter written = Followed segment from pid last out₀ out n counter written
+Inv-loop segment from pid last out₀ count n₀ counter₀ written₀ out n counter written =
+    Followed segment from pid last out₀ out n counter written
 
 abbrev μ-loop : tie.MeasureT-loop
 μ-loop segment from pid last out₀ count n₀ counter₀ written₀ out n counter written = count - from - n
 
 returns : tie.Need-returns Inv-loop μ-loop
-returns c = let a = c .before .before .before .args in
-    (none-goes (a .segment .now) (a .from) (a .pid) (a .last) (a .out .now) (c .if1 .taken), none-put (a .out .now) (drop (a .from) (packets (a .segment .now))))
+returns c = let a = c .before .before .before .args in (
+  none-goes (a .segment .now) (a .from) (a .pid) (a .last) (a .out .now) (c .if1 .taken),
+  none-put (a .out .now) (drop (a .from) (packets (a .segment .now))),
+)
 
 loop-holds : tie.Need-loop-holds Inv-loop μ-loop
 loop-holds c = let a = c .before .before .before .args in
@@ -42,20 +51,33 @@ same-length c = let a = c .before .before .before .before .before .before .args 
     kept s (a .from) (a .pid) (a .last) (a .out .now) (l .out) (l .n) (l .counter) (l .written) (l .inv)
 
 returns-2 : tie.Need-returns-2 Inv-loop μ-loop
-returns-2 c = let a = c .before .before .before .before .before .before .args in
+returns-2 c =
+    let start = c .before .before .before .before .before .before in
+    let a = start .args in
     let s = a .segment .now in
     let l = c .before .before .loop in
-    let h : a .from + l .n < length s / 188 = omega (arith, c .before .loop-test .taken) in
-    (no-room s (a .from) (a .pid) (a .last) (a .out .now) (l .out) (l .n) (l .counter) (l .written) (l .inv) h (c .if2 .taken), l .inv .stands)
+    let h : a .from + l .n < length s / 188 = omega (arith, c .before .loop-test .taken) in (
+      no-room s (a .from) (a .pid) (a .last) (a .out .now) (l .out) (l .n) (l .counter) (l .written) (l .inv) h (c .if2 .taken),
+      l .inv .stands,
+    )
 
-add-part : tie.Need-add-part Inv-loop μ-loop
-add-part c = omega arith
+add-at : tie.Need-add-at Inv-loop μ-loop
+add-at c = omega arith
 
-mul-part : tie.Need-mul-part Inv-loop μ-loop
-mul-part c = omega arith
+mul-at : tie.Need-mul-at Inv-loop μ-loop
+mul-at c = omega arith
 
-part-requires : tie.Need-part-requires Inv-loop μ-loop
-part-requires c κs = search needs
+add-packet : tie.Need-add-packet Inv-loop μ-loop
+add-packet c = omega arith
+
+sub-packet : tie.Need-sub-packet Inv-loop μ-loop
+sub-packet c = omega arith
+
+part-packet-start : tie.Need-part-packet-start Inv-loop μ-loop
+part-packet-start c = omega arith
+
+part-packet-end : tie.Need-part-packet-end Inv-loop μ-loop
+part-packet-end c = omega arith
 
 goes-on-requires : tie.Need-goes-on-requires Inv-loop μ-loop
 goes-on-requires c κs = search needs
@@ -67,29 +89,37 @@ same-length-2 c = let a = c .before .before .before .before .before .before .bef
     kept s (a .from) (a .pid) (a .last) (a .out .now) (l .out) (l .n) (l .counter) (l .written) (l .inv)
 
 returns-3 : tie.Need-returns-3 Inv-loop μ-loop
-returns-3 c = let a = c .before .before .before .before .before .before .before .before .before .args in
+returns-3 c =
+    let at-loop = c .before .before .before .before .before in
+    let a = at-loop .before .before .before .before .args in
     let s = a .segment .now in
-    let l = c .before .before .before .before .before .loop in
+    let l = at-loop .loop in
     let h : a .from + l .n < length s / 188 = omega (arith, c .before .before .before .before .loop-test .taken) in (
-      another s (a .from) (a .pid) (a .last) (a .out .now) (l .out) (l .n) (l .counter) (l .written) (l .inv) h _ (c .before .before .part .ensures)
+      another s (a .from) (a .pid) (a .last) (a .out .now) (l .out) (l .n) (l .counter) (l .written) (l .inv) h _
+          (lent-packet s (a .from + l .n))
           (sym (c .before .goes-on .ensures) ∙ not-true _ (c .if3 .taken)),
       l .inv .stands,
     )
 
-rest-requires : tie.Need-rest-requires Inv-loop μ-loop
-rest-requires c κs = search needs
+sub-put-payload : tie.Need-sub-put-payload Inv-loop μ-loop
+sub-put-payload c = omega arith
 
-sub-copy : tie.Need-sub-copy Inv-loop μ-loop
-sub-copy c = omega arith
+part-put-payload-start : tie.Need-part-put-payload-start Inv-loop μ-loop
+part-put-payload-start c = omega arith
 
-part-copy-start : tie.Need-part-copy-start Inv-loop μ-loop
-part-copy-start c = omega arith
+part-put-payload-end : tie.Need-part-put-payload-end Inv-loop μ-loop
+part-put-payload-end c = omega arith
 
-part-copy-end : tie.Need-part-copy-end Inv-loop μ-loop
-part-copy-end c = omega arith
-
-copy-requires : tie.Need-copy-requires Inv-loop μ-loop
-copy-requires c κs = search needs
+put-payload-requires : tie.Need-put-payload-requires Inv-loop μ-loop
+put-payload-requires c κs =
+    let at-loop = c .before .before .before .before .before .before in
+    let a = at-loop .before .before .before .before .args in
+    let s = a .segment .now in
+    let l = at-loop .loop in
+    let h : a .from + l .n < length s / 188 = omega arith in (
+      ap length (lent-packet s (a .from + l .n)) ∙ packet-length s (a .from + l .n) h,
+      omega (arith, ap length (tail-lent (l .written) (l .out) (omega arith)), length-drop (l .written) (l .out)),
+    )
 
 next-counter-requires : tie.Need-next-counter-requires Inv-loop μ-loop
 next-counter-requires c κs = search needs
@@ -104,20 +134,21 @@ loop-less : tie.Need-loop-less Inv-loop μ-loop
 loop-less c = omega arith
 
 loop-again : tie.Need-loop-again Inv-loop μ-loop
-loop-again c = let a = c .before .before .before .before .before .before .before .before .before .before .before .before .before .before .before .args in
+loop-again c =
+    let at-if3 = c .before .before .before .before .before in
+    let at-loop = at-if3 .before .before .before .before .before in
+    let a = at-loop .before .before .before .before .args in
     let s = a .segment .now in
-    let l = c .before .before .before .before .before .before .before .before .before .before .before .loop in
-    let h : a .from + l .n < length s / 188 = omega (arith, c .before .before .before .before .before .before .before .before .before .before .loop-test .taken) in
-    let p = c .before .before .before .before .before .before .before .before .part .result .now in
-    let lent = c .before .before .before .before .before .before .before .before .part .ensures in
+    let l = at-loop .loop in
+    let k = a .from + l .n in
+    let h : k < length s / 188 = omega arith in
+    let p = take (k * 188 + 188 - k * 188) (drop (k * 188) s) in
+    let lent = lent-packet s k in
     let long = payload-long s (a .from) (a .pid) (a .last) (a .out .now) (l .out) (l .n) (l .counter) (l .written) (l .inv) h p lent in
-    let behind = c .before .before .before .before .before .rest .ensures in
-    let r : 184 ≤ length (l .out) - l .written = omega (arith, c .before .before .before .before .before .before .before .before .before .if2 .left) in
+    let r : 184 ≤ length (l .out) - l .written = omega arith in
     follows-one s (a .from) (a .pid) (a .last) (a .out .now) (l .out) (l .n) (l .counter) (l .written) (l .inv) h p lent
-    (sym (c .before .before .before .before .before .before .before .goes-on .ensures) ∙ not-false _ (c .before .before .before .before .before .before .if3 .left)) r _
-    (tail-prefix (l .written) (l .out) (c .before .before .before .before .before .rest .result .now) _
-    (omega (arith, r, long, ap length behind, l .inv .room, kept s (a .from) (a .pid) (a .last) (a .out .now) (l .out) (l .n) (l .counter) (l .written) (l .inv))) (c .before .before .before .copy .ensures)
-    ∙ ap (placed (l .out) (l .written)) behind)
+    (sym (at-if3 .before .goes-on .ensures) ∙ not-false _ (at-if3 .if3 .left)) r _
+    (tail-placed (l .written) (l .out) (drop 4 p) _ (omega (arith, r, long)) (c .before .before .before .put-payload .ensures))
     _ (c .next-counter .ensures)
 
 same-length-3 : tie.Need-same-length-3 Inv-loop μ-loop
@@ -145,17 +176,19 @@ follow-spec =
     sub-if2
     same-length
     returns-2
-    add-part
-    mul-part
-    part-requires
+    add-at
+    mul-at
+    add-packet
+    sub-packet
+    part-packet-start
+    part-packet-end
     goes-on-requires
     same-length-2
     returns-3
-    rest-requires
-    sub-copy
-    part-copy-start
-    part-copy-end
-    copy-requires
+    sub-put-payload
+    part-put-payload-start
+    part-put-payload-end
+    put-payload-requires
     next-counter-requires
     add-written
     add-n

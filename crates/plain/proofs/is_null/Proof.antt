@@ -29,9 +29,12 @@ pid-of-requires : tie.Need-pid-of-requires
 pid-of-requires c κs = search needs
 
 returns-3 : tie.Need-returns-3
-returns-3 c = let p = c .before .before .before .before .before .before .args .packet .now in
+returns-3 c =
+    let start = c .before .before .before .before .before .before in
+    let p = start .args .packet .now in
     and-by-true (sync-found p (c .before .before .before .before .byte-at .ensures) (c .before .before .before .if1 .left))
-    (and-by-true (error-clear p (c .before .before .byte-at2 .ensures) (c .before .if2 .left)) (ap (λ (n : ℕ). eqb n nullPid) (c .pid-of .ensures)))
+    (and-by-true (error-clear p (c .before .before .byte-at2 .ensures) (c .before .if2 .left))
+    (ap (λ (n : ℕ). eqb n nullPid) (c .pid-of .ensures)))
 
 pub is-null-spec : {M : Type 1} → statement M
 is-null-spec =

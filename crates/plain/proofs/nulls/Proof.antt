@@ -38,11 +38,14 @@ is-null-requires : tie.Need-is-null-requires Inv-loop μ-loop
 is-null-requires c κs = search needs
 
 returns-2 : tie.Need-returns-2 Inv-loop μ-loop
-returns-2 c = let s = c .before .before .before .before .before .before .before .args .segment .now in
-    let from = c .before .before .before .before .before .before .before .args .from in
+returns-2 c =
+    let start = c .before .before .before .before .before .before .before in
+    let s = start .args .segment .now in
+    let from = start .args .from in
     let l = c .before .before .before .before .loop in
     let h : from + l .n < length s / 188 = omega (arith, c .before .before .before .loop-test .taken) in
-    stops s from (l .n) (l .inv) h (ap isNull (sym (c .before .before .part .ensures)) ∙ sym (c .before .is-null .ensures) ∙ not-true _ (c .if2 .taken))
+    stops s from (l .n) (l .inv) h
+    (ap isNull (sym (c .before .before .part .ensures)) ∙ sym (c .before .is-null .ensures) ∙ not-true _ (c .if2 .taken))
 
 add-n : tie.Need-add-n Inv-loop μ-loop
 add-n c = omega arith
@@ -51,11 +54,14 @@ loop-less : tie.Need-loop-less Inv-loop μ-loop
 loop-less c = omega arith
 
 loop-again : tie.Need-loop-again Inv-loop μ-loop
-loop-again c = let s = c .before .before .before .before .before .before .before .args .segment .now in
-    let from = c .before .before .before .before .before .before .before .args .from in
+loop-again c =
+    let start = c .before .before .before .before .before .before .before in
+    let s = start .args .segment .now in
+    let from = start .args .from in
     let l = c .before .before .before .before .loop in
     let h : from + l .n < length s / 188 = omega (arith, c .before .before .before .loop-test .taken) in
-    one-more s from (l .n) (l .inv) h (ap isNull (sym (c .before .before .part .ensures)) ∙ sym (c .before .is-null .ensures) ∙ not-false _ (c .if2 .left))
+    one-more s from (l .n) (l .inv) h
+    (ap isNull (sym (c .before .before .part .ensures)) ∙ sym (c .before .is-null .ensures) ∙ not-false _ (c .if2 .left))
 
 returns-3 : tie.Need-returns-3 Inv-loop μ-loop
 returns-3 c = let s = c .before .before .before .before .args .segment .now in

@@ -14,13 +14,13 @@ use Rattle.salvage.proofs.put.Tie as tie
 -- there are as many marks
 room : (start : tie.Start) → start .args .measured .count ≤ length (start .args .measured .marks)
 room start =
-    let o = start .pre .0 .1 in
-    omega (arith, few-payloads _ _ o (start .pre .0 .2), o .long)
+    let o = start .pre .measured in
+    omega (arith, few-payloads _ _ o (start .pre .all), o .long)
 
 write-kept-requires : tie.Need-write-kept-requires
 write-kept-requires c κs =
     let start = c .before .before .before .before in
-    (start .pre .0 .0, forms-fit _ _ (start .pre .0 .1) (start .pre .0 .2) _ (start .pre .1 .0))
+    (start .pre .begins, forms-fit _ _ (start .pre .measured) (start .pre .all) _ (start .pre .bytes))
 
 array-share-prefix-found : tie.Need-array-share-prefix-found
 array-share-prefix-found c = room (c .before .before .before .before .before .before .before .before)
@@ -41,11 +41,11 @@ returns : tie.Need-returns
 returns c =
     let at = c .before .before .before .before .before .before .before .before in
     let start = at .before .before .before .before .before in
-    let o = start .pre .0 .1 in
+    let o = start .pre .measured in
     let n = length-take-le (start .args .measured .count) (start .args .measured .marks) (room start) in (
       at .write-kept .ensures,
-      c .before .before .copy .ensures ∙ fits (start .args .marks .now) _ (omega (arith, n, start .pre .1 .1))
-          ∙ ap (λ (w : Bytes). over w (start .args .marks .now)) (o .marks (start .pre .0 .2)),
+      c .before .before .copy .ensures ∙ fits (start .args .marks .now) _ (omega (arith, n, start .pre .count))
+          ∙ ap (λ (w : Bytes). over w (start .args .marks .now)) (o .marks (start .pre .all)),
     )
 
 pub put-spec : {M : Type 1} → statement M

@@ -1,7 +1,7 @@
--- `unit::check` answers by the definition.
+-- `unit::check` answers by the definition, which is then put into the C struct.
 use borrow.Author.Needs.{needs}
 use mathlib.Core.Path.{ap, _∙_}
-use Rattle.av1ts.specs.Answers.{unitAnswer}
+use Rattle.answers.specs.Answers.{unitAnswer}
 use Rattle.av1ts.proofs.access_unit.av1ts_check_unit.Statement.{statement}
 use Rattle.av1ts.proofs.access_unit.av1ts_check_unit.Tie as tie
 

@@ -4,7 +4,7 @@ use borrow.Author.Needs.{needs}
 use mathlib.Core.Path.{ap, _∙_}
 use Rattle.refusal.proofs.Verdicts.{leaves-as}
 use Rattle.unit.proofs.Checking.{with-64}
-use Rattle.av1ts.specs.Answers.{unitAnswer}
+use Rattle.answers.specs.Answers.{unitAnswer}
 use Rattle.av1ts.proofs.access_unit.av1ts_read_unit.Statement.{statement}
 use Rattle.av1ts.proofs.access_unit.av1ts_read_unit.Tie as tie
 
@@ -27,8 +27,18 @@ returns : tie.Need-returns
 returns c =
     let e = c .before .before .before .before .before .before .read .ensures in
     let v = e .0 ∙ with-64 _ _ _ in
-    (c .unit-answer .ensures ∙ ap unitAnswer v, (e .1 .0 ∙ leaves-as _ _ v, e .1 .1 .0 ∙ leaves-as _ _ v))
+    record {
+      answers = c .unit-answer .ensures ∙ ap unitAnswer v;
+      outputs = record { obus = e .1 .0 ∙ leaves-as _ _ v; of-each = e .1 .1 .0 ∙ leaves-as _ _ v };
+    }
 
 pub av1ts-read-unit-spec : {M : Type 1} → statement M
 av1ts-read-unit-spec =
-    tie.close (tie.spec slice-aggregate-read read-requires unit-answer-requires same-length same-length-2 returns)
+    tie.close
+    (tie.spec
+    slice-aggregate-read
+    read-requires
+    unit-answer-requires
+    same-length
+    same-length-2
+    returns)

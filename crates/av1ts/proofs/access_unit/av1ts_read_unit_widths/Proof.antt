@@ -2,7 +2,7 @@
 use borrow.Author.Needs.{needs}
 use mathlib.Core.Path.{ap, _∙_}
 use Rattle.refusal.proofs.Verdicts.{leaves-as}
-use Rattle.av1ts.specs.Answers.{unitAnswer}
+use Rattle.answers.specs.Answers.{unitAnswer}
 use Rattle.av1ts.proofs.access_unit.av1ts_read_unit_widths.Statement.{statement}
 use Rattle.av1ts.proofs.access_unit.av1ts_read_unit_widths.Tie as tie
 
@@ -24,11 +24,12 @@ same-length-3 c = search needs
 returns : tie.Need-returns
 returns c =
     let e = c .before .before .before .before .before .before .before .read .ensures in
-    let left = e .1 in (
-      c .unit-answer .ensures ∙ ap unitAnswer (e .0),
-      (left .0 ∙ leaves-as _ _ (e .0), (left .1 .0 ∙ leaves-as _ _ (e .0), left .1 .1 ∙ leaves-as _ _ (e .0))),
-    )
+    let left = e .1 in
+    record {
+      answers = c .unit-answer .ensures ∙ ap unitAnswer (e .0);
+      outputs = record { obus = left .0 ∙ leaves-as _ _ (e .0); of-each = left .1 .0 ∙ leaves-as _ _ (e .0) };
+      sizes = left .1 .1 ∙ leaves-as _ _ (e .0);
+    }
 
 pub av1ts-read-unit-widths-spec : {M : Type 1} → statement M
-av1ts-read-unit-widths-spec =
-    tie.close (tie.spec read-requires unit-answer-requires same-length same-length-2 same-length-3 returns)
+av1ts-read-unit-widths-spec = tie.close (tie.spec read-requires unit-answer-requires same-length same-length-2 same-length-3 returns)

@@ -1,57 +1,24 @@
--- `emulation::escape` answers by the definition; each case of its answer is put into the C struct.
+-- `emulation::escape` answers by the definition, which is then put into the C struct, and leaves the output as it says.
 use borrow.Author.Needs.{needs}
-use mathlib.Core.Path.{sym, ap, _∙_}
-use Rattle.refusal.specs.Verdict.{Verdict, leaves}
-use Rattle.emulation.specs.Payload.{escape}
-use Rattle.emulation.specs.Answer.{escapedSays}
-use Prim.Native.Nat.{ℕ}
-use Rattle.av1ts.specs.Answers.{countAnswer}
+use mathlib.Core.Path.{ap, _∙_}
+use Rattle.refusal.proofs.Verdicts.{leaves-as}
+use Rattle.answers.specs.Answers.{countAnswer}
 use Rattle.av1ts.proofs.payload.av1ts_escape.Statement.{statement}
 use Rattle.av1ts.proofs.payload.av1ts_escape.Tie as tie
 
 escape-requires : tie.Need-escape-requires
 escape-requires c κs = search needs
 
-enum-known-answer : tie.Need-enum-known-answer
-enum-known-answer c = search needs
-
-enum-known-answer-2 : tie.Need-enum-known-answer-2
-enum-known-answer-2 c = search needs
-
-refusal-requires : tie.Need-refusal-requires
-refusal-requires c κs = search needs
+escape-answer-requires : tie.Need-escape-answer-requires
+escape-answer-requires c κs = search needs
 
 same-length : tie.Need-same-length
 same-length c = search needs
 
 returns : tie.Need-returns
 returns c =
-    let start = c .before .before .before .before .before .before .before .before .before in
-    let e = c .before .before .before .before .before .escape .ensures in
-    let k = ap escapedSays (c .before .answer .given .1) in
-    (ap countAnswer (sym k ∙ e .0), e .1 ∙ ap (λ (v : Verdict ℕ). leaves v (escape (start .args .obu .now)) (start .args .out .now)) (e .0))
-
-same-length-2 : tie.Need-same-length-2
-same-length-2 c = search needs
-
-returns-2 : tie.Need-returns-2
-returns-2 c =
-    let start = c .before .before .before .before .before .before .before .before .before .before in
-    let e = c .before .before .before .before .before .before .escape .ensures in
-    let k = ap escapedSays (c .before .before .answer2 .given .1) in (
-      c .refusal .ensures ∙ ap countAnswer (sym k ∙ e .0),
-      e .1 ∙ ap (λ (v : Verdict ℕ). leaves v (escape (start .args .obu .now)) (start .args .out .now)) (e .0),
-    )
+    let e = c .before .before .before .escape .ensures in
+    (c .escape-answer .ensures ∙ ap countAnswer (e .0), e .1 ∙ leaves-as _ _ (e .0))
 
 pub av1ts-escape-spec : {M : Type 1} → statement M
-av1ts-escape-spec =
-    tie.close
-    (tie.spec
-    escape-requires
-    enum-known-answer
-    enum-known-answer-2
-    refusal-requires
-    same-length
-    returns
-    same-length-2
-    returns-2)
+av1ts-escape-spec = tie.close (tie.spec escape-requires escape-answer-requires same-length returns)

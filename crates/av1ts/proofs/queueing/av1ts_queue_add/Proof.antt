@@ -2,7 +2,7 @@
 use borrow.Author.Needs.{needs}
 use mathlib.Core.Path.{ap₂, _∙_}
 use Rattle.av1ts.proofs.Queues.{holds-queue}
-use Rattle.av1ts.specs.Queueing.{addAnswer}
+use Rattle.answers.specs.Queueing.{addAnswer}
 use Rattle.av1ts.proofs.queueing.av1ts_queue_add.Statement.{statement}
 use Rattle.av1ts.proofs.queueing.av1ts_queue_add.Tie as tie
 

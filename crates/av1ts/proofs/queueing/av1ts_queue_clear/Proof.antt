@@ -3,8 +3,8 @@ use borrow.Author.Needs.{needs}
 use mathlib.Core.Bool.{false}
 use mathlib.Core.Path.{ap, _∙_}
 use Rattle.lists.specs.Lists.{pick}
-use Rattle.av1ts.specs.Queueing.{stateOf, mark, dropWith}
-use Rattle.av1ts.specs.declared.queueing.QueueState.{QueueState}
+use Rattle.answers.specs.Queueing.{stateOf, mark, dropWith}
+use Rattle.answers.specs.declared.queueing.QueueState.{QueueState}
 use Rattle.av1ts.proofs.queueing.av1ts_queue_clear.Statement.{statement}
 use Rattle.av1ts.proofs.queueing.av1ts_queue_clear.Tie as tie
 

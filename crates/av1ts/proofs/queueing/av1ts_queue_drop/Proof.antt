@@ -2,7 +2,7 @@
 use borrow.Author.Needs.{needs}
 use mathlib.Core.Path.{ap₂, _∙_}
 use Rattle.av1ts.proofs.Queues.{holds-queue}
-use Rattle.av1ts.specs.Queueing.{dropAnswer}
+use Rattle.answers.specs.Queueing.{dropAnswer}
 use Rattle.av1ts.proofs.queueing.av1ts_queue_drop.Statement.{statement}
 use Rattle.av1ts.proofs.queueing.av1ts_queue_drop.Tie as tie
 

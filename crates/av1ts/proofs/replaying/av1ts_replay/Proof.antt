@@ -1,31 +1,24 @@
 -- A struct that is no state is refused; otherwise `replay::run` answers by the definition.
 use borrow.Author.Needs.{needs}
-use Prim.Native.Nat.{ℕ}
 use mathlib.Core.Path.{sym, ap, _∙_}
 use borrow.Author.Tests.{not-true, not-false}
 use Rattle.lists.proofs.Picks.{by-true, by-false}
-use Rattle.refusal.specs.Verdict.{refused}
 use Rattle.replay.specs.declared.state.State.{State}
 use Rattle.replay.specs.Replay.{Replayed, running}
-use Rattle.av1ts.specs.Replaying.{answerWith, replayAnswer, replaying}
+use Rattle.answers.specs.Replaying.{replayAnswer, replaying}
 use Rattle.av1ts.proofs.replaying.av1ts_replay.Statement.{statement}
 use Rattle.av1ts.proofs.replaying.av1ts_replay.Tie as tie
 
 state-right-requires : tie.Need-state-right-requires
 state-right-requires c κs = search needs
 
-number-requires : tie.Need-number-requires
-number-requires c κs = search needs
-
-cast-t9 : tie.Need-cast-t9
-cast-t9 c = search needs
+no-state-requires : tie.Need-no-state-requires
+no-state-requires c κs = search needs
 
 returns : tie.Need-returns
 unfolding replaying
 returns c =
-    let start = c .before .before .before .before .before in
-    by-false _ (sym (c .before .before .state-right .ensures) ∙ not-true _ (c .before .if1 .taken))
-    (ap (λ (n : ℕ). answerWith (start .args .state) (refused n 0)) (c .number .ensures))
+    by-false _ (sym (c .before .before .state-right .ensures) ∙ not-true _ (c .before .if1 .taken)) (c .no-state .ensures)
 
 state-from-requires : tie.Need-state-from-requires
 state-from-requires c κs = search needs
@@ -50,8 +43,7 @@ av1ts-replay-spec =
     tie.close
     (tie.spec
     state-right-requires
-    number-requires
-    cast-t9
+    no-state-requires
     returns
     state-from-requires
     run-requires

@@ -1,15 +1,10 @@
--- `segment::check_compared` answers by the definition, and leaves the outputs as it says.
-use mathlib.Core.Path.{ap₂, _∙_}
+-- `check_in` promises it of every edition.
 use borrow.Author.Needs.{needs}
-use Rattle.av1ts.specs.Answers.{segmentAnswer}
 use Rattle.av1ts.proofs.segments.av1ts_check_segment.Statement.{statement}
 use Rattle.av1ts.proofs.segments.av1ts_check_segment.Tie as tie
 
-check-compared-requires : tie.Need-check-compared-requires
-check-compared-requires c κs = search needs
-
-segment-answer-requires : tie.Need-segment-answer-requires
-segment-answer-requires c κs = search needs
+check-in-requires : tie.Need-check-in-requires
+check-in-requires c κs = search needs
 
 same-length : tie.Need-same-length
 same-length c = search needs
@@ -21,17 +16,7 @@ same-length-3 : tie.Need-same-length-3
 same-length-3 c = search needs
 
 returns : tie.Need-returns
-returns c =
-    let e = c .before .before .before .before .before .before .before .check-compared .ensures in
-    (c .segment-answer .ensures ∙ ap₂ segmentAnswer (e .0) (e .1 .1 .0), e .1 .1 .1)
+returns c = c .before .before .before .before .before .before .check-in .ensures
 
 pub av1ts-check-segment-spec : {M : Type 1} → statement M
-av1ts-check-segment-spec =
-    tie.close
-    (tie.spec
-    check-compared-requires
-    segment-answer-requires
-    same-length
-    same-length-2
-    same-length-3
-    returns)
+av1ts-check-segment-spec = tie.close (tie.spec check-in-requires same-length same-length-2 same-length-3 returns)

@@ -2,7 +2,7 @@
 use borrow.Author.Needs.{needs}
 use mathlib.Core.Path.{ap, _∙_}
 use Rattle.refusal.proofs.Verdicts.{leaves-as}
-use Rattle.av1ts.specs.Sheets.{sheetAnswer}
+use Rattle.answers.specs.Sheets.{sheetAnswer}
 use Rattle.av1ts.proofs.sheets.av1ts_read_sheet.Statement.{statement}
 use Rattle.av1ts.proofs.sheets.av1ts_read_sheet.Tie as tie
 
@@ -24,18 +24,15 @@ same-length-3 c = search needs
 returns : tie.Need-returns
 returns c =
     let e = c .before .before .before .before .before .before .before .read .ensures in
-    let left = e .1 in (
-      c .sheet-answer .ensures ∙ ap sheetAnswer (e .0),
-      (left .0 ∙ leaves-as _ _ (e .0), (left .1 .0 ∙ leaves-as _ _ (e .0), left .1 .1 ∙ leaves-as _ _ (e .0))),
-    )
+    let left = e .1 in
+    record {
+      answers = c .sheet-answer .ensures ∙ ap sheetAnswer (e .0);
+      outputs = record {
+        streams = left .streams ∙ leaves-as _ _ (e .0);
+        units = left .units ∙ leaves-as _ _ (e .0);
+        obus = left .obus ∙ leaves-as _ _ (e .0);
+      };
+    }
 
 pub av1ts-read-sheet-spec : {M : Type 1} → statement M
-av1ts-read-sheet-spec =
-    tie.close
-    (tie.spec
-    read-requires
-    sheet-answer-requires
-    same-length
-    same-length-2
-    same-length-3
-    returns)
+av1ts-read-sheet-spec = tie.close (tie.spec read-requires sheet-answer-requires same-length same-length-2 same-length-3 returns)

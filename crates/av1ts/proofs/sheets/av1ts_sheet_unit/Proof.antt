@@ -1,7 +1,7 @@
--- `sheet::find_unit` answers by the definition.
+-- `sheet::find_unit` answers by the definition, which is then put into the C struct.
 use borrow.Author.Needs.{needs}
 use mathlib.Core.Path.{ap, _∙_}
-use Rattle.av1ts.specs.Sheets.{foundAnswer}
+use Rattle.answers.specs.Sheets.{foundAnswer}
 use Rattle.av1ts.proofs.sheets.av1ts_sheet_unit.Statement.{statement}
 use Rattle.av1ts.proofs.sheets.av1ts_sheet_unit.Tie as tie
 

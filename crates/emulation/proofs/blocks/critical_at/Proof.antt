@@ -1,4 +1,4 @@
--- Three bytes stand from i on, and `critical` tests them.
+-- The string from i on begins with the three bytes read (`critical-at`), and `critical` makes the definition's test of them.
 use borrow.Author.Needs.{needs}
 use mathlib.Core.Path.{sym, _∙_}
 use Rattle.emulation.proofs.Clean.{critical-at}
@@ -24,7 +24,9 @@ critical-requires : tie.Need-critical-requires
 critical-requires c κs = search needs
 
 returns : tie.Need-returns
-returns c = c .critical .ensures ∙ sym (critical-at (c .before .before .before .before .before .args .s .now) (c .before .before .before .before .before .args .i) (c .before .before .before .before .before .pre))
+returns c =
+    let start = c .before .before .before .before .before in
+    c .critical .ensures ∙ sym (critical-at (start .args .s .now) (start .args .i) (start .pre))
 
 pub critical-at-spec : {M : Type 1} → statement M
 critical-at-spec =

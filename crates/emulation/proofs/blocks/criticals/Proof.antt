@@ -1,25 +1,21 @@
--- The count is that of the first j places.
+-- The count is that of the first j places (`Counted`); each turn looks at one place more, and at the end they are the block.
 use borrow.Author.Needs.{needs}
 use native.Mathlib.Omega.{arith}
-use Prim.Native.Nat.{_-_, _≤_}
-use mathlib.Core.Bool.{true, false}
-use mathlib.Core.Path.{_≡_, refl, sym, _∙_}
-use lib.ListN.{drop}
-use Rattle.emulation.specs.Parts.{critical}
-use Rattle.emulation.specs.Parts.{block, hits}
-use Rattle.emulation.proofs.Hits.{hits-at}
+use Prim.Native.Nat.{_-_}
+use mathlib.Core.Path.{refl, sym, _∙_}
+use Rattle.emulation.specs.Parts.{critical, block}
+use Rattle.emulation.proofs.Hits.{Counted, counted-start, counted-yes, counted-no, counted-all}
 use Rattle.emulation.proofs.blocks.criticals.Statement.{statement}
 use Rattle.emulation.proofs.blocks.criticals.Tie as tie
 
 abbrev Inv-loop : tie.InvT-loop
-Inv-loop s i count₀ j₀ count j = (j ≤ block) × (count ≤ j) × (count ≡ hits critical j (drop i s))
+Inv-loop s i count₀ j₀ count j = Counted critical s i j count
 
 abbrev μ-loop : tie.MeasureT-loop
 μ-loop s i count₀ j₀ count j = block - j
 
 loop-holds : tie.Need-loop-holds Inv-loop μ-loop
-unfolding hits
-loop-holds c = (omega arith, omega arith, refl)
+loop-holds c = counted-start critical _ _
 
 add-place : tie.Need-add-place Inv-loop μ-loop
 add-place c = omega arith
@@ -39,11 +35,7 @@ loop-less c = omega arith
 loop-again : tie.Need-loop-again Inv-loop μ-loop
 unfolding critical
 loop-again c =
-    let start = c .before .before .before .before .before in
-    let at = c .before .before .before .loop in
-    let e = hits-at critical refl (start .args .s .now) (start .args .i) (at .j) true
-    (sym (c .before .critical-at .ensures) ∙ c .if1 .taken) in
-    (omega arith, omega arith, omega (arith, at .inv .2))
+    counted-yes critical refl (c .before .before .before .loop .inv) (omega arith) (sym (c .before .critical-at .ensures) ∙ c .if1 .taken)
 
 loop-less-2 : tie.Need-loop-less-2 Inv-loop μ-loop
 loop-less-2 c = omega arith
@@ -51,16 +43,10 @@ loop-less-2 c = omega arith
 loop-again-2 : tie.Need-loop-again-2 Inv-loop μ-loop
 unfolding critical
 loop-again-2 c =
-    let start = c .before .before .before .before .before in
-    let at = c .before .before .before .loop in
-    let e = hits-at critical refl (start .args .s .now) (start .args .i) (at .j) false
-    (sym (c .before .critical-at .ensures) ∙ c .if1 .left) in
-    (omega arith, omega arith, omega (arith, at .inv .2))
+    counted-no critical refl (c .before .before .before .loop .inv) (omega arith) (sym (c .before .critical-at .ensures) ∙ c .if1 .left)
 
 returns : tie.Need-returns Inv-loop μ-loop
-returns c =
-    let e : c .before .loop .j ≡ block = omega arith in
-    rw e at (c .before .loop .inv .2)
+returns c = counted-all critical (c .before .loop .inv) (omega arith)
 
 pub criticals-spec : {M : Type 1} → statement M
 criticals-spec =

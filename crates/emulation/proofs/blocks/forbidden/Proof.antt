@@ -1,4 +1,4 @@
--- The tests of the definition, one after the other.
+-- The definition's tests in its order: each answer is given where those before it leave only that value.
 use borrow.Author.Tests.{ne-eqb, eq-eqb, le-leb, lt-leb}
 use Rattle.emulation.proofs.blocks.forbidden.Statement.{statement}
 use Rattle.emulation.proofs.blocks.forbidden.Tie as tie

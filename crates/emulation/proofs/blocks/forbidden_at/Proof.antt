@@ -1,4 +1,4 @@
--- The bytes from i on, which `forbidden` tests.
+-- The string from i on begins with the four bytes read (`forbidden-four`), and `forbidden` makes the definition's test of them.
 use borrow.Author.Needs.{needs}
 use mathlib.Core.Path.{sym, _∙_}
 use Rattle.emulation.proofs.Judging.{forbidden-four}
@@ -31,9 +31,8 @@ forbidden-requires c κs = search needs
 
 returns : tie.Need-returns
 returns c =
-    c .forbidden .ensures
-    ∙ sym (forbidden-four (c .before .before .before .before .before .before .args .s .now)
-    (c .before .before .before .before .before .before .args .i) (c .before .before .before .before .before .before .pre))
+    let start = c .before .before .before .before .before .before in
+    c .forbidden .ensures ∙ sym (forbidden-four (start .args .s .now) (start .args .i) (start .pre))
 
 pub forbidden-at-spec : {M : Type 1} → statement M
 forbidden-at-spec =

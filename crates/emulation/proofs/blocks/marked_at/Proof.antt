@@ -1,4 +1,4 @@
--- The bytes from i on, which `marked` tests.
+-- The string from i on begins with the three bytes read (`marked-at`), and `marked` makes the definition's test of them.
 use borrow.Author.Needs.{needs}
 use mathlib.Core.Path.{sym, _∙_}
 use Rattle.emulation.proofs.Steps.{marked-at}
@@ -25,9 +25,8 @@ marked-requires c κs = search needs
 
 returns : tie.Need-returns
 returns c =
-    c .marked .ensures ∙ sym
-    (marked-at (c .before .before .before .before .before .args .s .now) (c .before .before .before .before .before .args .i)
-    (c .before .before .before .before .before .pre))
+    let start = c .before .before .before .before .before in
+    c .marked .ensures ∙ sym (marked-at (start .args .s .now) (start .args .i) (start .pre))
 
 pub marked-at-spec : {M : Type 1} → statement M
 marked-at-spec =

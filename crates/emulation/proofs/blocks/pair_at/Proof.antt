@@ -1,4 +1,4 @@
--- The bytes from i on, which `pair` tests.
+-- The string from i on begins with the two bytes read (`paired-at`), and `pair` makes the definition's test of them.
 use borrow.Author.Needs.{needs}
 use mathlib.Core.Path.{sym, _∙_}
 use Rattle.emulation.proofs.Clean.{paired-at}
@@ -19,9 +19,8 @@ pair-requires c κs = search needs
 
 returns : tie.Need-returns
 returns c =
-    c .pair .ensures ∙ sym
-    (paired-at (c .before .before .before .before .args .s .now) (c .before .before .before .before .args .i)
-    (c .before .before .before .before .pre))
+    let start = c .before .before .before .before in
+    c .pair .ensures ∙ sym (paired-at (start .args .s .now) (start .args .i) (start .pre))
 
 pub pair-at-spec : {M : Type 1} → statement M
 pair-at-spec =

@@ -1,4 +1,4 @@
--- Two bytes fewer than the string has, and none where it has fewer than two.
+-- Below two bytes the definition's difference is 0, since subtraction stops there; else the code computes it.
 use native.Mathlib.Omega.{arith}
 use Rattle.emulation.proofs.blocks.places.Statement.{statement}
 use Rattle.emulation.proofs.blocks.places.Tie as tie

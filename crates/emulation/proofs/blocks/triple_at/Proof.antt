@@ -1,4 +1,4 @@
--- The bytes from i on, which `triple` tests.
+-- The string from i on begins with the three bytes read (`tripled-at`), and `triple` makes the definition's test of them.
 use borrow.Author.Needs.{needs}
 use mathlib.Core.Path.{sym, _∙_}
 use Rattle.emulation.proofs.Clean.{tripled-at}
@@ -25,9 +25,8 @@ triple-requires c κs = search needs
 
 returns : tie.Need-returns
 returns c =
-    c .triple .ensures ∙ sym
-    (tripled-at (c .before .before .before .before .before .args .s .now) (c .before .before .before .before .before .args .i)
-    (c .before .before .before .before .before .pre))
+    let start = c .before .before .before .before .before in
+    c .triple .ensures ∙ sym (tripled-at (start .args .s .now) (start .args .i) (start .pre))
 
 pub triple-at-spec : {M : Type 1} → statement M
 triple-at-spec =

@@ -1,20 +1,19 @@
 -- What is written, then the escaped form of the rest, is the escaped form of the OBU from i on.
 use borrow.Author.Needs.{needs}
 use native.Mathlib.Omega.{arith}
-use Prim.Native.Nat.{_+_, _-_, _<_}
+use Prim.Native.Nat.{_+_, _-_}
 use mathlib.Core.Path.{sym, _∙_}
 use mathlib.Core.List.{[], _∷_}
 use lib.ListN.{length, drop}
 use Rattle.emulation.specs.Payload.{escape}
-use Rattle.emulation.specs.Parts.{Gives}
 use Rattle.emulation.proofs.Outputs.{writes-then}
 use Rattle.emulation.proofs.Clean.{escape-at-critical, escape-at-uncritical, critical-fits}
-use Rattle.emulation.proofs.Giving.{gives-start}
+use Rattle.emulation.proofs.Giving.{Going, gives-start, going-on}
 use Rattle.emulation.proofs.escaping.escape_places.Statement.{statement}
 use Rattle.emulation.proofs.escaping.escape_places.Tie as tie
 
 abbrev Inv-loop : tie.InvT-loop
-Inv-loop obu i end out₀ n count₀ place₀ out count place = Gives escape obu i out₀ n place count out × (i < place → n < count)
+Inv-loop obu i end out₀ n count₀ place₀ out count place = Going escape obu i out₀ n place count out
 
 abbrev μ-loop : tie.MeasureT-loop
 μ-loop obu i end out₀ n count₀ place₀ out count place = length obu - place
@@ -56,13 +55,12 @@ loop-again c =
     let s = test .before .before .before .before .before .before .before .args .obu .now in
     let e = sym (test .before .critical-at .ensures) ∙ test .if2 .taken in
     let rest = escape (drop (at .place + 2) s) in
-    let w = writes-then (rw (escape-at-critical s (at .place) e) at (at .inv .0 .written)) (first .put .ensures .0 (0 ∷ 3 ∷ rest)) in (
-      record {
-        within = omega (arith, critical-fits s (at .place) (at .inv .0 .within) e);
-        written = writes-then (writes-then w (second .put2 .ensures .0 (3 ∷ rest))) (third .put3 .ensures .0 rest);
-      },
-      λ h. omega (arith, at .inv .0 .written .onward, first .put .ensures .1 (omega arith), second .put2 .ensures .0 [] .onward, third .put3 .ensures .0 [] .onward),
-    )
+    let w = first .put .ensures .0 (0 ∷ 3 ∷ rest) in
+    let w2 = second .put2 .ensures .0 (3 ∷ rest) in
+    let w3 = third .put3 .ensures .0 rest in
+    let fits = critical-fits s (at .place) (at .inv .0 .within) e in
+    going-on (at .inv) (escape-at-critical s (at .place) e) (omega arith) (writes-then (writes-then w w2) w3)
+    (omega (arith, first .put .ensures .1 (omega arith), w2 .onward, w3 .onward))
 
 shared-slice-read-put : tie.Need-shared-slice-read-put Inv-loop μ-loop
 shared-slice-read-put c = omega arith
@@ -82,13 +80,9 @@ loop-again-2 c =
     let at = test .before .before .before .before .loop in
     let s = test .before .before .before .before .before .before .before .args .obu .now in
     let e = sym (test .before .critical-at .ensures) ∙ test .if2 .left in
-    let put = c .before .before .put4 .ensures in (
-      record {
-        within = omega arith;
-        written = writes-then (rw (escape-at-uncritical s (at .place) (omega arith) e) at (at .inv .0 .written)) (put .0 (escape (drop (at .place + 1) s)));
-      },
-      λ h. omega (arith, at .inv .0 .written .onward, put .1 (omega arith)),
-    )
+    let put = c .before .before .put4 .ensures in
+    going-on (at .inv) (escape-at-uncritical s (at .place) (omega arith) e) (omega arith) (put .0 (escape (drop (at .place + 1) s)))
+    (omega (arith, put .1 (omega arith)))
 
 same-length-2 : tie.Need-same-length-2 Inv-loop μ-loop
 same-length-2 c = c .before .loop .inv .0 .written .long

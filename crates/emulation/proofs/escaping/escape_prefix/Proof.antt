@@ -1,5 +1,5 @@
--- One pass, by blocks: what is given of the bytes up to i stands in the output. A clean block is copied where it has room; another, or one without
--- room, goes place by place.
+-- One pass, by blocks: what is given of the bytes up to i stands in the output. A clean block is copied where it has room; another, or one
+-- without room, goes place by place.
 use borrow.Author.Needs.{needs}
 use native.Mathlib.Omega.{arith}
 use Prim.Native.Nat.{_-_}
@@ -35,7 +35,8 @@ copy-clean-requires c κs = (c .before .before .before .loop .inv .within, c .be
 
 loop-again : tie.Need-loop-again Inv-loop μ-loop
 loop-again c =
-    gives-clean escape-keeps (c .before .before .before .before .before .before .before .loop .inv) (c .before .before .before .copy-clean .ensures .0 (c .if2 .taken))
+    let called = c .before .before .before in
+    gives-clean escape-keeps (called .before .before .before .before .loop .inv) (called .copy-clean .ensures .0 (c .if2 .taken))
 
 add-n : tie.Need-add-n Inv-loop μ-loop
 add-n c = omega (arith, loop-again c .written .within)
@@ -51,16 +52,21 @@ block-end-requires c κs = search needs
 
 escape-places-requires : tie.Need-escape-places-requires Inv-loop μ-loop
 escape-places-requires c κs =
-    (omega arith, omega arith, omega (arith, ap length (c .before .before .before .before .before .copy-clean .ensures .1 (c .before .before .if2 .left))))
+    let test = c .before .before in
+    let same = test .before .before .before .copy-clean .ensures .1 (test .if2 .left) in
+    (omega arith, omega arith, omega (arith, ap length same))
 
 loop-less-2 : tie.Need-loop-less-2 Inv-loop μ-loop
 loop-less-2 c =
-    omega (arith, c .before .before .escape-places .ensures .1, c .before .before .before .before .before .before .before .before .before .before .before .before .loop .inv .written .long)
+    let called = c .before .before .before .before .before .before .before .before in
+    omega (arith, c .before .before .escape-places .ensures .1, called .before .before .before .before .loop .inv .written .long)
 
 loop-again-2 : tie.Need-loop-again-2 Inv-loop μ-loop
 loop-again-2 c =
-    let same = c .before .before .before .before .before .before .before .before .copy-clean .ensures .1 (c .before .before .before .before .before .if2 .left) in
-    gives-then (c .before .before .before .before .before .before .before .before .before .before .before .before .loop .inv) (rw same at (c .before .before .escape-places .ensures .0))
+    let test = c .before .before .before .before .before in
+    let called = test .before .before .before in
+    let same = called .copy-clean .ensures .1 (test .if2 .left) in
+    gives-then (called .before .before .before .before .loop .inv) (rw same at (c .before .before .escape-places .ensures .0))
 
 copy-rest-requires : tie.Need-copy-rest-requires Inv-loop μ-loop
 copy-rest-requires c κs = (c .before .before .loop .inv .within, c .before .before .loop .inv .written .within)
@@ -69,7 +75,8 @@ same-length-2 : tie.Need-same-length-2 Inv-loop μ-loop
 same-length-2 c = c .before .before .copy-rest .ensures .long ∙ c .before .before .before .before .before .loop .inv .written .long
 
 returns-2 : tie.Need-returns-2 Inv-loop μ-loop
-returns-2 c = gives-rest escape-keeps (c .before .before .before .before .before .loop .inv) (omega arith) (c .before .before .copy-rest .ensures)
+returns-2 c =
+    gives-rest escape-keeps (c .before .before .before .before .before .loop .inv) (omega arith) (c .before .before .copy-rest .ensures)
 
 pub escape-prefix-spec : {M : Type 1} → statement M
 escape-prefix-spec =

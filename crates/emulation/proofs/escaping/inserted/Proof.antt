@@ -5,9 +5,10 @@ use native.Mathlib.Omega.{arith}
 use Prim.Native.Nat.{ℕ, _+_, _-_}
 use mathlib.Core.Path.{sym, subst, _∙_}
 use lib.ListN.{length}
-use Rattle.emulation.specs.Parts.{block, Inserts}
-use Rattle.emulation.proofs.Clean.{is-single}
-use Rattle.emulation.proofs.Inserting.{inserts-start, inserts-then, inserts-clean, inserts-single, inserts-end}
+use Rattle.emulation.specs.Parts.{tripled, block, Inserts}
+use Rattle.emulation.proofs.Hits.{is-free}
+use Rattle.emulation.proofs.Inserting.{inserts-clean, inserts-single, inserts-end}
+use Rattle.emulation.proofs.Passes.{counts-start, counts-then}
 use Rattle.emulation.proofs.escaping.inserted.Statement.{statement}
 use Rattle.emulation.proofs.escaping.inserted.Tie as tie
 
@@ -21,7 +22,7 @@ places-requires : tie.Need-places-requires Inv-loop μ-loop
 places-requires c κs = search needs
 
 loop-holds : tie.Need-loop-holds Inv-loop μ-loop
-loop-holds c = inserts-start _ _ (omega arith)
+loop-holds c = counts-start _ _ _ (omega arith)
 
 clean-requires : tie.Need-clean-requires Inv-loop μ-loop
 clean-requires c κs = search needs
@@ -40,17 +41,18 @@ single-requires c κs = search needs
 
 criticals-requires : tie.Need-criticals-requires Inv-loop μ-loop
 criticals-requires c κs =
-    is-single (c .before .before .before .before .before .before .before .before .args .obu .now)
-    (c .before .before .before .before .before .loop .i) (sym (c .before .single .ensures) ∙ c .if2 .taken) .0
+    let turn = c .before .before .before .before .before in
+    is-free tripled (turn .before .before .before .args .obu .now) (turn .loop .i) (sym (c .before .single .ensures) ∙ c .if2 .taken) .0
 
 wide-requires : tie.Need-wide-requires Inv-loop μ-loop
 wide-requires c κs = search needs
 
 loop-again-2 : tie.Need-loop-again-2 Inv-loop μ-loop
 loop-again-2 c =
-    let at = c .before .before .before .before .before .before .before .loop in
-    subst (λ (n : ℕ). Inserts (c .before .before .before .before .before .before .before .before .before .before .args .obu .now) 0
-    (at .i + block) (at .count + n)) (sym (c .wide .ensures ∙ c .before .criticals .ensures))
+    let turn = c .before .before .before .before .before .before .before in
+    let at = turn .loop in
+    let obu = turn .before .before .before .args .obu .now in
+    subst (λ (n : ℕ). Inserts obu 0 (at .i + block) (at .count + n)) (sym (c .wide .ensures ∙ c .before .criticals .ensures))
     (inserts-single _ _ _ _ (at .inv) (sym (c .before .before .before .single .ensures) ∙ c .before .before .if2 .taken))
 
 add-count : tie.Need-add-count Inv-loop μ-loop
@@ -76,7 +78,7 @@ loop-less-3 c = omega arith
 
 loop-again-3 : tie.Need-loop-again-3 Inv-loop μ-loop
 loop-again-3 c =
-    inserts-then _ _ _ _ _ _ (c .before .before .before .before .before .before .before .before .loop .inv)
+    counts-then (c .before .before .before .before .before .before .before .before .loop .inv)
     (c .before .inserted-places .ensures .0)
 
 returns : tie.Need-returns Inv-loop μ-loop

@@ -4,7 +4,8 @@ use native.Mathlib.Omega.{arith}
 use Prim.Native.Nat.{_+_, _-_, _≤_}
 use mathlib.Core.Path.{sym, _∙_}
 use Rattle.emulation.specs.Parts.{Inserts}
-use Rattle.emulation.proofs.Inserting.{inserts-start, inserts-plain, inserts-critical}
+use Rattle.emulation.proofs.Inserting.{inserts-plain, inserts-critical}
+use Rattle.emulation.proofs.Passes.{counts-start}
 use Rattle.emulation.proofs.escaping.inserted_places.Statement.{statement}
 use Rattle.emulation.proofs.escaping.inserted_places.Tie as tie
 
@@ -15,7 +16,7 @@ abbrev μ-loop : tie.MeasureT-loop
 μ-loop obu i end count₀ next₀ place₀ count next place = end - place
 
 loop-holds : tie.Need-loop-holds Inv-loop μ-loop
-loop-holds c = (omega arith, omega arith, inserts-start _ _ (omega arith))
+loop-holds c = (omega arith, omega arith, counts-start _ _ _ (omega arith))
 
 add-place : tie.Need-add-place Inv-loop μ-loop
 add-place c = omega arith
@@ -33,7 +34,9 @@ loop-less : tie.Need-loop-less Inv-loop μ-loop
 loop-less c = omega arith
 
 loop-again : tie.Need-loop-again Inv-loop μ-loop
-loop-again c = (omega arith, omega arith, inserts-critical _ _ _ _ (c .before .before .before .before .loop .inv .2) (rw (c .before .before .if1 .taken) at (sym (c .before .critical-at .ensures) ∙ c .if2 .taken)))
+loop-again c =
+    let e = rw (c .before .before .if1 .taken) at (sym (c .before .critical-at .ensures) ∙ c .if2 .taken) in
+    (omega arith, omega arith, inserts-critical _ _ _ _ (c .before .before .before .before .loop .inv .2) e)
 
 add-next-2 : tie.Need-add-next-2 Inv-loop μ-loop
 add-next-2 c = omega arith
@@ -42,7 +45,9 @@ loop-less-2 : tie.Need-loop-less-2 Inv-loop μ-loop
 loop-less-2 c = omega arith
 
 loop-again-2 : tie.Need-loop-again-2 Inv-loop μ-loop
-loop-again-2 c = (omega arith, omega arith, inserts-plain _ _ _ _ (c .before .before .before .before .loop .inv .2) (omega arith) (rw (c .before .before .if1 .taken) at (sym (c .before .critical-at .ensures) ∙ c .if2 .left)))
+loop-again-2 c =
+    let e = rw (c .before .before .if1 .taken) at (sym (c .before .critical-at .ensures) ∙ c .if2 .left) in
+    (omega arith, omega arith, inserts-plain _ _ _ _ (c .before .before .before .before .loop .inv .2) (omega arith) e)
 
 loop-less-3 : tie.Need-loop-less-3 Inv-loop μ-loop
 loop-less-3 c = omega arith

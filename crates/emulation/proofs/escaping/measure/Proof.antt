@@ -16,7 +16,9 @@ add-result : tie.Need-add-result
 add-result c = omega (arith, c .inserted .ensures, inserted-bound (c .before .before .args .obu .now))
 
 returns : tie.Need-returns
-returns c = ap (λ (k : ℕ). length (c .before .before .args .obu .now) + k) (c .inserted .ensures) ∙ escaped-length (c .before .before .args .obu .now)
+returns c =
+    let obu = c .before .before .args .obu .now in
+    ap (λ (k : ℕ). length obu + k) (c .inserted .ensures) ∙ escaped-length obu
 
 pub measure-spec : {M : Type 1} → statement M
 measure-spec = tie.close (tie.spec inserted-requires add-result returns)

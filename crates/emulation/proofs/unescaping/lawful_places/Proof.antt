@@ -59,11 +59,9 @@ forbidden-pair-requires c κs =
 
 returns : tie.Need-returns Inv-loop μ-loop
 returns c =
-    let at = c .before .before .before .before .before .before .before .loop in (
-      at .inv,
-      first-found (c .before .before .before .before .before .before .before .before .before .before .args .s .now) (at .place)
-          (omega arith) (sym (c .before .forbidden-pair .ensures) ∙ c .if3 .taken),
-    )
+    let turn = c .before .before .before .before .before .before .before in
+    let s = turn .before .before .before .args .s .now in
+    (turn .loop .inv, first-found s (turn .loop .place) (omega arith) (sym (c .before .forbidden-pair .ensures) ∙ c .if3 .taken))
 
 add-if4 : tie.Need-add-if4 Inv-loop μ-loop
 add-if4 c = omega arith
@@ -82,12 +80,12 @@ loop-less-3 c = omega arith
 
 loop-again-3 : tie.Need-loop-again-3 Inv-loop μ-loop
 loop-again-3 c =
-    let s = c .before .before .before .before .before .before .before .before .before .before .before .before .args .s .now in
-    let place = c .before .before .before .before .before .before .before .before .before .loop .place in
-    lawful-past-mark _ _ _ _ (c .before .before .before .before .before .before .before .before .before .loop .inv) (omega arith)
+    let second = c .before .before .before .before in
+    let turn = second .before .before .before .before .before in
+    let s = turn .before .before .before .args .s .now in
+    lawful-past-mark _ _ _ _ (turn .loop .inv) (omega arith)
     (sym (c .before .before .before .forbidden-pair .ensures) ∙ c .before .before .if3 .left) (c .if4 .taken)
-    (paired-of s place (omega arith) (c .before .before .before .before .if2 .left)
-    (c .before .before .before .before .before .before .if1 .left))
+    (paired-of s (turn .loop .place) (omega arith) (second .if2 .left) (second .before .before .if1 .left))
 
 add-place-4 : tie.Need-add-place-4 Inv-loop μ-loop
 add-place-4 c = omega arith
@@ -97,12 +95,12 @@ loop-less-4 c = omega arith
 
 loop-again-4 : tie.Need-loop-again-4 Inv-loop μ-loop
 loop-again-4 c =
-    let s = c .before .before .before .before .before .before .before .before .before .before .before .before .args .s .now in
-    let place = c .before .before .before .before .before .before .before .before .before .loop .place in
-    lawful-past-three _ _ _ _ (c .before .before .before .before .before .before .before .before .before .loop .inv) (omega arith)
+    let second = c .before .before .before .before in
+    let turn = second .before .before .before .before .before in
+    let s = turn .before .before .before .args .s .now in
+    lawful-past-three _ _ _ _ (turn .loop .inv) (omega arith)
     (sym (c .before .before .before .forbidden-pair .ensures) ∙ c .before .before .if3 .left) (c .if4 .left)
-    (paired-of s place (omega arith) (c .before .before .before .before .if2 .left)
-    (c .before .before .before .before .before .before .if1 .left))
+    (paired-of s (turn .loop .place) (omega arith) (second .if2 .left) (second .before .before .if1 .left))
 
 returns-2 : tie.Need-returns-2 Inv-loop μ-loop
 returns-2 c =

@@ -50,11 +50,12 @@ same-length c = search needs
 returns-4 : tie.Need-returns-4
 unfolding leaves
 returns-4 c =
-    let start = c .before .before .before .before .before .before .before .before .before .before .before .before in
+    let matched = c .before .before .before .before .before .before in
+    let start = matched .before .before .before .before .before .before in
     let s = start .args .payload .now in
     let o = start .args .out .now in
-    let judged = c .before .before .before .before .before .before .before .before .judge .ensures in
-    let legal = c .before .before .before .before .before .before .judged2 .given .1 in
+    let judged = matched .before .before .judge .ensures in
+    let legal = matched .judged2 .given .1 in
     let l = left-after _ _ _ judged legal in
     let j = judged-legal _ _ _ judged legal in (
       unescaping-fits _ _ _ _ (omega arith) (j .0) (omega (arith, l .1)) (l .1) (j .1),

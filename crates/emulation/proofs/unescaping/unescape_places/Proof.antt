@@ -1,20 +1,19 @@
 -- What is written, then what the rest of the payload unescapes to, is what the payload unescapes to from i on.
 use borrow.Author.Needs.{needs}
 use native.Mathlib.Omega.{arith}
-use Prim.Native.Nat.{_+_, _-_, _<_}
+use Prim.Native.Nat.{_+_, _-_}
 use mathlib.Core.Path.{sym, _∙_}
 use mathlib.Core.List.{[], _∷_}
 use lib.ListN.{length, drop}
 use Rattle.emulation.specs.Payload.{unescape}
-use Rattle.emulation.specs.Parts.{Gives}
 use Rattle.emulation.proofs.Outputs.{writes-then}
 use Rattle.emulation.proofs.Steps.{unescape-at-marked, unescape-at-plain, marked-fits}
-use Rattle.emulation.proofs.Giving.{gives-start}
+use Rattle.emulation.proofs.Giving.{Going, gives-start, going-on}
 use Rattle.emulation.proofs.unescaping.unescape_places.Statement.{statement}
 use Rattle.emulation.proofs.unescaping.unescape_places.Tie as tie
 
 abbrev Inv-loop : tie.InvT-loop
-Inv-loop payload i end out₀ n count₀ place₀ out count place = Gives unescape payload i out₀ n place count out × (i < place → n < count)
+Inv-loop payload i end out₀ n count₀ place₀ out count place = Going unescape payload i out₀ n place count out
 
 abbrev μ-loop : tie.MeasureT-loop
 μ-loop payload i end out₀ n count₀ place₀ out count place = length payload - place
@@ -52,13 +51,11 @@ loop-again c =
     let s = test .before .before .before .before .before .before .before .args .payload .now in
     let e = sym (test .before .marked-at .ensures) ∙ test .if2 .taken in
     let rest = unescape (drop (at .place + 3) s) in
-    let w = writes-then (rw (unescape-at-marked s (at .place) e) at (at .inv .0 .written)) (first .put .ensures .0 (0 ∷ rest)) in (
-      record {
-        within = omega (arith, marked-fits s (at .place) (at .inv .0 .within) e);
-        written = writes-then w (second .put2 .ensures .0 rest);
-      },
-      λ h. omega (arith, at .inv .0 .written .onward, first .put .ensures .1 (omega arith), second .put2 .ensures .0 [] .onward),
-    )
+    let w = first .put .ensures .0 (0 ∷ rest) in
+    let w2 = second .put2 .ensures .0 rest in
+    let fits = marked-fits s (at .place) (at .inv .0 .within) e in
+    going-on (at .inv) (unescape-at-marked s (at .place) e) fits (writes-then w w2)
+    (omega (arith, first .put .ensures .1 (omega arith), w2 .onward))
 
 shared-slice-read-put : tie.Need-shared-slice-read-put Inv-loop μ-loop
 shared-slice-read-put c = omega arith
@@ -78,13 +75,9 @@ loop-again-2 c =
     let at = test .before .before .before .before .loop in
     let s = test .before .before .before .before .before .before .before .args .payload .now in
     let e = sym (test .before .marked-at .ensures) ∙ test .if2 .left in
-    let put = c .before .before .put3 .ensures in (
-      record {
-        within = omega arith;
-        written = writes-then (rw (unescape-at-plain s (at .place) (omega arith) e) at (at .inv .0 .written)) (put .0 (unescape (drop (at .place + 1) s)));
-      },
-      λ h. omega (arith, at .inv .0 .written .onward, put .1 (omega arith)),
-    )
+    let put = c .before .before .put3 .ensures in
+    going-on (at .inv) (unescape-at-plain s (at .place) (omega arith) e) (omega arith) (put .0 (unescape (drop (at .place + 1) s)))
+    (omega (arith, put .1 (omega arith)))
 
 same-length-2 : tie.Need-same-length-2 Inv-loop μ-loop
 same-length-2 c = c .before .loop .inv .0 .written .long

@@ -35,8 +35,8 @@ copy-clean-requires c κs = (c .before .before .before .loop .inv .within, c .be
 
 loop-again : tie.Need-loop-again Inv-loop μ-loop
 loop-again c =
-    gives-clean unescape-keeps (c .before .before .before .before .before .before .before .loop .inv)
-    (c .before .before .before .copy-clean .ensures .0 (c .if2 .taken))
+    let called = c .before .before .before in
+    gives-clean unescape-keeps (called .before .before .before .before .loop .inv) (called .copy-clean .ensures .0 (c .if2 .taken))
 
 add-n : tie.Need-add-n Inv-loop μ-loop
 add-n c = omega (arith, loop-again c .written .within)
@@ -56,77 +56,55 @@ sub-if3 c = omega arith
 
 sub-if3-2 : tie.Need-sub-if3-2 Inv-loop μ-loop
 sub-if3-2 c =
-    omega (
-      arith,
-      ap length
-          (c .before .before .before .before .copy-clean .ensures .1
-          (c .before .if2 .left)),
-      c .before .before .before .before .before .before .before .before .loop .inv .written .within,
-    )
+    let called = c .before .before .before .before in
+    let same = called .copy-clean .ensures .1 (c .before .if2 .left) in
+    omega (arith, ap length same, called .before .before .before .before .loop .inv .written .within)
 
 unescape-run-requires : tie.Need-unescape-run-requires Inv-loop μ-loop
 unescape-run-requires c κs =
-    let e = c .before .before .run-end .ensures in (
-      e .0,
-      e .1,
-      e .2,
-      omega (
-        arith,
-        c .before .if3 .taken,
-        ap length
-            (c .before .before .before .before .before .before .copy-clean .ensures .1
-            (c .before .before .before .if2 .left)),
-        c .before .before .before .before .before .before .before .before .before .before .loop .inv .written .within,
-      ),
-    )
+    let e = c .before .before .run-end .ensures in
+    let called = c .before .before .before .before .before .before in
+    let same = called .copy-clean .ensures .1 (c .before .before .before .if2 .left) in
+    let within = called .before .before .before .before .loop .inv .written .within in
+    (e .0, e .1, e .2, omega (arith, c .before .if3 .taken, ap length same))
 
 loop-less-2 : tie.Need-loop-less-2 Inv-loop μ-loop
 loop-less-2 c =
-    omega (
-      arith,
-      c .before .before .unescape-run .ensures .1,
-      c .before .before .unescape-run .ensures .0 .written .within,
-      c .before .before .unescape-run .ensures .0 .written .long,
-      ap length
-          (c .before .before .before .before .before .before .before .before .before .copy-clean .ensures .1
-          (c .before .before .before .before .before .before .if2 .left)),
-      c .before .before .before .before .before .before .before .before .before .before .before .before .before .loop .inv .written .long,
-    )
+    let run = c .before .before .unescape-run .ensures in
+    let test = c .before .before .before .before .before .before in
+    let called = test .before .before .before in
+    let same = called .copy-clean .ensures .1 (test .if2 .left) in
+    let long = called .before .before .before .before .loop .inv .written .long in
+    omega (arith, run .1, run .0 .written .within, run .0 .written .long, ap length same)
 
 loop-again-2 : tie.Need-loop-again-2 Inv-loop μ-loop
 loop-again-2 c =
-    let same = c .before .before .before .before .before .before .before .before .before .copy-clean .ensures .1
-    (c .before .before .before .before .before .before .if2 .left) in
-    gives-then (c .before .before .before .before .before .before .before .before .before .before .before .before .before .loop .inv)
-    (rw same at (c .before .before .unescape-run .ensures .0))
+    let test = c .before .before .before .before .before .before in
+    let called = test .before .before .before in
+    let same = called .copy-clean .ensures .1 (test .if2 .left) in
+    gives-then (called .before .before .before .before .loop .inv) (rw same at (c .before .before .unescape-run .ensures .0))
 
 block-end-requires : tie.Need-block-end-requires Inv-loop μ-loop
 block-end-requires c κs = search needs
 
 unescape-places-requires : tie.Need-unescape-places-requires Inv-loop μ-loop
-unescape-places-requires c κs = (
-  omega arith,
-  omega arith,
-  omega (
-    arith,
-    ap length (c .before .before .before .before .before .before .before .copy-clean .ensures .1
-        (c .before .before .before .before .if2 .left)),
-  ),
-)
+unescape-places-requires c κs =
+    let test = c .before .before .before .before in
+    let same = test .before .before .before .copy-clean .ensures .1 (test .if2 .left) in
+    (omega arith, omega arith, omega (arith, ap length same))
 
 loop-less-3 : tie.Need-loop-less-3 Inv-loop μ-loop
 loop-less-3 c =
-    omega (
-      arith,
-      c .before .before .unescape-places .ensures .1,
-      c .before .before .before .before .before .before .before .before .before .before .before .before .before .before .loop .inv .written .long,
-    )
+    let test = c .before .before .before .before .before .before .before in
+    let long = test .before .before .before .before .before .before .before .loop .inv .written .long in
+    omega (arith, c .before .before .unescape-places .ensures .1)
 
 loop-again-3 : tie.Need-loop-again-3 Inv-loop μ-loop
 loop-again-3 c =
-    let same = c .before .before .before .before .before .before .before .before .before .before .copy-clean .ensures .1
-    (c .before .before .before .before .before .before .before .if2 .left) in
-    gives-then (c .before .before .before .before .before .before .before .before .before .before .before .before .before .before .loop .inv) (rw same at (c .before .before .unescape-places .ensures .0))
+    let test = c .before .before .before .before .before .before .before in
+    let called = test .before .before .before in
+    let same = called .copy-clean .ensures .1 (test .if2 .left) in
+    gives-then (called .before .before .before .before .loop .inv) (rw same at (c .before .before .unescape-places .ensures .0))
 
 copy-rest-requires : tie.Need-copy-rest-requires Inv-loop μ-loop
 copy-rest-requires c κs = (c .before .before .loop .inv .within, c .before .before .loop .inv .written .within)

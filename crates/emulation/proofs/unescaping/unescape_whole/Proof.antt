@@ -37,7 +37,8 @@ returns-2 c =
     let start = c .before .before .before .before .before .before .before in
     let o = start .args .out .now in
     c .before .before .unescape-prefix .ensures .1
-    ∙ ap (λ (w : Bytes). over w o) (take-all (length o) (unescape (start .args .payload .now)) (omega (arith, start .pre .0, start .pre .1)))
+    ∙ ap (λ (w : Bytes). over w o)
+    (take-all (length o) (unescape (start .args .payload .now)) (omega (arith, start .pre .0, start .pre .1)))
 
 pub unescape-whole-spec : {M : Type 1} → statement M
 unescape-whole-spec =

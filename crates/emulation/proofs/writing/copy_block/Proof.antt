@@ -67,7 +67,8 @@ returns c =
     let w = drop (start .args .i) (start .args .s .now) in
     let at = c .before .loop in
     let e : at .j ≡ block = omega arith in
-    at .inv .3 ∙ ap (λ (k : ℕ). paste o n (c .before .before .load-block .result) k) e ∙ ap (λ (l : Bytes). paste o n l block) (c .before .before .load-block .ensures)
+    let loaded = c .before .before .load-block in
+    at .inv .3 ∙ ap (λ (k : ℕ). paste o n (loaded .result) k) e ∙ ap (λ (l : Bytes). paste o n l block) (loaded .ensures)
     ∙ ap (λ (l : Bytes). take n o ++ l ++ drop (n + block) o) (take-take block block w (omega arith))
 
 pub copy-block-spec : {M : Type 1} → statement M

@@ -1,13 +1,14 @@
 -- A clean block that has room is copied; otherwise nothing is done.
 use borrow.Author.Needs.{needs}
 use native.Mathlib.Omega.{arith}
+use Prim.Native.Nat.{_+_, _≤_}
 use mathlib.Core.Path.{_≡_, refl, sym, _∙_}
 use mathlib.Core.Bool.{true}
-use lib.ListN.{drop, length-drop}
+use lib.ListN.{length, drop, length-drop}
 use Rattle.lists.proofs.Tests.{clash}
-use Rattle.emulation.specs.Parts.{block, clean}
+use Rattle.emulation.specs.Parts.{block, clean, critical}
 use Rattle.emulation.proofs.Outputs.{writes-paste}
-use Rattle.emulation.proofs.Clean.{is-clean}
+use Rattle.emulation.proofs.Hits.{is-free}
 use Rattle.emulation.proofs.writing.copy_clean.Statement.{statement}
 use Rattle.emulation.proofs.writing.copy_clean.Tie as tie
 
@@ -23,7 +24,8 @@ clean-requires c κs = search needs
 copy-block-requires : tie.Need-copy-block-requires
 copy-block-requires c κs =
     let start = c .before .before .before .before .before .before in
-    let h = is-clean (start .args .s .now) (start .args .i) (sym (c .before .before .clean .ensures) ∙ c .before .if2 .taken) in (omega (arith, h .0), omega arith)
+    let h = is-free critical (start .args .s .now) (start .args .i) (sym (c .before .before .clean .ensures) ∙ c .before .if2 .taken) in
+    (omega (arith, h .0), omega arith)
 
 same-length : tie.Need-same-length
 same-length c = search needs
@@ -35,16 +37,14 @@ returns-2 c =
     let i = start .args .i in
     let o = start .args .out .now in
     let n = start .args .n in
-    let t : clean (drop i s) ≡ true = sym (c .before .before .before .before .before .clean .ensures) ∙ c .before .before .before .before .if2 .taken in
-    let h = is-clean s i t in
-    let k = length-drop i s in (
-      (λ e.
-          record {
-            tested = t;
-            written = λ rest. rw (c .before .before .copy-block .ensures) (writes-paste o (drop i s) rest n block (omega arith) (omega (arith, h .0)));
-          }),
-      (λ e. clash refl e),
-    )
+    let test = c .before .before .before .before in
+    let t : clean (drop i s) ≡ true = sym (test .before .clean .ensures) ∙ test .if2 .taken in
+    let h = is-free critical s i t in
+    let k = length-drop i s in
+    let room : n + block ≤ length o = omega arith in
+    let long : block ≤ length (drop i s) = omega (arith, h .0) in
+    let copied = c .before .before .copy-block .ensures in
+    ((λ e. record { tested = t; written = λ rest. rw copied (writes-paste o (drop i s) rest n block room long) }), (λ e. clash refl e))
 
 returns-3 : tie.Need-returns-3
 returns-3 c = ((λ e. clash e refl), (λ e. refl))

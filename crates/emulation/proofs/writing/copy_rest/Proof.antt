@@ -31,9 +31,11 @@ loop-less c = omega arith
 
 loop-again : tie.Need-loop-again Inv-loop μ-loop
 loop-again c =
-    let s = c .before .before .before .before .before .before .before .before .before .args .s .now in
-    let at = c .before .before .before .before .before .before .loop in
-    (omega arith, writes-then (rw (next s (at .place) (omega arith)) at (at .inv .1)) (c .before .before .put .ensures .0 (drop (at .place + 1) s)))
+    let turn = c .before .before .before .before .before .before in
+    let at = turn .loop in
+    let s = turn .before .before .before .args .s .now in
+    let put = c .before .before .put .ensures .0 (drop (at .place + 1) s) in
+    (omega arith, writes-then (rw (next s (at .place) (omega arith)) at (at .inv .1)) put)
 
 same-length : tie.Need-same-length Inv-loop μ-loop
 same-length c = c .before .loop .inv .1 .long

@@ -31,8 +31,9 @@ same-length c = search needs
 returns : tie.Need-returns
 unfolding headerLine
 returns c =
-    let first = c .before .before .before .before .before .before .before .before .before .before .before .before .put-named .ensures .0 in
-    let second = c .before .before .before .before .before .before .before .put-named2 .ensures .0 in
+    let named2 = c .before .before .before .before .before .before .before in
+    let first = named2 .before .before .before .before .before .put-named .ensures .0 in
+    let second = named2 .put-named2 .ensures .0 in
     let last = c .before .before .put-word .ensures in
     (puts-as (simp append-assoc) (puts-then (omega arith) (puts-then (omega arith) first second) last), omega (arith, last .ends))
 

@@ -39,10 +39,12 @@ same-length c = search needs
 returns : tie.Need-returns
 unfolding refusalLine
 returns c =
-    let told = c .before .before .before .before .before .before .before .before .before .before .before .before .before .before .before in
+    let named2 = c .before .before .before .before .before .before .before in
+    let named = named2 .before .before .before .before .before in
+    let told = named .before .before .before in
     let start = told .before .before .before in
-    let first = c .before .before .before .before .before .before .before .before .before .before .before .before .put-named .ensures .0 in
-    let second = c .before .before .before .before .before .before .before .put-named2 .ensures .0 in
+    let first = named .put-named .ensures .0 in
+    let second = named2 .put-named2 .ensures .0 in
     let last = c .before .before .put-word .ensures in
     let number = told .number .ensures in (
       puts-as

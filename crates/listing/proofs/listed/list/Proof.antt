@@ -38,13 +38,11 @@ same-length c = search needs
 returns-2 : tie.Need-returns-2
 unfolding leaves
 returns-2 c =
-    let start = c .before .before .before .before .before .before .before .before .before .before .before in
-    let put = c .before .before .before .before .before .before .before .put-text .ensures .0 in (
-      list-fits (start .args .unit .now) _ _ (puts-end put) (c .before .before .before .before .before .if1 .left),
-      (
-        puts-as (puts-front put) (c .before .before .put-word .ensures) .stands,
-        omega (arith, puts-end put, c .before .before .before .before .before .before .before .put-text .ensures .1),
-      ),
+    let called = c .before .before .before .before .before .before .before in
+    let unit = called .before .before .before .before .args .unit .now in
+    let put = called .put-text .ensures in (
+      list-fits unit _ _ (puts-end (put .0)) (c .before .before .before .before .before .if1 .left),
+      (puts-as (puts-front (put .0)) (c .before .before .put-word .ensures) .stands, omega (arith, puts-end (put .0), put .1)),
     )
 
 pub list-spec : {M : Type 1} → statement M

@@ -50,31 +50,24 @@ same-length-2 c = search needs
 
 returns-2 : tie.Need-returns-2
 returns-2 c =
-    let start = c .before .before .before .before .before .before .before .before .before .before .before in
+    let checked = c .before .before .before .before .before .before .before in
+    let unit = checked .before .before .before .before .args .unit .now in
     let put = c .before .before .put-refusal2 .ensures in
-    let said = sym (ap readSays (c .before .before .before .before .before .checked .given .1))
-    ∙ c .before .before .before .before .before .before .before .check .ensures in (
-      puts-as
-          (text-refused (start .args .unit .now) (c .before .before .before .before .before .before .before .before .if1 .left) _ _ said)
-          (put .0),
-      omega arith,
-    )
+    let said = sym (ap readSays (c .before .before .before .before .before .checked .given .1)) ∙ checked .check .ensures in
+    (puts-as (text-refused unit (checked .before .if1 .left) _ _ said) (put .0), omega arith)
 
 same-length-3 : tie.Need-same-length-3
 same-length-3 c = search needs
 
 returns-3 : tie.Need-returns-3
 returns-3 c =
-    let start = c .before .before .before .before .before .before .before .before .before .before .before .before .before .before .before in
+    let matched = c .before .before .before .before .before .before .before .before .before in
+    let checked = matched .before .before in
+    let unit = checked .before .before .before .before .args .unit .now in
     let header = c .before .before .before .before .before .before .put-header .ensures in
     let lines = c .before .before .put-obus .ensures in
-    let said = sym (ap readSays (c .before .before .before .before .before .before .before .before .before .checked2 .given .1))
-    ∙ c .before .before .before .before .before .before .before .before .before .before .before .check .ensures in (
-      puts-as (text-passed (start .args .unit .now)
-          (c .before .before .before .before .before .before .before .before .before .before .before .before .if1 .left) _ said)
-          (puts-then (omega arith) (header .0) (lines .0)),
-      omega arith,
-    )
+    let said = sym (ap readSays (matched .checked2 .given .1)) ∙ checked .check .ensures in
+    (puts-as (text-passed unit (checked .before .if1 .left) _ said) (puts-then (omega arith) (header .0) (lines .0)), omega arith)
 
 pub put-text-spec : {M : Type 1} → statement M
 put-text-spec =

@@ -1,12 +1,39 @@
 -- The tests are those of the definition, in its order.
 use borrow.Author.Needs.{needs}
-use mathlib.Core.Path.{refl, sym, _∙_}
+use mathlib.Core.Path.{_≡_, refl, sym, _∙_}
 use Rattle.lists.proofs.Tests.{or-by-true, or-by-false}
-use mathlib.Core.Bool.{or-false}
+use mathlib.Core.Bool.{false, or-false}
 use Rattle.lists.specs.Lists.{any}
-use Rattle.mux_rules.specs.Sending.{channelWrong}
+use Rattle.descriptor.specs.Descriptor.{wrong}
+use Rattle.mux_rules.specs.Sending.{mapPidWrong, av1PidWrong, programWrong, countersWrong, channelWrong}
 use Rattle.mux.proofs.channel.channel_wrong.Statement.{statement}
 use Rattle.mux.proofs.channel.channel_wrong.Tie as tie
+
+-- a test that does not hold
+video-right : (c : tie.Else1)
+    → let a = c .before .before .before .args in
+    wrong (a .video .now) ≡ false
+video-right c = sym (c .before .video-wrong .ensures) ∙ c .if1 .left
+
+map-pid-right : (c : tie.Else2)
+    → let a = c .before .before .before .before .before .args in
+    mapPidWrong (a .channel) ≡ false
+map-pid-right c = sym (c .before .map-pid-wrong .ensures) ∙ c .if2 .left
+
+av1-pid-right : (c : tie.Else3)
+    → let a = c .before .before .before .before .before .before .before .args in
+    av1PidWrong (a .channel) ≡ false
+av1-pid-right c = sym (c .before .av1-pid-wrong .ensures) ∙ c .if3 .left
+
+program-right : (c : tie.Else4)
+    → let a = c .before .before .before .before .before .before .before .before .before .args in
+    programWrong (a .channel) ≡ false
+program-right c = sym (c .before .program-wrong .ensures) ∙ c .if4 .left
+
+counters-right : (c : tie.Else5)
+    → let a = c .before .before .before .before .before .before .before .before .before .before .before .args in
+    countersWrong (a .channel) ≡ false
+counters-right c = sym (c .before .counters-wrong .ensures) ∙ c .if5 .left
 
 video-wrong-requires : tie.Need-video-wrong-requires
 video-wrong-requires c κs = search needs
@@ -21,8 +48,8 @@ map-pid-wrong-requires c κs = search needs
 returns-2 : tie.Need-returns-2
 unfolding any channelWrong
 returns-2 c =
-    or-by-false (sym (c .before .before .before .video-wrong .ensures)
-    ∙ c .before .before .if1 .left) (or-by-true _ (sym (c .before .map-pid-wrong .ensures) ∙ c .if2 .taken) refl)
+    or-by-false (video-right (c .before .before))
+    (or-by-true _ (sym (c .before .map-pid-wrong .ensures) ∙ c .if2 .taken) refl)
 
 av1-pid-wrong-requires : tie.Need-av1-pid-wrong-requires
 av1-pid-wrong-requires c κs = search needs
@@ -30,9 +57,9 @@ av1-pid-wrong-requires c κs = search needs
 returns-3 : tie.Need-returns-3
 unfolding any channelWrong
 returns-3 c =
-    or-by-false (sym (c .before .before .before .before .before .video-wrong .ensures)
-    ∙ c .before .before .before .before .if1 .left) (or-by-false (sym (c .before .before .before .map-pid-wrong .ensures)
-    ∙ c .before .before .if2 .left) (or-by-true _ (sym (c .before .av1-pid-wrong .ensures) ∙ c .if3 .taken) refl))
+    or-by-false (video-right (c .before .before .before .before))
+    (or-by-false (map-pid-right (c .before .before))
+    (or-by-true _ (sym (c .before .av1-pid-wrong .ensures) ∙ c .if3 .taken) refl))
 
 program-wrong-requires : tie.Need-program-wrong-requires
 program-wrong-requires c κs = search needs
@@ -40,10 +67,9 @@ program-wrong-requires c κs = search needs
 returns-4 : tie.Need-returns-4
 unfolding any channelWrong
 returns-4 c =
-    or-by-false (sym (c .before .before .before .before .before .before .before .video-wrong .ensures)
-    ∙ c .before .before .before .before .before .before .if1 .left)
-    (or-by-false (sym (c .before .before .before .before .before .map-pid-wrong .ensures) ∙ c .before .before .before .before .if2 .left)
-    (or-by-false (sym (c .before .before .before .av1-pid-wrong .ensures) ∙ c .before .before .if3 .left)
+    or-by-false (video-right (c .before .before .before .before .before .before))
+    (or-by-false (map-pid-right (c .before .before .before .before))
+    (or-by-false (av1-pid-right (c .before .before))
     (or-by-true _ (sym (c .before .program-wrong .ensures) ∙ c .if4 .taken) refl)))
 
 counters-wrong-requires : tie.Need-counters-wrong-requires
@@ -52,28 +78,21 @@ counters-wrong-requires c κs = search needs
 returns-5 : tie.Need-returns-5
 unfolding any channelWrong
 returns-5 c =
-    or-by-false (sym (c .before .before .before .before .before .before .before .before .before .video-wrong .ensures)
-    ∙ c .before .before .before .before .before .before .before .before .if1 .left)
-    (or-by-false
-    (sym (c .before .before .before .before .before .before .before .map-pid-wrong .ensures)
-    ∙ c .before .before .before .before .before .before .if2 .left)
-    (or-by-false (sym (c .before .before .before .before .before .av1-pid-wrong .ensures) ∙ c .before .before .before .before .if3 .left)
-    (or-by-false (sym (c .before .before .before .program-wrong .ensures) ∙ c .before .before .if4 .left)
+    or-by-false (video-right (c .before .before .before .before .before .before .before .before))
+    (or-by-false (map-pid-right (c .before .before .before .before .before .before))
+    (or-by-false (av1-pid-right (c .before .before .before .before))
+    (or-by-false (program-right (c .before .before))
     (or-by-true _ (sym (c .before .counters-wrong .ensures) ∙ c .if5 .taken) refl))))
 
 returns-6 : tie.Need-returns-6
 unfolding any channelWrong
 returns-6 c =
-    or-by-false (sym (c .before .before .before .before .before .before .before .before .before .before .video-wrong .ensures)
-    ∙ c .before .before .before .before .before .before .before .before .before .if1 .left)
-    (or-by-false
-    (sym (c .before .before .before .before .before .before .before .before .map-pid-wrong .ensures)
-    ∙ c .before .before .before .before .before .before .before .if2 .left)
-    (or-by-false
-    (sym (c .before .before .before .before .before .before .av1-pid-wrong .ensures)
-    ∙ c .before .before .before .before .before .if3 .left) (or-by-false (sym (c .before .before .before .before .program-wrong .ensures)
-    ∙ c .before .before .before .if4 .left) (or-by-false (sym (c .before .before .counters-wrong .ensures)
-    ∙ c .before .if5 .left) (sym (or-false _))))))
+    or-by-false (video-right (c .before .before .before .before .before .before .before .before .before))
+    (or-by-false (map-pid-right (c .before .before .before .before .before .before .before))
+    (or-by-false (av1-pid-right (c .before .before .before .before .before))
+    (or-by-false (program-right (c .before .before .before))
+    (or-by-false (counters-right (c .before))
+    (sym (or-false _))))))
 
 pub channel-wrong-spec : {M : Type 1} → statement M
 channel-wrong-spec =

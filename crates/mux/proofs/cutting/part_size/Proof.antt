@@ -1,4 +1,4 @@
--- By the test.
+-- The test is the definition's: what is left, where it is less than a packet holds.
 use mathlib.Core.Path.{refl}
 use Rattle.lists.proofs.Picks.{by-lt, by-ge}
 use Rattle.mux.specs.Parts.{partSize}

@@ -4,8 +4,7 @@ use native.Mathlib.Omega.{arith}
 use Prim.Native.Nat.{ℕ, _+_, _-_, _≤_, _<_}
 use mathlib.Core.Path.{_≡_, ap}
 use lib.ListN.{length, take, drop}
-use Rattle.mux.proofs.Going.{Going, going-start, going-long, going-room, going-on, going-done, size-by, size-within, mid-room}
-use Rattle.mux.proofs.Going.{part-short}
+use Rattle.mux.proofs.Going.{Going, going-start, going-long, going-room, going-on, going-done, size-by, size-within}
 use Rattle.mux.proofs.cutting.put_others.Statement.{statement}
 use Rattle.mux.proofs.cutting.put_others.Tie as tie
 
@@ -63,15 +62,7 @@ part-put-packet-end-2 : tie.Need-part-put-packet-end-2 Inv-loop μ-loop
 part-put-packet-end-2 c = omega (arith, room (c .before .before) .0)
 
 put-packet-requires : tie.Need-put-packet-requires Inv-loop μ-loop
-put-packet-requires c κs =
-    let start = c .before .before .before .before .before .before .before in
-    let at = c .before .before .before .before .loop in
-    let small : at .at + c .before .before .part-size .result - at .at ≤ 184 = omega (arith, size (c .before .before) .2) in (
-      start .pre .0,
-      at .inv .low,
-      part-short (start .args .bytes .now) _ (at .at) small,
-      mid-room (at .out) (at .to) (room (c .before .before .before) .0),
-    )
+put-packet-requires c κs = search needs
 
 add-to : tie.Need-add-to Inv-loop μ-loop
 add-to c = omega (arith, room (c .before .before .before .before .before .before) .1)
@@ -93,7 +84,8 @@ loop-again c =
     let at = c .before .before .before .before .before .before .before .before .loop in
     let part = c .before .before .before .before .before .before .part-size in
     let n : at .at + part .result - at .at ≡ part .result = omega arith in
-    going-on (at .inv) (part .result) _ _ _ (c .before .before .before .before .before .before .before .loop-test .taken) (start .pre .2)
+    going-on (at .inv) (part .result) _ _ _ (start .pre .0) (c .before .before .before .before .before .before .before .loop-test .taken)
+    (start .pre .2)
     (size-by (part .result) (length bytes - at .at) (part .ensures))
     (ap (λ (k : ℕ). take k (drop (at .at) bytes)) n) (c .before .before .before .put-packet .ensures) (c .next-counter .ensures)
 

@@ -1,10 +1,7 @@
 -- The start code, and then the first byte behind it.
 use borrow.Author.Needs.{needs}
-use Prim.Native.Nat.{ℕ}
 use mathlib.Core.Path.{refl, sym, ap, _∙_}
-use mathlib.Core.Bool.{_||_}
-use lib.Dec.{eqb}
-use Rattle.obu.specs.Header.{typeBits}
+use Rattle.comparison.specs.Comparison.{frameType}
 use Rattle.lists.proofs.Tests.{and-by-true, and-by-false}
 use Rattle.mux.proofs.frames.frame_at.Statement.{statement}
 use Rattle.mux.proofs.frames.frame_at.Tie as tie
@@ -18,13 +15,13 @@ add-byte-at c = search needs
 byte-at-requires : tie.Need-byte-at-requires
 byte-at-requires c κs = search needs
 
-frame-type-requires : tie.Need-frame-type-requires
-frame-type-requires c κs = search needs
+is-frame-requires : tie.Need-is-frame-requires
+is-frame-requires c κs = search needs
 
 returns : tie.Need-returns
 returns c =
-    and-by-true (sym (c .before .before .before .code-at .ensures) ∙ c .before .before .if1 .taken) (c .frame-type .ensures
-    ∙ ap (λ (x : ℕ). (eqb (typeBits x) 3 || eqb (typeBits x) 6)) (c .before .byte-at .ensures))
+    and-by-true (sym (c .before .before .before .code-at .ensures) ∙ c .before .before .if1 .taken) (c .is-frame .ensures
+    ∙ ap frameType (c .before .byte-at .ensures))
 
 returns-2 : tie.Need-returns-2
 returns-2 c = and-by-false _ (sym (c .before .code-at .ensures) ∙ c .if1 .left) refl
@@ -32,4 +29,4 @@ returns-2 c = and-by-false _ (sym (c .before .code-at .ensures) ∙ c .if1 .left
 pub frame-at-spec : {M : Type 1} → statement M
 frame-at-spec =
     tie.close
-    (tie.spec code-at-requires add-byte-at byte-at-requires frame-type-requires returns returns-2)
+    (tie.spec code-at-requires add-byte-at byte-at-requires is-frame-requires returns returns-2)

@@ -1,15 +1,20 @@
 -- The tries are those of the definition, in its order; where none refuses, the tables stand at the front and the units behind them.
 use borrow.Author.Needs.{needs}
 use native.Mathlib.Omega.{arith}
-use mathlib.Core.Path.{sym, ap, _∙_}
+use mathlib.Core.Path.{_≡_, sym, ap, _∙_}
 use Rattle.mux_rules.proofs.Reaching.{allowed}
-use Rattle.mux.specs.Parts.{channelAfter}
+use Rattle.mux_rules.specs.Packets.{channelAfter}
+use Rattle.mux_rules.specs.Sending.{channelWrong}
 use Rattle.mux.proofs.Ending.{units-room, all-written, valid-formed, valid-units, valid-packets, sends-wrong, sends-many}
 use Rattle.mux.proofs.Ending.{sends-short, sends-sent}
 use borrow.Author.Tests.{not-false}
-use mathlib.Core.Bool.{not, true≢false}
+use mathlib.Core.Bool.{false, not, true≢false}
 use Rattle.mux.proofs.sending.send.Statement.{statement}
 use Rattle.mux.proofs.sending.send.Tie as tie
+
+-- 52 does not apply
+allows : (c : tie.Else1) → let a = c .before .before .before .before .before .args in channelWrong (a .channel) (a .video .now) ≡ false
+allows c = sym (c .before .channel-wrong .ensures) ∙ c .if1 .left
 
 channel-wrong-requires : tie.Need-channel-wrong-requires
 channel-wrong-requires c κs = search needs
@@ -19,9 +24,10 @@ refuse-requires c κs = search needs
 
 returns : tie.Need-returns
 returns c = λ units q.
-    let a = c .before .before .before .before .before .before .args in
-    sends-wrong q (a .channel) (a .video .now) (a .out .now) (sym (c .before .before .channel-wrong .ensures)
-    ∙ c .before .if1 .taken) _ (c .refuse .ensures)
+    let tried = c .before .before in
+    let a = tried .before .before .before .before .args in
+    sends-wrong q (a .channel) (a .video .now) (a .out .now) (sym (tried .channel-wrong .ensures) ∙ c .before .if1 .taken) _
+    (c .refuse .ensures)
 
 well-formed-requires : tie.Need-well-formed-requires
 well-formed-requires c κs = search needs
@@ -44,14 +50,12 @@ refuse-requires-3 c κs = search needs
 
 returns-3 : tie.Need-returns-3
 returns-3 c = λ units q.
-    let a = c .before .before .before .before .before .before .before .before .before .before .args in
-    let w = sym (c .before .before .before .before .before .before .channel-wrong .ensures)
-    ∙ c .before .before .before .before .before .if1 .left in
-    let ok = allowed (a .channel) (a .video .now) w in
-    let f = sym (c .before .before .before .before .well-formed .ensures) ∙ not-false _ (c .before .before .before .if2 .left) in
-    let n = c .before .before .queue-packets .ensures in
-    let v = valid-packets q in
-    sends-many q (a .channel) (a .video .now) (a .out .now) w (omega (arith, n .0, v, c .before .if3 .taken)) _ (c .refuse3 .ensures)
+    let counted = c .before .before in
+    let first = counted .before .before .before in
+    let a = first .before .before .before .before .before .args in
+    let n = counted .queue-packets .ensures in
+    sends-many q (a .channel) (a .video .now) (a .out .now) (allows first)
+    (omega (arith, n .0, valid-packets q, c .before .if3 .taken)) _ (c .refuse3 .ensures)
 
 mul-if4 : tie.Need-mul-if4
 mul-if4 c = omega (arith, c .before .queue-packets .ensures .1)
@@ -61,23 +65,16 @@ refuse-requires-4 c κs = search needs
 
 returns-4 : tie.Need-returns-4
 returns-4 c = λ units q.
-    let a = c .before .before .before .before .before .before .before .before .before .before .before .args in
-    let w = sym (c .before .before .before .before .before .before .before .channel-wrong .ensures)
-    ∙ c .before .before .before .before .before .before .if1 .left in
-    let ok = allowed (a .channel) (a .video .now) w in
-    let f = sym (c .before .before .before .before .before .well-formed .ensures)
-    ∙ not-false _ (c .before .before .before .before .if2 .left) in
-    let n = c .before .before .before .queue-packets .ensures in
+    let counted = c .before .before .before in
+    let first = counted .before .before .before in
+    let a = first .before .before .before .before .before .args in
+    let n = counted .queue-packets .ensures in
     let v = valid-packets q in
-    sends-short q (a .channel) (a .video .now) (a .out .now) w (omega (arith, n .0, v, c .before .before .if3 .left))
+    sends-short q (a .channel) (a .video .now) (a .out .now) (allows first) (omega (arith, n .0, v, c .before .before .if3 .left))
     (omega (arith, n .0, v, c .before .if4 .taken)) _ (c .refuse4 .ensures)
 
 put-tables-requires : tie.Need-put-tables-requires
-put-tables-requires c κs = let a = c .before .before .before .before .before .before .before .before .before .before .before .args in
-    let w = sym (c .before .before .before .before .before .before .before .channel-wrong .ensures)
-    ∙ c .before .before .before .before .before .before .if1 .left in
-    let ok = allowed (a .channel) (a .video .now) w in
-    (w, omega (arith, c .before .if4 .left))
+put-tables-requires c κs = (allows (c .before .before .before .before .before .before), omega (arith, c .before .if4 .left))
 
 sub-put-units : tie.Need-sub-put-units
 sub-put-units c = omega arith
@@ -90,74 +87,57 @@ part-put-units-end c = search needs
 
 put-units-requires : tie.Need-put-units-requires
 put-units-requires c κs =
-    let a = c .before .before .before .before .before .before .before .before .before .before .before .before .before .before .before
-    .args in
-    let w = sym (c .before .before .before .before .before .before .before .before .before .before .before .channel-wrong .ensures)
-    ∙ c .before .before .before .before .before .before .before .before .before .before .if1 .left in
-    let ok = allowed (a .channel) (a .video .now) w in
-    let f = sym (c .before .before .before .before .before .before .before .before .before .well-formed .ensures)
-    ∙ not-false _ (c .before .before .before .before .before .before .before .before .if2 .left) in
-    let n = c .before .before .before .before .before .before .before .queue-packets .ensures in
-    let room = c .before .before .before .before .before .if4 .left in (
+    let tables = c .before .before .before in
+    let fits = tables .before .before in
+    let counted = fits .before .before in
+    let formed = counted .before in
+    let first = formed .before .before in
+    let a = first .before .before .before .before .before .args in
+    let ok = allowed (a .channel) (a .video .now) (allows first) in
+    let room = fits .if4 .left in (
       omega (arith, ok .pid-high),
       ok .av1-low,
-      f,
-      units-room (a .channel) (a .video .now) w (a .out .now) _ (c .before .before .before .put-tables .ensures) (omega (arith, room)) _
-          (omega (arith, n .0, room)),
+      sym (formed .before .well-formed .ensures) ∙ not-false _ (formed .if2 .left),
+      units-room (a .channel) (a .video .now) (allows first) (a .out .now) _ (tables .put-tables .ensures) (omega (arith, room)) _
+          (omega (arith, counted .queue-packets .ensures .0, room)),
     )
 
 channel-after-requires : tie.Need-channel-after-requires
 channel-after-requires c κs =
-    let a = c .before .before .before .before .before .before .before .before .before .before .before .before .before .before .before
-    .before .before .before .args in
-    let w = sym
-    (c .before .before .before .before .before .before .before .before .before .before .before .before .before .before .channel-wrong
-    .ensures) ∙ c .before .before .before .before .before .before .before .before .before .before .before .before .before .if1 .left in
-    let ok = allowed (a .channel) (a .video .now) w in
-    let f = sym (c .before .before .before .before .before .before .before .before .before .before .before .before .well-formed .ensures)
-    ∙ not-false _ (c .before .before .before .before .before .before .before .before .before .before .before .if2 .left) in
-    let n = c .before .before .before .before .before .before .before .before .before .before .queue-packets .ensures in
-    (ok .pat-low, ok .map-counter, ok .av1-low, n .1)
+    let counted = c .before .before .before .before .before .before .before .before .before .before in
+    let first = counted .before .before .before in
+    let a = first .before .before .before .before .before .args in
+    let ok = allowed (a .channel) (a .video .now) (allows first) in
+    (ok .pat-low, ok .map-counter, ok .av1-low, counted .queue-packets .ensures .1)
 
 clear-requires : tie.Need-clear-requires
 clear-requires c κs = search needs
 
 mul-t17 : tie.Need-mul-t17
 mul-t17 c =
-    omega (
-      arith,
-      c .before .before .before .before .before .before .before .before .before .before .before .before .queue-packets .ensures
-          .1,
-    )
+    let counted = c .before .before .before .before .before .before .before .before .before .before .before .before in
+    omega (arith, counted .queue-packets .ensures .1)
 
 same-length : tie.Need-same-length
 same-length c = search needs
 
 returns-5 : tie.Need-returns-5
 returns-5 c = λ units q.
-    let a = c .before .before .before .before .before .before .before .before .before .before .before .before .before .before .before
-    .before .before .before .before .before .args in
-    let w = sym
-    (c .before .before .before .before .before .before .before .before .before .before .before .before .before .before .before .before
-    .channel-wrong .ensures)
-    ∙ c .before .before .before .before .before .before .before .before .before .before .before .before .before .before .before .if1 .left
-    in
-    let ok = allowed (a .channel) (a .video .now) w in
-    let f = sym
-    (c .before .before .before .before .before .before .before .before .before .before .before .before .before .before .well-formed
-    .ensures)
-    ∙ not-false _ (c .before .before .before .before .before .before .before .before .before .before .before .before .before .if2 .left) in
-    let n = c .before .before .before .before .before .before .before .before .before .before .before .before .queue-packets .ensures in
+    let put = c .before .before .before .before in
+    let tables = put .before .before .before .before in
+    let room = tables .before .before in
+    let few = room .before in
+    let counted = few .before in
+    let first = counted .before .before .before in
+    let a = first .before .before .before .before .before .args in
+    let n = counted .queue-packets .ensures in
     let v = valid-packets q in
-    let fits = c .before .before .before .before .before .before .before .before .before .before .if4 .left in
-    sends-sent q (a .channel) (a .video .now) (a .out .now) w
-    (omega (arith, n .0, v, c .before .before .before .before .before .before .before .before .before .before .before .if3 .left))
-    (omega (arith, n .0, v, fits)) _ _ _ _ _ (omega (arith, n .0, v))
-    (omega (arith, n .0, v)) (c .before .channel-after .ensures ∙ ap (channelAfter (a .channel)) (n .0 ∙ v)) (c .clear .ensures)
-    (all-written (a .channel) (a .video .now) w (a .out .now) _
-    (c .before .before .before .before .before .before .before .before .put-tables .ensures) (omega (arith, fits)) units _ _ (valid-units q)
-    (omega (arith, n .0, v, fits))
-    (c .before .before .before .before .put-units .ensures))
+    let fits = room .if4 .left in
+    sends-sent q (a .channel) (a .video .now) (a .out .now) (allows first) (omega (arith, n .0, v, few .if3 .left))
+    (omega (arith, n .0, v, fits)) _ _ _ _ _ (omega (arith, n .0, v)) (omega (arith, n .0, v))
+    (c .before .channel-after .ensures ∙ ap (channelAfter (a .channel)) (n .0 ∙ v)) (c .clear .ensures)
+    (all-written (a .channel) (a .video .now) (allows first) (a .out .now) _ (tables .put-tables .ensures) (omega (arith, fits)) units _ _
+    (valid-units q) (omega (arith, n .0, v, fits)) (put .put-units .ensures))
 
 pub send-spec : {M : Type 1} → statement M
 send-spec =

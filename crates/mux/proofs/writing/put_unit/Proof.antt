@@ -1,17 +1,38 @@
 -- The first packet has the header and the unit's first bytes; the others follow it.
 use borrow.Author.Needs.{needs}
 use native.Mathlib.Omega.{arith}
-use Prim.Native.Nat.{ℕ, _<_}
-use mathlib.Core.Path.{_≡_, ap, _∙_}
-use lib.ListN.{length, length-take}
-use Rattle.mux.proofs.Placing.{unit-room, unit-written}
-use Rattle.mux.specs.Parts.{headSize, firstSize}
-use Rattle.queue.specs.Queue.{TimedUnit, timed}
+use Prim.Native.Nat.{_<_}
+use mathlib.Core.Path.{_≡_}
+use lib.ListN.{length}
+use Rattle.lists.specs.Lists.{Bytes}
+use Rattle.queue.specs.Queue.{TimedUnit}
+use Rattle.packet_writer.specs.declared.Start.{Start}
+use Rattle.packet_writer.specs.Putting.{startPut}
+use Rattle.mux.specs.Parts.{slotUnit}
+use Rattle.mux.proofs.Placing.{Begun, begun-by}
 use Rattle.mux.proofs.writing.put_unit.Statement.{statement}
 use Rattle.mux.proofs.writing.put_unit.Tie as tie
 
-pes-header-requires : tie.Need-pes-header-requires
-pes-header-requires c κs = search needs
+-- the first packet is put, with the header and the unit's first bytes
+begins : (c : tie.After-put-start)
+    → let a = c .before .before .before .before .before .before .before .before .before .before .args in
+    let u : TimedUnit = slotUnit (a .slot) (a .unit .now) in
+    let flags = c .before .before .before .first-flags .result in
+    let s : Start = record { flags = flags; pts = u .pts; dts = u .dts; length = length (u .carried) } in
+    (out1 : Bytes) → out1 ≡ startPut (a .pid) (a .counter) s (c .before .before .part .result .now) (a .out .now)
+    → Begun (a .pid) (a .counter) u (a .out .now) (c .before .before .before .before .first-size .result) flags out1
+begins c out1 put =
+    let start = c .before .before .before .before .before .before .before .before .before .before in
+    let a = start .args in
+    let size = c .before .before .before .before .before .head-size in
+    let first = c .before .before .before .before .first-size in
+    let flags = c .before .before .before .first-flags in
+    begun-by (a .pid) (a .counter) (slotUnit (a .slot) (a .unit .now)) (a .out .now) (start .pre .0) (start .pre .1) (start .pre .2)
+    (start .pre .3) (start .pre .4) (size .result) (first .result) (flags .result) (size .ensures .0)
+    (first .ensures .0) (first .ensures .1) (flags .ensures) _ out1 (c .before .before .part .ensures) put
+
+head-size-requires : tie.Need-head-size-requires
+head-size-requires c κs = search needs
 
 first-size-requires : tie.Need-first-size-requires
 first-size-requires c κs = search needs
@@ -19,29 +40,11 @@ first-size-requires c κs = search needs
 first-flags-requires : tie.Need-first-flags-requires
 first-flags-requires c κs = search needs
 
-slice-aggregate-part : tie.Need-slice-aggregate-part
-slice-aggregate-part c = search needs
-
 part-requires : tie.Need-part-requires
 part-requires c κs = search needs
 
-part-requires-2 : tie.Need-part-requires-2
-part-requires-2 c κs = search needs
-
-put-first-requires : tie.Need-put-first-requires
-put-first-requires c κs = let a = c .before .before .before .before .before .before .before .before .before .before .args in
-    let u : TimedUnit = timed (a .unit .now) (a .slot .pts) (a .slot .dts) (a .slot .marked) in
-    let head = c .before .before .before .before .before .before .before .pes-header in
-    let first = c .before .before .before .before .before .first-size in
-    let e : first .result ≡ firstSize (u .marked) (headSize (u .pts) (u .dts)) (length (u .carried)) =
-    first .ensures .0 ∙ ap (λ (n : ℕ). firstSize (u .marked) n (length (u .carried))) (head .ensures .0 .0) in
-    let front = c .before .before .part .ensures in
-    let begun = c .before .part2 .ensures in
-    let lh = ap length front in
-    let lp = ap length begun in
-    let th = length-take (head .result .size) (head .result .bytes) in
-    let tp = length-take (first .result) (a .unit .now) in
-    (omega arith, omega arith, omega (arith, head .ensures .0 .1), omega (arith, first .ensures .1), omega arith)
+put-start-requires : tie.Need-put-start-requires
+put-start-requires c κs = search needs
 
 rest-requires : tie.Need-rest-requires
 rest-requires c κs = search needs
@@ -60,61 +63,31 @@ part-put-others-end c = search needs
 
 put-others-requires : tie.Need-put-others-requires
 put-others-requires c κs =
-    let a = c .before .before .before .before .before .before .before .before .before .before .before .before .before .before .before
-    .before .args in
-    let u : TimedUnit = timed (a .unit .now) (a .slot .pts) (a .slot .dts) (a .slot .marked) in
-    let head = c .before .before .before .before .before .before .before .before .before .before .before .before .before .pes-header in
-    let first = c .before .before .before .before .before .before .before .before .before .before .before .first-size in
-    let e : first .result ≡ firstSize (u .marked) (headSize (u .pts) (u .dts)) (length (u .carried)) =
-    first .ensures .0 ∙ ap (λ (n : ℕ). firstSize (u .marked) n (length (u .carried))) (head .ensures .0 .0) in
-    let front = c .before .before .before .before .before .before .before .before .part .ensures in
-    let begun = c .before .before .before .before .before .before .before .part2 .ensures in
-    let n : c .before .next-counter .result < 16 = omega (arith, c .before .next-counter .ensures) in (
-      c .before .before .before .before .before .before .before .before .before .before .before .before .before .before .before .before .pre
-          .0,
-      n,
-      unit-room u (first .result) e (a .pid) (a .counter) 0 _ _ _ _ (a .out .now) _ (front
-          ∙ head .ensures .1) begun (c .before .before .rest .ensures)
-          (c .before .before .before .before .before .before .before .before .before .before .before .before .before .before .before .before
-          .pre .5) (c .before .before .before .before .before .put-first .ensures),
-    )
+    let put = c .before .before .before .before .before in
+    let start = put .before .before .before .before .before .before .before .before .before .before in
+    let n : c .before .next-counter .result < 16 = omega (arith, c .before .next-counter .ensures) in
+    (start .pre .0, n, begins put _ (put .put-start .ensures) .room _ (c .before .before .rest .ensures))
 
 same-length : tie.Need-same-length
 same-length c = search needs
 
 returns : tie.Need-returns
 returns c =
-    let a = c .before .before .before .before .before .before .before .before .before .before .before .before .before .before .before
-    .before .before .before .before .args in
-    let u : TimedUnit = timed (a .unit .now) (a .slot .pts) (a .slot .dts) (a .slot .marked) in
-    let head =
-    c .before .before .before .before .before .before .before .before .before .before .before .before .before .before .before .before
-    .pes-header in
-    let first =
-    c .before .before .before .before .before .before .before .before .before .before .before .before .before .before .first-size in
-    let e : first .result ≡ firstSize (u .marked) (headSize (u .pts) (u .dts)) (length (u .carried)) =
-    first .ensures .0 ∙ ap (λ (n : ℕ). firstSize (u .marked) n (length (u .carried))) (head .ensures .0 .0) in
-    let front = c .before .before .before .before .before .before .before .before .before .before .before .part .ensures in
-    let begun = c .before .before .before .before .before .before .before .before .before .before .part2 .ensures in
-    unit-written u (first .result) e (a .pid) (a .counter) _ _ _ _ _ (a .out .now) _ (front
-    ∙ head .ensures .1) begun (c .before .before .before .before .before .rest .ensures)
-    (c .before .before .before .before .before .before .before .before .before .before .before .before .before .before .before .before
-    .before .before .before .pre .5) (c .before .before .before .before .before .before .before .before .put-first .ensures) _
-    (c .before .before .before .before .next-counter .ensures)
-    (c .before .before .before .before .before .before .before .before .before .before .before .before .before .first-flags .ensures)
+    let next = c .before .before .before .before in
+    let rest = next .before in
+    let put = rest .before .before .before in
+    begins put _ (put .put-start .ensures) .written _ _ _ (rest .rest .ensures) (next .next-counter .ensures)
     (c .before .before .put-others .ensures)
 
 pub put-unit-spec : {M : Type 1} → statement M
 put-unit-spec =
     tie.close
     (tie.spec
-    pes-header-requires
+    head-size-requires
     first-size-requires
     first-flags-requires
-    slice-aggregate-part
     part-requires
-    part-requires-2
-    put-first-requires
+    put-start-requires
     rest-requires
     next-counter-requires
     sub-put-others

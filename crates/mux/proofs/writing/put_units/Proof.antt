@@ -4,13 +4,13 @@ use native.Mathlib.Omega.{arith}
 use Prim.Native.Nat.{_-_, _*_, _≤_}
 use mathlib.Core.Path.{_≡_, sym, ap, subst, _∙_}
 use mathlib.Core.List.{flatten}
-use lib.ListN.{length, drop, getD, length-take}
+use lib.ListN.{length, getD}
 use Rattle.lists.specs.Lists.{Bytes, over}
 use Rattle.lists.proofs.Parts.{next, unmapped}
 use Rattle.mux.proofs.Placing.{Filling, filling-start, filling-long, filling-done, Turn, turn, part-is}
-use Rattle.mux.specs.Parts.{filled}
+use Rattle.mux.specs.Parts.{filled, slotUnit}
 use Rattle.mux_rules.specs.Packets.{packetsFor, unitPackets}
-use Rattle.queue.specs.Queue.{timed, noRecord}
+use Rattle.queue.specs.Queue.{noRecord}
 use borrow.Rule.Slice.PartMut.{midOf}
 use Rattle.mux.proofs.Slotting.{well, slot-next, slot-last}
 use Rattle.mux.proofs.writing.put_units.Statement.{statement}
@@ -80,14 +80,12 @@ put-unit-requires c κs =
     let at = c .before .before .before .before .before .loop in
     let r = getD (start .args .t3 .units) (at .i) noRecord in
     let s = slot (c .before .before .before .before) in
-    let p = part-is store (at .at) (r .length) in
-    let t = length-take (r .length) (drop (at .at) store) in (
+    let p = part-is store (at .at) (r .length) in (
       start .pre .0,
       s .low,
       s .sound .pts,
       s .sound .dts,
-      omega (arith, ap length p, t, s .sound .short),
-      subst (λ (x : Bytes). 188 * packetsFor (timed x (r .pts) (r .dts) (r .marked)) ≤ length
+      subst (λ (x : Bytes). 188 * packetsFor (slotUnit r x) ≤ length
           (midOf (at .to) (length (at .out) - at .to) (at .out))) (sym p) (s .room),
     )
 
@@ -128,7 +126,7 @@ loop-again c =
       slot (c .before .before .before .before .before .before .before .before .before) .filling _ _ _ (c .before .slot-packets .ensures .0)
           (c .counter-after .ensures)
           (c .before .before .before .before .put-unit .ensures
-          ∙ ap (λ (x : Bytes). over (flatten (unitPackets (a .pid) (at .next) (timed x (r .pts) (r .dts) (r .marked))))
+          ∙ ap (λ (x : Bytes). over (flatten (unitPackets (a .pid) (at .next) (slotUnit r x)))
           (midOf (at .to) (length (at .out) - at .to) (at .out))) p),
     )
 

@@ -16,20 +16,20 @@ header-was c = sym (c .before .before .before .read-header .ensures) ∙ ap judg
 
 -- its size is right
 size-right : (c : tie.Else1)
-    → sizeWrong (c .before .before .before .read .given .0 .0) (c .before .before .before .before .before .before .before .args .bytes)
-    ≡ false
+    → let read = c .before .before .before in
+    sizeWrong (read .read .given .0 .0) (read .before .before .before .before .args .bytes) ≡ false
 size-right c = sym (c .before .size-wrong .ensures) ∙ c .if1 .left
 
 -- it is of no delimiter with content
 no-content : (c : tie.Else2)
-    → delimiterWithContent (c .before .before .before .before .before .read .given .0 .0)
-    (c .before .before .before .before .before .before .before .before .before .args .bytes) ≡ false
+    → let read = c .before .before .before .before .before in
+    delimiterWithContent (read .read .given .0 .0) (read .before .before .before .before .args .bytes) ≡ false
 no-content c = sym (c .before .delimiter-with-content .ensures) ∙ c .if2 .left
 
 -- it is of no sequence header or frame header without content
 some-content : (c : tie.Else4)
-    → contentMissing (c .before .before .before .before .before .before .before .before .before .read .given .0 .0)
-    (c .before .before .before .before .before .before .before .before .before .before .before .before .before .args .bytes) ≡ false
+    → let read = c .before .before .before .before .before .before .before .before .before in
+    contentMissing (read .read .given .0 .0) (read .before .before .before .before .args .bytes) ≡ false
 some-content c = sym (c .before .content-missing .ensures) ∙ c .if4 .left
 
 read-header-requires : tie.Need-read-header-requires
@@ -111,22 +111,25 @@ refuse-requires-5 c κs = search needs
 returns-6 : tie.Need-returns-6
 unfolding judged
 returns-6 c =
-    c .refuse5 .ensures
-    ∙ go-on _ _ (header-was (c .before .before .before .before .before .before .before .before .before .before .before))
-    (pass-on 5 (size-right (c .before .before .before .before .before .before .before .before .before))
-    (pass-on 5 (no-content (c .before .before .before .before .before .before .before))
-    (pass-on 6 (ne-eqb _ _ (c .before .before .before .before .before .if3 .left))
-    (pass-on 42 (some-content (c .before .before .before))
+    let fourth = c .before .before .before in
+    let second = fourth .before .before .before .before in
+    c .refuse5 .ensures ∙ go-on _ _ (header-was (second .before .before .before .before))
+    (pass-on 5 (size-right (second .before .before))
+    (pass-on 5 (no-content second)
+    (pass-on 6 (ne-eqb _ _ (fourth .before .before .if3 .left))
+    (pass-on 42 (some-content fourth)
     (refuse 42 _ (sym (c .before .before .reduced-still .ensures) ∙ c .before .if5 .taken))))))
 
 returns-7 : tie.Need-returns-7
 unfolding judged
 returns-7 c =
-    go-on _ _ (header-was (c .before .before .before .before .before .before .before .before .before .before))
-    (pass-on 5 (size-right (c .before .before .before .before .before .before .before .before))
-    (pass-on 5 (no-content (c .before .before .before .before .before .before))
-    (pass-on 6 (ne-eqb _ _ (c .before .before .before .before .if3 .left))
-    (pass-on 42 (some-content (c .before .before))
+    let fourth = c .before .before in
+    let second = fourth .before .before .before .before in
+    go-on _ _ (header-was (second .before .before .before .before))
+    (pass-on 5 (size-right (second .before .before))
+    (pass-on 5 (no-content second)
+    (pass-on 6 (ne-eqb _ _ (fourth .before .before .if3 .left))
+    (pass-on 42 (some-content fourth)
     (pass-on 42 (sym (c .before .reduced-still .ensures) ∙ c .if5 .left) refl)))))
 
 pub judge-spec : {M : Type 1} → statement M

@@ -83,12 +83,12 @@ sized-header-requires c κs = search needs
 returns-4 : tie.Need-returns-4
 unfolding headerOf
 returns-4 c =
-    pass-on 3 (some-bytes (c .before .before .before .before .before .before .before .before))
-    (pass-on 4 (not-forbidden (c .before .before .before .before .before))
+    let tested = c .before .before .before .before .before in
+    let obu = tested .before .before .before .before .before .args .obu .now in
+    pass-on 3 (some-bytes (tested .before .before .before))
+    (pass-on 4 (not-forbidden tested)
     (pass-on 4 (not-missing (c .before .before .before))
-    (c .sized-header .ensures
-    ∙ behind-fixed _ _ (c .before .before .before .before .before .before .before .before .before .before .args .obu .now)
-    (c .before .before .fixed-bytes .ensures))))
+    (c .sized-header .ensures ∙ behind-fixed _ _ obu (c .before .before .fixed-bytes .ensures))))
 
 pub read-header-spec : {M : Type 1} → statement M
 read-header-spec =

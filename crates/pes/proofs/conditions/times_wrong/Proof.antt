@@ -9,12 +9,12 @@ use Rattle.pes.proofs.conditions.times_wrong.Tie as tie
 pts-alone-requires : tie.Need-pts-alone-requires
 pts-alone-requires c κs = search needs
 
-pts-wrong-requires : tie.Need-pts-wrong-requires
-pts-wrong-requires c κs = search needs
+stamp-wrong-requires : tie.Need-stamp-wrong-requires
+stamp-wrong-requires c κs = search needs
 
 returns : tie.Need-returns
 unfolding timesWrong
-returns c = by-true _ (sym (c .before .before .pts-alone .ensures) ∙ c .before .if1 .taken) (c .pts-wrong .ensures)
+returns c = by-true _ (sym (c .before .before .pts-alone .ensures) ∙ c .before .if1 .taken) (c .stamp-wrong .ensures)
 
 pts-and-dts-requires : tie.Need-pts-and-dts-requires
 pts-and-dts-requires c κs = search needs
@@ -39,7 +39,7 @@ times-wrong-spec =
     tie.close
     (tie.spec
     pts-alone-requires
-    pts-wrong-requires
+    stamp-wrong-requires
     returns
     pts-and-dts-requires
     both-wrong-requires

@@ -9,12 +9,12 @@ use Rattle.pes.proofs.fields.dts.Tie as tie
 pts-and-dts-requires : tie.Need-pts-and-dts-requires
 pts-and-dts-requires c κs = search needs
 
-present-dts-requires : tie.Need-present-dts-requires
-present-dts-requires c κs = search needs
+stamp-at-requires : tie.Need-stamp-at-requires
+stamp-at-requires c κs = search needs
 
 returns : tie.Need-returns
 unfolding dts
-returns c = by-true _ (sym (c .before .before .pts-and-dts .ensures) ∙ c .before .if1 .taken) (c .present-dts .ensures)
+returns c = by-true _ (sym (c .before .before .pts-and-dts .ensures) ∙ c .before .if1 .taken) (c .stamp-at .ensures)
 
 pts-requires : tie.Need-pts-requires
 pts-requires c κs = search needs
@@ -24,4 +24,4 @@ unfolding dts
 returns-2 c = by-false _ (sym (c .before .before .pts-and-dts .ensures) ∙ c .before .if1 .left) (c .pts .ensures)
 
 pub dts-spec : {M : Type 1} → statement M
-dts-spec = tie.close (tie.spec pts-and-dts-requires present-dts-requires returns pts-requires returns-2)
+dts-spec = tie.close (tie.spec pts-and-dts-requires stamp-at-requires returns pts-requires returns-2)

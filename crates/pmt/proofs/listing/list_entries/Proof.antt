@@ -17,8 +17,11 @@ Inv-loop edition s map-pid entries₀ av1₀ count₀ at₀ entries av1 count at
 abbrev μ-loop : tie.MeasureT-loop
 μ-loop edition s map-pid entries₀ av1₀ count₀ at₀ entries av1 count at = length s - at
 
+no-entries-requires : tie.Need-no-entries-requires Inv-loop μ-loop
+no-entries-requires c κs = search needs
+
 loop-holds : tie.Need-loop-holds Inv-loop μ-loop
-loop-holds c = turn-start _ _
+loop-holds c = turn-start _ _ (c .no-entries .ensures)
 
 returns : tie.Need-returns Inv-loop μ-loop
 returns c = turn-full (c .before .before .loop .inv) (c .before .loop-test .taken) (omega (arith, c .if1 .taken))
@@ -102,6 +105,7 @@ list-entries-spec =
     (tie.spec
     Inv-loop
     μ-loop
+    no-entries-requires
     loop-holds
     returns
     sub-try-entry

@@ -1,4 +1,4 @@
--- Each part is that of the definition.
+-- Each part of the state is that of the definition, from the promise of the function that gives it.
 use borrow.Author.Needs.{needs}
 use native.Mathlib.Omega.{arith}
 use Rattle.replay.specs.Replay.{after}

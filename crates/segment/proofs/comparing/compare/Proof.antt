@@ -1,12 +1,12 @@
 -- The six bytes of the descriptor are made anew from the four that the map has; its fields are those that are compared.
 use borrow.Author.Needs.{needs}
 use mathlib.Core.Path.{sym, ap, _∙_}
-use mathlib.Core.List.{List}
+use mathlib.Core.List.{List, map}
 use lib.ListN.{take}
 use Rattle.lists.specs.Lists.{Bytes}
 use Rattle.unit.specs.Unit.{obusOf}
 use Rattle.descriptor.specs.declared.fields.Fields.{Fields}
-use Rattle.comparison.specs.Comparison.{firstFrom}
+use Rattle.comparison.specs.Comparison.{headersBeforeFrame, firstFrom}
 use Rattle.pmt.specs.declared.loops.Video.{Video}
 use Rattle.segment.specs.Parts.{disagreeing}
 use Rattle.segment.proofs.comparing.compare.Statement.{statement}
@@ -40,7 +40,7 @@ returns-2 c =
     let a = c .before .before .before .before .before .before .before .before .args in
     let units : List Bytes = obusOf (take (a .units) (a .lens .now)) (a .out .now) in
     c .compare-units .ensures
-    ∙ ap (λ (f : Fields). firstFrom 0 f units) (c .before .fields-of .ensures)
+    ∙ ap (λ (f : Fields). firstFrom 0 f (map headersBeforeFrame units)) (c .before .fields-of .ensures)
     ∙ sym (ap (λ (x : Video). disagreeing x units) (c .before .before .before .before .video .given .1))
 
 pub compare-spec : {M : Type 1} → statement M

@@ -45,12 +45,16 @@ returns-4 : tie.Need-returns-4
 returns-4 c = search needs
 
 returns-5 : tie.Need-returns-5
-returns-5 c = let a = c .before .before .before .before .before .before .before .before .before .before .before .before .before .before .args in
+returns-5 c =
+    let at-kind = c .before .before .before .before .before .before .before in
+    let at-is-pcr = at-kind .before .before .before .before in
+    let a = at-is-pcr .before .before .before .args in
     record {
-      opened = (_, c .before .before .before .before .before .before .before .before .before .before .before .before .enum-told .given .1);
-      clocked = sym (c .before .before .before .before .before .before .before .before .before .before .before .is-pcr .ensures) ∙ not-false _ (c .before .before .before .before .before .before .before .before .before .before .if1 .left);
+      opened = (_, at-is-pcr .before .enum-told .given .1);
+      clocked = sym (at-is-pcr .is-pcr .ensures) ∙ not-false _ (at-kind .before .before .before .if1 .left);
       kind =
-          λ edition. subst (λ (k : Kind). KindTurn edition (a .tables) (a .pid) k) (c .before .before .before .before .before .before .before .kind .given .1) (c .before .before .before .before .before .before .before .before .before .kind-of .ensures edition);
+          λ edition. subst (λ (k : Kind). KindTurn edition (a .tables) (a .pid) k)
+          (at-kind .kind .given .1) (at-kind .before .before .kind-of .ensures edition);
       seen = (_, _, ap (λ (s : Stream). s .last) (sym (c .before .before .before .at .ensures)) ∙ c .before .last .given .1);
     }
 

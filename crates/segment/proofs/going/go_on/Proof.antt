@@ -1,19 +1,37 @@
 -- The packets that `follow` counts and copies pass one after the other, each by its rules (`goes` in Continuing.antt).
 use borrow.Author.Needs.{needs}
 use native.Mathlib.Omega.{arith}
-use Prim.Native.Nat.{ℕ, _+_}
+use Prim.Native.Nat.{ℕ, _+_, _*_, _/_, _≤_}
 use mathlib.Core.Path.{refl, sym, subst, _∙_}
 use mathlib.Core.List.{List}
-use lib.ListN.{drop}
+use lib.ListN.{length, drop}
 use Rattle.lists.proofs.Parts.{tail-placed}
-use Rattle.packet.specs.Header.{packets}
-use Rattle.plain.specs.Runs.{payloads}
+use Rattle.packet.specs.Header.{packetLength, packets}
+use Rattle.plain.specs.Runs.{payloads, payloadLength}
 use Rattle.segment_rules.specs.Check.{outputsOf}
 use Rattle.segment.specs.declared.going.Due.{Due}
-use Rattle.segment.specs.Parts.{DueTurn, StateStands}
+use Rattle.extraction.specs.Extraction.{StateStands}
+use Rattle.segment.specs.Parts.{DueTurn}
 use Rattle.segment.proofs.Continuing.{lent-many, none-kept, bounded, went}
 use Rattle.segment.proofs.going.go_on.Statement.{statement}
 use Rattle.segment.proofs.going.go_on.Tie as tie
+
+-- the packets that go on lie within the segment, and their payloads within the output
+within-both : (c : tie.After-slice-known2)
+    → let a = c .before .before .before .before .before .before .before .before .before .before .before .before .before .args in
+    let m = c .before .before .follow .result in
+    (a .index + m ≤ length (a .segment .now) / packetLength)
+    × (a .extraction .start + a .extraction .bytes + m * payloadLength ≤ length (a .out .now))
+within-both c =
+    let at-may = c .before .before .before .before .before .before in
+    let begin = at-may .before .before .before .before .before .before .before in
+    let a = begin .args in
+    let may = subst (λ (d : Due). DueTurn (a .tables) (a .extraction) (at-may .before .before .before .pid-of .result) d)
+    (at-may .may .given .1) (at-may .before .before .due-after .ensures) in
+    let many = lent-many _ _ (drop (a .index) (packets (a .segment .now))) (a .out .now) (a .extraction .start + a .extraction .bytes)
+    (c .before .before .follow .result) (begin .pre .1) (c .before .before .follow .ensures .0) in
+    bounded (a .segment .now) (a .index) (a .tables) (a .extraction) _ _ _ may (a .out .now) (begin .pre .0) (begin .pre .1)
+    (c .before .before .follow .result) many
 
 mul-part : tie.Need-mul-part
 mul-part c = search needs
@@ -55,13 +73,14 @@ same-length : tie.Need-same-length
 same-length c = search needs
 
 returns-2 : tie.Need-returns-2
-returns-2 c = let a = c .before .before .before .before .before .before .before .before .before .before .before .before .before .before .args in
-    let pre = c .before .before .before .before .before .before .before .before .before .before .before .before .before .before .pre in
+returns-2 c =
+    let at-may = c .before .before .before .before .before .before .before in
+    let begin = at-may .before .before .before .before .before .before .before in
+    let a = begin .args in
+    let pre = begin .pre in
     let at = a .extraction .start + a .extraction .bytes in
     let l = drop (a .index) (packets (a .segment .now)) in
     let m = c .before .before .before .follow .result in
-    let may = subst (λ (d : Due). DueTurn (a .tables) (a .extraction) (c .before .before .before .before .before .before .before .before .before .before .pid-of .result) d) (c .before .before .before .before .before .before .before .may .given .1) (c .before .before .before .before .before .before .before .before .before .due-after .ensures) in
-    let many = lent-many _ _ l (a .out .now) at m (pre .1) (c .before .before .before .follow .ensures .0) in
     let kept = tail-placed at (a .out .now) (payloads m l) _ (pre .1) (c .before .before .before .follow .ensures .1)
     ∙ none-kept (a .out .now) at l m (c .if1 .taken) in (
       λ edition lens times before st named s. (
@@ -77,65 +96,55 @@ cast-last : tie.Need-cast-last
 cast-last c = search needs
 
 add-last : tie.Need-add-last
-add-last c = let a = c .before .before .before .before .before .before .before .before .before .before .before .before .before .before .args in
-    let pre = c .before .before .before .before .before .before .before .before .before .before .before .before .before .before .pre in
-    let at = a .extraction .start + a .extraction .bytes in
-    let l = drop (a .index) (packets (a .segment .now)) in
-    let m = c .before .before .before .follow .result in
-    let may = subst (λ (d : Due). DueTurn (a .tables) (a .extraction) (c .before .before .before .before .before .before .before .before .before .before .pid-of .result) d) (c .before .before .before .before .before .before .before .may .given .1) (c .before .before .before .before .before .before .before .before .before .due-after .ensures) in
-    let many = lent-many _ _ l (a .out .now) at m (pre .1) (c .before .before .before .follow .ensures .0) in
-    let within = bounded (a .segment .now) (a .index) (a .tables) (a .extraction) _ _ _ may (a .out .now) (pre .0) (pre .1) m many in
-    omega (arith, within .0, within .1, c .before .before .before .before .before .before .before .before .before .before .before .before .before .before .good)
+add-last c =
+    omega (
+      arith,
+      within-both (c .before) .0,
+      within-both (c .before) .1,
+      c .before .before .before .before .before .before .before .before .before .before .before .before .before .before .good,
+    )
 
 cast-last-2 : tie.Need-cast-last-2
 cast-last-2 c = search needs
 
 add-at : tie.Need-add-at
-add-at c = let a = c .before .before .before .before .before .before .before .before .before .before .before .before .before .before .args in
-    let pre = c .before .before .before .before .before .before .before .before .before .before .before .before .before .before .pre in
-    let at = a .extraction .start + a .extraction .bytes in
-    let l = drop (a .index) (packets (a .segment .now)) in
-    let m = c .before .before .before .follow .result in
-    let may = subst (λ (d : Due). DueTurn (a .tables) (a .extraction) (c .before .before .before .before .before .before .before .before .before .before .pid-of .result) d) (c .before .before .before .before .before .before .before .may .given .1) (c .before .before .before .before .before .before .before .before .before .due-after .ensures) in
-    let many = lent-many _ _ l (a .out .now) at m (pre .1) (c .before .before .before .follow .ensures .0) in
-    let within = bounded (a .segment .now) (a .index) (a .tables) (a .extraction) _ _ _ may (a .out .now) (pre .0) (pre .1) m many in
-    omega (arith, within .0, within .1, c .before .before .before .before .before .before .before .before .before .before .before .before .before .before .good)
+add-at c =
+    omega (
+      arith,
+      within-both (c .before) .0,
+      within-both (c .before) .1,
+      c .before .before .before .before .before .before .before .before .before .before .before .before .before .before .good,
+    )
 
 sub-at : tie.Need-sub-at
 sub-at c = search needs
 
 mul-at : tie.Need-mul-at
-mul-at c = let a = c .before .before .before .before .before .before .before .before .before .before .before .before .before .before .args in
-    let pre = c .before .before .before .before .before .before .before .before .before .before .before .before .before .before .pre in
-    let at = a .extraction .start + a .extraction .bytes in
-    let l = drop (a .index) (packets (a .segment .now)) in
-    let m = c .before .before .before .follow .result in
-    let may = subst (λ (d : Due). DueTurn (a .tables) (a .extraction) (c .before .before .before .before .before .before .before .before .before .before .pid-of .result) d) (c .before .before .before .before .before .before .before .may .given .1) (c .before .before .before .before .before .before .before .before .before .due-after .ensures) in
-    let many = lent-many _ _ l (a .out .now) at m (pre .1) (c .before .before .before .follow .ensures .0) in
-    let within = bounded (a .segment .now) (a .index) (a .tables) (a .extraction) _ _ _ may (a .out .now) (pre .0) (pre .1) m many in
-    omega (arith, within .0, within .1, c .before .before .before .before .before .before .before .before .before .before .before .before .before .before .good)
+mul-at c =
+    omega (
+      arith,
+      within-both (c .before) .0,
+      within-both (c .before) .1,
+      c .before .before .before .before .before .before .before .before .before .before .before .before .before .before .good,
+    )
 
 mul-t22 : tie.Need-mul-t22
-mul-t22 c = let a = c .before .before .before .before .before .before .before .before .before .before .before .before .before .before .args in
-    let pre = c .before .before .before .before .before .before .before .before .before .before .before .before .before .before .pre in
-    let at = a .extraction .start + a .extraction .bytes in
-    let l = drop (a .index) (packets (a .segment .now)) in
-    let m = c .before .before .before .follow .result in
-    let may = subst (λ (d : Due). DueTurn (a .tables) (a .extraction) (c .before .before .before .before .before .before .before .before .before .before .pid-of .result) d) (c .before .before .before .before .before .before .before .may .given .1) (c .before .before .before .before .before .before .before .before .before .due-after .ensures) in
-    let many = lent-many _ _ l (a .out .now) at m (pre .1) (c .before .before .before .follow .ensures .0) in
-    let within = bounded (a .segment .now) (a .index) (a .tables) (a .extraction) _ _ _ may (a .out .now) (pre .0) (pre .1) m many in
-    omega (arith, within .0, within .1, c .before .before .before .before .before .before .before .before .before .before .before .before .before .before .good)
+mul-t22 c =
+    omega (
+      arith,
+      within-both (c .before) .0,
+      within-both (c .before) .1,
+      c .before .before .before .before .before .before .before .before .before .before .before .before .before .before .good,
+    )
 
 add-t23 : tie.Need-add-t23
-add-t23 c = let a = c .before .before .before .before .before .before .before .before .before .before .before .before .before .before .before .args in
-    let pre = c .before .before .before .before .before .before .before .before .before .before .before .before .before .before .before .pre in
-    let at = a .extraction .start + a .extraction .bytes in
-    let l = drop (a .index) (packets (a .segment .now)) in
-    let m = c .before .before .before .before .follow .result in
-    let may = subst (λ (d : Due). DueTurn (a .tables) (a .extraction) (c .before .before .before .before .before .before .before .before .before .before .before .pid-of .result) d) (c .before .before .before .before .before .before .before .before .may .given .1) (c .before .before .before .before .before .before .before .before .before .before .due-after .ensures) in
-    let many = lent-many _ _ l (a .out .now) at m (pre .1) (c .before .before .before .before .follow .ensures .0) in
-    let within = bounded (a .segment .now) (a .index) (a .tables) (a .extraction) _ _ _ may (a .out .now) (pre .0) (pre .1) m many in
-    omega (arith, within .0, within .1, c .before .before .before .before .before .before .before .before .before .before .before .before .before .before .before .good)
+add-t23 c =
+    omega (
+      arith,
+      within-both (c .before .before) .0,
+      within-both (c .before .before) .1,
+      c .before .before .before .before .before .before .before .before .before .before .before .before .before .before .before .good,
+    )
 
 with-last-requires : tie.Need-with-last-requires
 with-last-requires c κs = search needs
@@ -144,17 +153,22 @@ same-length-2 : tie.Need-same-length-2
 same-length-2 c = search needs
 
 returns-3 : tie.Need-returns-3
-returns-3 c = let a = c .before .before .before .before .before .before .before .before .before .before .before .before .before .before .before .before .args in
-    let pre = c .before .before .before .before .before .before .before .before .before .before .before .before .before .before .before .before .pre in
+returns-3 c =
+    let at-follow = c .before .before .before .before .before in
+    let at-may = at-follow .before .before .before .before in
+    let begin = at-may .before .before .before .before .before .before .before in
+    let a = begin .args in
+    let pre = begin .pre in
     let at = a .extraction .start + a .extraction .bytes in
     let l = drop (a .index) (packets (a .segment .now)) in
-    let m = c .before .before .before .before .before .follow .result in
-    let may = subst (λ (d : Due). DueTurn (a .tables) (a .extraction) (c .before .before .before .before .before .before .before .before .before .before .before .before .pid-of .result) d) (c .before .before .before .before .before .before .before .before .before .may .given .1) (c .before .before .before .before .before .before .before .before .before .before .before .due-after .ensures) in
-    let many = lent-many _ _ l (a .out .now) at m (pre .1) (c .before .before .before .before .before .follow .ensures .0) in (
-      λ edition lens times before st named s. went (a .segment .now) (a .index) (a .tables) (a .extraction) _ _ _ may (a .out .now) (pre .0) (pre .1)
-          m many (c .before .before .if1 .left) edition lens times before st named s _ _
-          (tail-placed at (a .out .now) (payloads m l) _ (pre .1) (c .before .before .before .before .before .follow .ensures .1)) (c .with-last .ensures),
-      bounded (a .segment .now) (a .index) (a .tables) (a .extraction) _ _ _ may (a .out .now) (pre .0) (pre .1) m many .0,
+    let m = at-follow .follow .result in
+    let may = subst (λ (d : Due). DueTurn (a .tables) (a .extraction) (at-may .before .before .before .pid-of .result) d)
+    (at-may .may .given .1) (at-may .before .before .due-after .ensures) in
+    let many = lent-many _ _ l (a .out .now) at m (pre .1) (at-follow .follow .ensures .0) in (
+      λ edition lens times before st named s. went (a .segment .now) (a .index) (a .tables) (a .extraction) _ _ _ may
+          (a .out .now) (pre .0) (pre .1) m many (c .before .before .if1 .left) edition lens times before st named s _ _
+          (tail-placed at (a .out .now) (payloads m l) _ (pre .1) (at-follow .follow .ensures .1)) (c .with-last .ensures),
+      within-both (c .before .before .before) .0,
     )
 
 pub go-on-spec : {M : Type 1} → statement M

@@ -23,7 +23,8 @@ refuse-requires c κs = search needs
 
 returns : tie.Need-returns
 returns c edition segment t us u s = (
-  ap (λ (x : Checked). checkSays (x .answer)) (c .refuse .ensures) ∙ ap (λ (q : Refused). refusedBy q) (c .before .before .before .at .ensures)
+  ap (λ (x : Checked). checkSays (x .answer)) (c .refuse .ensures)
+      ∙ ap (λ (q : Refused). refusedBy q) (c .before .before .before .at .ensures)
       ∙ without-pat s _ us _ (c .before .enum-told .given .1),
   ap (λ (x : Checked). x .map) (c .refuse .ensures) ∙ map-without-pat s _ us _ (c .before .enum-told .given .1),
 )
@@ -39,9 +40,11 @@ refuse-requires-2 c κs = search needs
 
 returns-2 : tie.Need-returns-2
 returns-2 c edition segment t us u s = (
-  ap (λ (x : Checked). checkSays (x .answer)) (c .refuse2 .ensures) ∙ ap (λ (q : Refused). refusedBy q) (c .before .before .before .before .before .before .at .ensures)
+  ap (λ (x : Checked). checkSays (x .answer)) (c .refuse2 .ensures)
+      ∙ ap (λ (q : Refused). refusedBy q) (c .before .before .before .before .before .before .at .ensures)
       ∙ without-pmt s _ us _ _ (c .before .before .before .before .pat .given .1) (c .before .enum-told3 .given .1),
-  ap (λ (x : Checked). x .map) (c .refuse2 .ensures) ∙ map-without-pmt s _ us _ _ (c .before .before .before .before .pat .given .1) (c .before .enum-told3 .given .1),
+  ap (λ (x : Checked). x .map) (c .refuse2 .ensures)
+      ∙ map-without-pmt s _ us _ _ (c .before .before .before .before .pat .given .1) (c .before .enum-told3 .given .1),
 )
 
 pid-in-requires : tie.Need-pid-in-requires
@@ -49,8 +52,10 @@ pid-in-requires c κs = search needs
 
 returns-3 : tie.Need-returns-3
 returns-3 c edition segment t us u s = (
-  with-both s _ us _ _ (c .before .before .before .before .before .before .before .pat .given .1) _ (c .before .before .before .before .enum-told2 .given .1) _ _ (c .pid-in .ensures) u,
-  map-with-both s _ us _ _ (c .before .before .before .before .before .before .before .pat .given .1) _ (c .before .before .before .before .enum-told2 .given .1),
+  with-both s _ us _ _ (c .before .before .before .before .before .before .before .pat .given .1) _
+      (c .before .before .before .before .enum-told2 .given .1) _ _ (c .pid-in .ensures) u,
+  map-with-both s _ us _ _ (c .before .before .before .before .before .before .before .pat .given .1) _
+      (c .before .before .before .before .enum-told2 .given .1),
 )
 
 pub accept-spec : {M : Type 1} → statement M

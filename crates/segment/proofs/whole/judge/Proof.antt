@@ -3,7 +3,6 @@ use borrow.Author.Needs.{needs}
 use mathlib.Core.Path.{sym, _∙_}
 use Rattle.descriptor.specs.Naming.{editionSays}
 use Rattle.segment_rules.specs.Check.{outputsOf}
-use Rattle.segment.proofs.Holding.{stands-fits}
 use Rattle.segment.proofs.Ending.{length-refused, length-refused-firsts, run-refused, run-refused-firsts, ran, all-packets}
 use Rattle.segment.proofs.Ending.{run-ended, run-ended-firsts}
 use Rattle.segment.proofs.whole.judge.Statement.{statement}
@@ -41,17 +40,7 @@ enum-told : tie.Need-enum-told
 enum-told c = search needs
 
 finish-requires : tie.Need-finish-requires
-finish-requires c κs =
-    let a = c .before .before .before .before .before .before .before .before .before .before .before .before .before .before .before
-    .before .before .before .before .before .before .before .before .before .before .before .args in
-    let before = outputsOf (a .out .now) (a .lens .now) (a .times .now) in
-    let done = c .before .before .before .before .before .before .before .before .before .before .before .before .before .before .run in
-    let now = outputsOf (done .last .1 .1 .0) (done .last .1 .1 .1 .0) (done .last .1 .1 .1 .1 .0) in
-    let right = sym (c .before .before .before .before .before .before .before .before .before .before .before .before .before .before
-    .before .before .before .before .before .before .length-wrong .ensures) ∙ c .before .before .before .before .before .before .before
-    .before .before .before .before .before .before .before .before .before .before .before .before .if1 .left in
-    stands-fits (ran _ (a .segment .now) before now right (done .result) (done .ensures .0) (c .before .before .before .before .enum-told
-    .given .1) .2 .0 .extraction)
+finish-requires c κs = search needs
 
 same-length : tie.Need-same-length
 same-length c = search needs

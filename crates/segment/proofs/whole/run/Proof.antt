@@ -1,7 +1,8 @@
 -- As many packets as the index says have passed, and the run of the rest from here is the whole run (`Running`).
 use borrow.Author.Needs.{needs}
 use native.Mathlib.Omega.{arith}
-use Prim.Native.Nat.{_+_, _-_, _/_, _<_}
+use Prim.Native.Nat.{ℕ, _+_, _-_, _*_, _/_, _≤_, _<_}
+use Rattle.lists.specs.Lists.{Bytes}
 use lib.ListN.{length}
 use mathlib.Core.Path.{refl, sym, subst, _∙_}
 use Rattle.descriptor.specs.Naming.{editionSays}
@@ -10,8 +11,8 @@ use Rattle.tables.specs.declared.state.Outcome.the-variants.{Passed}
 use Rattle.tables.specs.declared.tables.Tables.{Tables}
 use Rattle.segment.specs.declared.whole.Ran.{Ran}
 use Rattle.segment.specs.Parts.{RunTurn, RunFirsts}
-use Rattle.segment.proofs.Holding.{same-bytes, same-lens, same-times, stands-fits}
-use Rattle.segment.proofs.Firsts.{firsts-length}
+use Rattle.extraction.proofs.Holding.{same-bytes, same-lens, same-times, stands-fits}
+use Rattle.extraction.proofs.Firsts.{firsts-length}
 use Rattle.segment.proofs.Looping.{count-within, Running, begins, goes-on, stops-there, none-noted, comes-to-end, all-noted}
 use Rattle.segment.proofs.Passing.{moreNulls, moreAv1, nulls-within, turn-begins}
 use Rattle.segment.proofs.whole.run.Statement.{statement}
@@ -25,6 +26,36 @@ Inv-loop segment out₀ lens₀ times₀ firsts₀ count tables₀ extraction₀
 abbrev μ-loop : tie.MeasureT-loop
 μ-loop segment out₀ lens₀ times₀ firsts₀ count tables₀ extraction₀ totals₀ index₀ out lens times firsts tables extraction totals index =
     count - index
+
+-- where the loop is once the null packets and those that go on have passed
+reached : (c : tie.After-go-on Inv-loop μ-loop)
+    → let at-loop = c .before .before .before .before .before in
+    let a = at-loop .before .before .before .before .before .before .before .before .before .args in
+    let l = at-loop .loop in
+    let w = c .go-on in
+    Running (editionSays (at-loop .before .before .before .fresh-tables .result .edition)) (a .segment .now)
+    (outputsOf (a .out .now) (a .lens .now) (a .times .now)) (outputsOf (w .last .1 .1 .1 .1 .0) (l .lens) (l .times))
+    (a .firsts .now) (l .firsts) (w .result .tables) (w .result .extraction)
+    (moreAv1 (w .result .packets) (moreNulls (c .before .before .before .nulls .result) (l .totals)))
+    (l .index + c .before .before .before .nulls .result + w .result .packets)
+reached c =
+    let at-loop = c .before .before .before .before .before in
+    let l = at-loop .loop in
+    let w = c .go-on in
+    turn-begins (l .inv) (c .before .before .before .before .loop-test .taken) (c .before .before .before .nulls .result)
+    (c .before .before .before .nulls .ensures) (w .result) (outputsOf (w .last .1 .1 .1 .1 .0) (l .lens) (l .times))
+    (w .ensures .0 _ (l .lens) (l .times)) (w .ensures .1)
+
+-- a packet is left there, which lies within the segment
+there : (s : Bytes) (i : ℕ) → i < length s / 188 → i * 188 + 188 ≤ length s
+there s i h = omega (arith, h)
+
+one-left : (c : tie.Else1 Inv-loop μ-loop)
+    → let at-go-on = c .before .before .before .before .before .before .before .before in
+    let at-loop = at-go-on .before .before .before .before .before in
+    at-loop .loop .index + at-go-on .before .before .before .nulls .result + at-go-on .go-on .result .packets
+    < length (at-loop .before .before .before .before .before .before .before .before .before .args .segment .now) / 188
+one-left c = omega (arith, c .if1 .left)
 
 fresh-tables-requires : tie.Need-fresh-tables-requires Inv-loop μ-loop
 fresh-tables-requires c κs = search needs
@@ -46,92 +77,64 @@ nulls-requires c κs = search needs
 
 add-totals : tie.Need-add-totals Inv-loop μ-loop
 add-totals c =
-    let a = c .before .before .before .before .before .before .before .before .before .before .before .before .args in
+    let start = c .before .before .before .before .before .before .before .before .before .before .before .before in
+    let a = start .args in
     let s = a .segment .now in
     let l = c .before .before .before .loop in
-    let old = a .firsts .now in
-    let before = outputsOf (a .out .now) (a .lens .now) (a .times .now) in
-    let few = count-within s (c .before .before .before .before .before .before .before .before .before .before .before .before .pre) in
+    let few = count-within s (start .pre) in
     let n = c .before .nulls .result in
     omega (arith, l .inv .counts, few, nulls-within (l .inv) (c .before .before .loop-test .taken) n (c .before .nulls .ensures))
 
 add-index : tie.Need-add-index Inv-loop μ-loop
 add-index c =
-    let a = c .before .before .before .before .before .before .before .before .before .before .before .before .args in
+    let start = c .before .before .before .before .before .before .before .before .before .before .before .before in
+    let a = start .args in
     let s = a .segment .now in
     let l = c .before .before .before .loop in
-    let old = a .firsts .now in
-    let before = outputsOf (a .out .now) (a .lens .now) (a .times .now) in
-    let few = count-within s (c .before .before .before .before .before .before .before .before .before .before .before .before .pre) in
+    let few = count-within s (start .pre) in
     let n = c .before .nulls .result in
     omega (arith, few, nulls-within (l .inv) (c .before .before .loop-test .taken) n (c .before .nulls .ensures))
 
 go-on-requires : tie.Need-go-on-requires Inv-loop μ-loop
 go-on-requires c κs =
-    let a = c .before .before .before .before .before .before .before .before .before .before .before .before .before .args in
-    let s = a .segment .now in
     let l = c .before .before .before .before .loop in
-    let old = a .firsts .now in
-    let before = outputsOf (a .out .now) (a .lens .now) (a .times .now) in
-    let few = count-within s (c .before .before .before .before .before .before .before .before .before .before .before .before .before .pre) in
-    let n = c .before .before .nulls .result in
-    (nulls-within (l .inv) (c .before .before .before .loop-test .taken) n (c .before .before .nulls .ensures), stands-fits (l .inv .stands .extraction) .inBytes)
+    let n = c .before .before .nulls .result in (
+      nulls-within (l .inv) (c .before .before .before .loop-test .taken) n (c .before .before .nulls .ensures),
+      stands-fits (l .inv .stands .extraction) .inBytes,
+    )
 
 add-totals-2 : tie.Need-add-totals-2 Inv-loop μ-loop
 add-totals-2 c =
-    let a = c .before .before .before .before .before .before .before .before .before .before .before .before .before .before .before .before .before .before .before .before .args in
+    let at-go-on = c .before .before .before .before .before .before in
+    let at-loop = at-go-on .before .before .before .before .before in
+    let start = at-loop .before .before .before .before .before .before .before .before .before in
+    let a = start .args in
     let s = a .segment .now in
-    let l = c .before .before .before .before .before .before .before .before .before .before .before .loop in
-    let old = a .firsts .now in
-    let before = outputsOf (a .out .now) (a .lens .now) (a .times .now) in
-    let few = count-within s (c .before .before .before .before .before .before .before .before .before .before .before .before .before .before .before .before .before .before .before .before .pre) in
-    let n = c .before .before .before .before .before .before .before .before .before .nulls .result in
-    omega (arith, l .inv .counts, few, c .before .before .before .before .before .before .go-on .ensures .1)
+    let l = at-loop .loop in
+    let few = count-within s (start .pre) in
+    omega (arith, l .inv .counts, few, at-go-on .go-on .ensures .1)
 
 add-index-2 : tie.Need-add-index-2 Inv-loop μ-loop
 add-index-2 c =
-    let a = c .before .before .before .before .before .before .before .before .before .before .before .before .before .before .before .before .before .before .before .before .before .args in
+    let at-go-on = c .before .before .before .before .before .before .before in
+    let at-loop = at-go-on .before .before .before .before .before in
+    let start = at-loop .before .before .before .before .before .before .before .before .before in
+    let a = start .args in
     let s = a .segment .now in
-    let l = c .before .before .before .before .before .before .before .before .before .before .before .before .loop in
-    let old = a .firsts .now in
-    let before = outputsOf (a .out .now) (a .lens .now) (a .times .now) in
-    let few = count-within s (c .before .before .before .before .before .before .before .before .before .before .before .before .before .before .before .before .before .before .before .before .before .pre) in
-    let n = c .before .before .before .before .before .before .before .before .before .before .nulls .result in
-    omega (arith, l .inv .counts, few, c .before .before .before .before .before .before .before .go-on .ensures .1)
+    let l = at-loop .loop in
+    let few = count-within s (start .pre) in
+    omega (arith, l .inv .counts, few, at-go-on .go-on .ensures .1)
 
 loop-less : tie.Need-loop-less Inv-loop μ-loop
-loop-less c = omega (arith, c .if1 .taken, c .before .before .before .before .before .before .before .before .before .before .before .before .loop-test .taken)
+loop-less c =
+    let at-loop-test = c .before .before .before .before .before .before .before .before .before .before .before .before in
+    omega (arith, c .if1 .taken, at-loop-test .loop-test .taken)
 
 loop-again : tie.Need-loop-again Inv-loop μ-loop
-loop-again c =
-    let a = c .before .before .before .before .before .before .before .before .before .before .before .before .before .before .before .before .before .before .before .before .before .before .args in
-    let s = a .segment .now in
-    let l = c .before .before .before .before .before .before .before .before .before .before .before .before .before .loop in
-    let old = a .firsts .now in
-    let before = outputsOf (a .out .now) (a .lens .now) (a .times .now) in
-    let few = count-within s (c .before .before .before .before .before .before .before .before .before .before .before .before .before .before .before .before .before .before .before .before .before .before .pre) in
-    let n = c .before .before .before .before .before .before .before .before .before .before .before .nulls .result in
-    let w = c .before .before .before .before .before .before .before .before .go-on in
-    let now = outputsOf (w .last .1 .1 .1 .1 .0) (l .lens) (l .times) in
-    let on = turn-begins (l .inv) (c .before .before .before .before .before .before .before .before .before .before .before .before .loop-test .taken) n (c .before .before .before .before .before .before .before .before .before .before .before .nulls .ensures) (w .result) now
-    (w .ensures .0 _ (l .lens) (l .times)) (w .ensures .1) in
-    on
+loop-again c = reached (c .before .before .before .before .before .before .before .before)
 
 step-requires : tie.Need-step-requires Inv-loop μ-loop
-step-requires c κs =
-    let a = c .before .before .before .before .before .before .before .before .before .before .before .before .before .before .before .before .before .before .before .before .before .before .before .before .before .args in
-    let s = a .segment .now in
-    let l = c .before .before .before .before .before .before .before .before .before .before .before .before .before .before .before .before .loop in
-    let old = a .firsts .now in
-    let before = outputsOf (a .out .now) (a .lens .now) (a .times .now) in
-    let few = count-within s (c .before .before .before .before .before .before .before .before .before .before .before .before .before .before .before .before .before .before .before .before .before .before .before .before .before .pre) in
-    let n = c .before .before .before .before .before .before .before .before .before .before .before .before .before .before .nulls .result in
-    let w = c .before .before .before .before .before .before .before .before .before .before .before .go-on in
-    let now = outputsOf (w .last .1 .1 .1 .1 .0) (l .lens) (l .times) in
-    let on = turn-begins (l .inv) (c .before .before .before .before .before .before .before .before .before .before .before .before .before .before .before .loop-test .taken) n (c .before .before .before .before .before .before .before .before .before .before .before .before .before .before .nulls .ensures) (w .result) now
-    (w .ensures .0 _ (l .lens) (l .times)) (w .ensures .1) in
-    let h : l .index + n + w .result .packets < length s / 188 = omega (arith, c .before .before .before .if1 .left) in
-    (omega (arith, h), stands-fits (on .stands .extraction))
+step-requires c κs = search needs
 
 enum-told : tie.Need-enum-told Inv-loop μ-loop
 enum-told c = search needs
@@ -141,81 +144,65 @@ enum-told-2 c = search needs
 
 same-length : tie.Need-same-length Inv-loop μ-loop
 same-length c =
-    let a = c .before .before .before .before .before .before .before .before .before .before .before .before .before .before .before .before .before .before .before .before .before .before .before .before .before .before .before .before .before .before .before .before .before .before .args in
-    let s = a .segment .now in
-    let l = c .before .before .before .before .before .before .before .before .before .before .before .before .before .before .before .before .before .before .before .before .before .before .before .before .before .loop in
-    let old = a .firsts .now in
-    let before = outputsOf (a .out .now) (a .lens .now) (a .times .now) in
-    let few = count-within s (c .before .before .before .before .before .before .before .before .before .before .before .before .before .before .before .before .before .before .before .before .before .before .before .before .before .before .before .before .before .before .before .before .before .before .pre) in
-    let n = c .before .before .before .before .before .before .before .before .before .before .before .before .before .before .before .before .before .before .before .before .before .before .before .nulls .result in
-    let w = c .before .before .before .before .before .before .before .before .before .before .before .before .before .before .before .before .before .before .before .before .go-on in
-    let now = outputsOf (w .last .1 .1 .1 .1 .0) (l .lens) (l .times) in
-    let on = turn-begins (l .inv) (c .before .before .before .before .before .before .before .before .before .before .before .before .before .before .before .before .before .before .before .before .before .before .before .before .loop-test .taken) n (c .before .before .before .before .before .before .before .before .before .before .before .before .before .before .before .before .before .before .before .before .before .before .before .nulls .ensures) (w .result) now
-    (w .ensures .0 _ (l .lens) (l .times)) (w .ensures .1) in
-    c .before .before .before .before .before .before .before .before .step .kept .1 .1 .1 .1 .0 ∙ same-bytes (on .stands .extraction)
+    let at-step = c .before .before .before .before .before .before .before .before in
+    let at-go-on = at-step .before .before .before .before .before .before .before .before .before .before .before .before in
+    at-step .step .kept .1 .1 .1 .1 .0 ∙ same-bytes (reached at-go-on .stands .extraction)
 
 same-length-2 : tie.Need-same-length-2 Inv-loop μ-loop
 same-length-2 c =
-    let a = c .before .before .before .before .before .before .before .before .before .before .before .before .before .before .before .before .before .before .before .before .before .before .before .before .before .before .before .before .before .before .before .before .before .before .args in
-    let s = a .segment .now in
-    let l = c .before .before .before .before .before .before .before .before .before .before .before .before .before .before .before .before .before .before .before .before .before .before .before .before .before .loop in
-    let old = a .firsts .now in
-    let before = outputsOf (a .out .now) (a .lens .now) (a .times .now) in
-    let few = count-within s (c .before .before .before .before .before .before .before .before .before .before .before .before .before .before .before .before .before .before .before .before .before .before .before .before .before .before .before .before .before .before .before .before .before .before .pre) in
-    let n = c .before .before .before .before .before .before .before .before .before .before .before .before .before .before .before .before .before .before .before .before .before .before .before .nulls .result in
-    let w = c .before .before .before .before .before .before .before .before .before .before .before .before .before .before .before .before .before .before .before .before .go-on in
-    let now = outputsOf (w .last .1 .1 .1 .1 .0) (l .lens) (l .times) in
-    let on = turn-begins (l .inv) (c .before .before .before .before .before .before .before .before .before .before .before .before .before .before .before .before .before .before .before .before .before .before .before .before .loop-test .taken) n (c .before .before .before .before .before .before .before .before .before .before .before .before .before .before .before .before .before .before .before .before .before .before .before .nulls .ensures) (w .result) now
-    (w .ensures .0 _ (l .lens) (l .times)) (w .ensures .1) in
-    c .before .before .before .before .before .before .before .before .step .kept .1 .1 .1 .1 .1 .0 ∙ same-lens (on .stands .extraction)
+    let at-step = c .before .before .before .before .before .before .before .before in
+    let at-go-on = at-step .before .before .before .before .before .before .before .before .before .before .before .before in
+    at-step .step .kept .1 .1 .1 .1 .1 .0 ∙ same-lens (reached at-go-on .stands .extraction)
 
 same-length-3 : tie.Need-same-length-3 Inv-loop μ-loop
 same-length-3 c =
-    let a = c .before .before .before .before .before .before .before .before .before .before .before .before .before .before .before .before .before .before .before .before .before .before .before .before .before .before .before .before .before .before .before .before .before .before .args in
-    let s = a .segment .now in
-    let l = c .before .before .before .before .before .before .before .before .before .before .before .before .before .before .before .before .before .before .before .before .before .before .before .before .before .loop in
-    let old = a .firsts .now in
-    let before = outputsOf (a .out .now) (a .lens .now) (a .times .now) in
-    let few = count-within s (c .before .before .before .before .before .before .before .before .before .before .before .before .before .before .before .before .before .before .before .before .before .before .before .before .before .before .before .before .before .before .before .before .before .before .pre) in
-    let n = c .before .before .before .before .before .before .before .before .before .before .before .before .before .before .before .before .before .before .before .before .before .before .before .nulls .result in
-    let w = c .before .before .before .before .before .before .before .before .before .before .before .before .before .before .before .before .before .before .before .before .go-on in
-    let now = outputsOf (w .last .1 .1 .1 .1 .0) (l .lens) (l .times) in
-    let on = turn-begins (l .inv) (c .before .before .before .before .before .before .before .before .before .before .before .before .before .before .before .before .before .before .before .before .before .before .before .before .loop-test .taken) n (c .before .before .before .before .before .before .before .before .before .before .before .before .before .before .before .before .before .before .before .before .before .before .before .nulls .ensures) (w .result) now
-    (w .ensures .0 _ (l .lens) (l .times)) (w .ensures .1) in
-    c .before .before .before .before .before .before .before .before .step .kept .1 .1 .1 .1 .1 .1 .0 ∙ same-times (on .stands .extraction)
+    let at-step = c .before .before .before .before .before .before .before .before in
+    let at-go-on = at-step .before .before .before .before .before .before .before .before .before .before .before .before in
+    at-step .step .kept .1 .1 .1 .1 .1 .1 .0 ∙ same-times (reached at-go-on .stands .extraction)
 
 same-length-4 : tie.Need-same-length-4 Inv-loop μ-loop
 same-length-4 c =
-    let a = c .before .before .before .before .before .before .before .before .before .before .before .before .before .before .before .before .before .before .before .before .before .before .before .before .before .before .before .before .before .before .before .before .before .before .args in
-    let l = c .before .before .before .before .before .before .before .before .before .before .before .before .before .before .before .before .before .before .before .before .before .before .before .before .before .loop in
+    let later = c .before .before .before .before .before .before .before .before .before in
+    let earlier = later .before .before .before .before .before .before .before .before .before in
+    let at-loop = earlier .before .before .before .before .before .before .before in
+    let start = at-loop .before .before .before .before .before .before .before .before .before in
+    let a = start .args in
+    let l = at-loop .loop in
     firsts-length (a .firsts .now) (l .firsts) (l .inv .state .extraction .units) (l .inv .noted)
 
 returns : tie.Need-returns Inv-loop μ-loop
 returns c =
-    let a = c .before .before .before .before .before .before .before .before .before .before .before .before .before .before .before .before .before .before .before .before .before .before .before .before .before .before .before .before .before .before .before .before .before .before .args in
+    let at-step = c .before .before .before .before .before .before .before .before in
+    let at-if1 = at-step .before .before .before .before in
+    let at-go-on = at-if1 .before .before .before .before .before .before .before .before in
+    let at-loop = at-go-on .before .before .before .before .before in
+    let at-fresh-tables = at-loop .before .before .before in
+    let a = at-fresh-tables .before .before .before .before .before .before .args in
     let s = a .segment .now in
-    let l = c .before .before .before .before .before .before .before .before .before .before .before .before .before .before .before .before .before .before .before .before .before .before .before .before .before .loop in
+    let l = at-loop .loop in
     let old = a .firsts .now in
     let before = outputsOf (a .out .now) (a .lens .now) (a .times .now) in
-    let few = count-within s (c .before .before .before .before .before .before .before .before .before .before .before .before .before .before .before .before .before .before .before .before .before .before .before .before .before .before .before .before .before .before .before .before .before .before .pre) in
-    let n = c .before .before .before .before .before .before .before .before .before .before .before .before .before .before .before .before .before .before .before .before .before .before .before .nulls .result in
-    let w = c .before .before .before .before .before .before .before .before .before .before .before .before .before .before .before .before .before .before .before .before .go-on in
+    let n = at-go-on .before .before .before .nulls .result in
+    let w = at-go-on .go-on in
     let now = outputsOf (w .last .1 .1 .1 .1 .0) (l .lens) (l .times) in
-    let on = turn-begins (l .inv) (c .before .before .before .before .before .before .before .before .before .before .before .before .before .before .before .before .before .before .before .before .before .before .before .before .loop-test .taken) n (c .before .before .before .before .before .before .before .before .before .before .before .before .before .before .before .before .before .before .before .before .before .before .before .nulls .ensures) (w .result) now
-    (w .ensures .0 _ (l .lens) (l .times)) (w .ensures .1) in
-    let h : l .index + n + w .result .packets < length s / 188 = omega (arith, c .before .before .before .before .before .before .before .before .before .before .before .before .if1 .left) in
-    let done = c .before .before .before .before .before .before .before .before .step in
+    let totals = moreAv1 (w .result .packets) (moreNulls n (l .totals)) in
+    let index = l .index + n + w .result .packets in
+    let h = one-left at-if1 in
+    let done = at-step .step in
     let last = outputsOf (done .last .1 .1 .1 .1 .0) (done .last .1 .1 .1 .1 .1 .0) (done .last .1 .1 .1 .1 .1 .1 .0) in
+    let turn = done .ensures .0 (there s index h) (editionSays (at-fresh-tables .fresh-tables .result .edition)) in
     let ran : Ran = record {
       tables = w .result .tables;
       extraction = w .result .extraction;
-      totals = moreAv1 (w .result .packets) (moreNulls n (l .totals));
+      totals = totals;
       outcome = done .result .outcome;
     } in
     subst (λ (x : Tables). RunTurn (editionSays (x .edition)) s before ran last
-    × RunFirsts (editionSays (x .edition)) s (roomsOf before) old (l .firsts)) (c .before .before .before .before .before .before .before .before .before .before .before .before .before .before .before .before .before .before .before .before .before .before .before .before .before .before .before .before .fresh-tables .ensures) (
-      stops-there _ s before now old (l .firsts) (w .result .tables) (w .result .extraction) (moreAv1 (w .result .packets) (moreNulls n (l .totals))) (l .index + n + w .result .packets) on h (done .result) last (done .ensures _) _ (c .enum-told2 .given .1) ran last refl,
-      none-noted _ s before now old (l .firsts) (w .result .tables) (w .result .extraction) (moreAv1 (w .result .packets) (moreNulls n (l .totals))) (l .index + n + w .result .packets) on h (done .result) last (done .ensures _) _ (c .enum-told2 .given .1) (l .firsts),
+    × RunFirsts (editionSays (x .edition)) s (roomsOf before) old (l .firsts)) (at-fresh-tables .fresh-tables .ensures) (
+      stops-there _ s before now old (l .firsts) (w .result .tables) (w .result .extraction) totals index (reached at-go-on) h
+          (done .result) last turn _ (c .enum-told2 .given .1) ran last refl,
+      none-noted _ s before now old (l .firsts) (w .result .tables) (w .result .extraction) totals index (reached at-go-on) h
+          (done .result) last turn _ (c .enum-told2 .given .1) (l .firsts),
     )
 
 note-first-requires : tie.Need-note-first-requires Inv-loop μ-loop
@@ -223,57 +210,49 @@ note-first-requires c κs = search needs
 
 count-packet-requires : tie.Need-count-packet-requires Inv-loop μ-loop
 count-packet-requires c κs =
-    let a = c .before .before .before .before .before .before .before .before .before .before .before .before .before .before .before .before .before .before .before .before .before .before .before .before .before .before .before .before .before .before .before .before .before .before .before .before .before .before .before .before .args in
-    let s = a .segment .now in
-    let l = c .before .before .before .before .before .before .before .before .before .before .before .before .before .before .before .before .before .before .before .before .before .before .before .before .before .before .before .before .before .before .before .loop in
-    let old = a .firsts .now in
-    let before = outputsOf (a .out .now) (a .lens .now) (a .times .now) in
-    let few = count-within s (c .before .before .before .before .before .before .before .before .before .before .before .before .before .before .before .before .before .before .before .before .before .before .before .before .before .before .before .before .before .before .before .before .before .before .before .before .before .before .before .before .pre) in
-    let n = c .before .before .before .before .before .before .before .before .before .before .before .before .before .before .before .before .before .before .before .before .before .before .before .before .before .before .before .before .before .nulls .result in
-    let w = c .before .before .before .before .before .before .before .before .before .before .before .before .before .before .before .before .before .before .before .before .before .before .before .before .before .before .go-on in
-    let now = outputsOf (w .last .1 .1 .1 .1 .0) (l .lens) (l .times) in
-    let on = turn-begins (l .inv) (c .before .before .before .before .before .before .before .before .before .before .before .before .before .before .before .before .before .before .before .before .before .before .before .before .before .before .before .before .before .before .loop-test .taken) n (c .before .before .before .before .before .before .before .before .before .before .before .before .before .before .before .before .before .before .before .before .before .before .before .before .before .before .before .before .before .nulls .ensures) (w .result) now
-    (w .ensures .0 _ (l .lens) (l .times)) (w .ensures .1) in
-    let h : l .index + n + w .result .packets < length s / 188 = omega (arith, c .before .before .before .before .before .before .before .before .before .before .before .before .before .before .before .before .before .before .if1 .left) in
-    omega (arith, on .counts, h, few)
+    let later = c .before .before .before .before .before .before .before .before .before in
+    let at-if1 = later .before .before .before .before .before .before .before .before .before in
+    let at-go-on = at-if1 .before .before .before .before .before .before .before .before in
+    let start = at-go-on .before .before .before .before .before .before .before .before .before .before .before .before .before .before in
+    omega (arith, reached at-go-on .counts, one-left at-if1, count-within (start .args .segment .now) (start .pre))
 
 add-index-3 : tie.Need-add-index-3 Inv-loop μ-loop
 add-index-3 c =
-    let a = c .before .before .before .before .before .before .before .before .before .before .before .before .before .before .before .before .before .before .before .before .before .before .before .before .before .before .before .before .before .before .before .before .before .before .before .before .before .before .before .before .before .args in
-    let s = a .segment .now in
-    let l = c .before .before .before .before .before .before .before .before .before .before .before .before .before .before .before .before .before .before .before .before .before .before .before .before .before .before .before .before .before .before .before .before .loop in
-    let old = a .firsts .now in
-    let before = outputsOf (a .out .now) (a .lens .now) (a .times .now) in
-    let few = count-within s (c .before .before .before .before .before .before .before .before .before .before .before .before .before .before .before .before .before .before .before .before .before .before .before .before .before .before .before .before .before .before .before .before .before .before .before .before .before .before .before .before .before .pre) in
-    let n = c .before .before .before .before .before .before .before .before .before .before .before .before .before .before .before .before .before .before .before .before .before .before .before .before .before .before .before .before .before .before .nulls .result in
-    let w = c .before .before .before .before .before .before .before .before .before .before .before .before .before .before .before .before .before .before .before .before .before .before .before .before .before .before .before .go-on in
-    let now = outputsOf (w .last .1 .1 .1 .1 .0) (l .lens) (l .times) in
-    let on = turn-begins (l .inv) (c .before .before .before .before .before .before .before .before .before .before .before .before .before .before .before .before .before .before .before .before .before .before .before .before .before .before .before .before .before .before .before .loop-test .taken) n (c .before .before .before .before .before .before .before .before .before .before .before .before .before .before .before .before .before .before .before .before .before .before .before .before .before .before .before .before .before .before .nulls .ensures) (w .result) now
-    (w .ensures .0 _ (l .lens) (l .times)) (w .ensures .1) in
-    let h : l .index + n + w .result .packets < length s / 188 = omega (arith, c .before .before .before .before .before .before .before .before .before .before .before .before .before .before .before .before .before .before .before .if1 .left) in
-    omega (arith, h, few)
+    let later = c .before .before .before .before .before .before .before .before .before in
+    let at-if1 = later .before .before .before .before .before .before .before .before .before .before in
+    let at-go-on = at-if1 .before .before .before .before .before .before .before .before in
+    let start = at-go-on .before .before .before .before .before .before .before .before .before .before .before .before .before .before in
+    omega (arith, one-left at-if1, count-within (start .args .segment .now) (start .pre))
 
 loop-less-2 : tie.Need-loop-less-2 Inv-loop μ-loop
-loop-less-2 c = omega (arith, c .before .before .before .before .before .before .before .before .before .before .before .before .before .before .before .before .before .before .before .if1 .left, c .before .before .before .before .before .before .before .before .before .before .before .before .before .before .before .before .before .before .before .before .before .before .before .before .before .before .before .before .before .before .before .loop-test .taken)
+loop-less-2 c =
+    let later = c .before .before .before .before .before .before .before .before .before in
+    let at-if1 = later .before .before .before .before .before .before .before .before .before .before in
+    let at-loop-test = at-if1 .before .before .before .before .before .before .before .before .before .before .before .before in
+    omega (arith, at-if1 .if1 .left, at-loop-test .loop-test .taken)
 
 loop-again-2 : tie.Need-loop-again-2 Inv-loop μ-loop
 loop-again-2 c =
-    let a = c .before .before .before .before .before .before .before .before .before .before .before .before .before .before .before .before .before .before .before .before .before .before .before .before .before .before .before .before .before .before .before .before .before .before .before .before .before .before .before .before .before .args in
+    let at-enum-told = c .before .before .before .before .before .before .before in
+    let at-step = at-enum-told .before .before .before .before .before .before .before .before in
+    let at-if1 = at-step .before .before .before .before in
+    let at-go-on = at-if1 .before .before .before .before .before .before .before .before in
+    let at-loop = at-go-on .before .before .before .before .before in
+    let a = at-loop .before .before .before .before .before .before .before .before .before .args in
     let s = a .segment .now in
-    let l = c .before .before .before .before .before .before .before .before .before .before .before .before .before .before .before .before .before .before .before .before .before .before .before .before .before .before .before .before .before .before .before .before .loop in
-    let old = a .firsts .now in
+    let l = at-loop .loop in
     let before = outputsOf (a .out .now) (a .lens .now) (a .times .now) in
-    let few = count-within s (c .before .before .before .before .before .before .before .before .before .before .before .before .before .before .before .before .before .before .before .before .before .before .before .before .before .before .before .before .before .before .before .before .before .before .before .before .before .before .before .before .before .pre) in
-    let n = c .before .before .before .before .before .before .before .before .before .before .before .before .before .before .before .before .before .before .before .before .before .before .before .before .before .before .before .before .before .before .nulls .result in
-    let w = c .before .before .before .before .before .before .before .before .before .before .before .before .before .before .before .before .before .before .before .before .before .before .before .before .before .before .before .go-on in
+    let w = at-go-on .go-on in
     let now = outputsOf (w .last .1 .1 .1 .1 .0) (l .lens) (l .times) in
-    let on = turn-begins (l .inv) (c .before .before .before .before .before .before .before .before .before .before .before .before .before .before .before .before .before .before .before .before .before .before .before .before .before .before .before .before .before .before .before .loop-test .taken) n (c .before .before .before .before .before .before .before .before .before .before .before .before .before .before .before .before .before .before .before .before .before .before .before .before .before .before .before .before .before .before .nulls .ensures) (w .result) now
-    (w .ensures .0 _ (l .lens) (l .times)) (w .ensures .1) in
-    let h : l .index + n + w .result .packets < length s / 188 = omega (arith, c .before .before .before .before .before .before .before .before .before .before .before .before .before .before .before .before .before .before .before .if1 .left) in
-    let done = c .before .before .before .before .before .before .before .before .before .before .before .before .before .before .before .step in
-    goes-on _ s before now old (l .firsts) (w .result .tables) (w .result .extraction) (moreAv1 (w .result .packets) (moreNulls n (l .totals))) (l .index + n + w .result .packets) on h (done .result)
-    (outputsOf (done .last .1 .1 .1 .1 .0) (done .last .1 .1 .1 .1 .1 .0) (done .last .1 .1 .1 .1 .1 .1 .0)) (done .ensures _)
-    (c .before .before .before .before .before .before .before .enum-told .given .1) _ (c .count-packet .ensures) _ (c .before .before .before .before .note-first .ensures)
+    let n = at-go-on .before .before .before .nulls .result in
+    let index = l .index + n + w .result .packets in
+    let h = one-left at-if1 in
+    let done = at-step .step in
+    goes-on _ s before now (a .firsts .now) (l .firsts) (w .result .tables) (w .result .extraction)
+    (moreAv1 (w .result .packets) (moreNulls n (l .totals))) index (reached at-go-on) h (done .result)
+    (outputsOf (done .last .1 .1 .1 .1 .0) (done .last .1 .1 .1 .1 .1 .0) (done .last .1 .1 .1 .1 .1 .1 .0))
+    (done .ensures .0 (there s index h) _) (at-enum-told .enum-told .given .1) _ (c .count-packet .ensures) _
+    (c .before .before .before .before .note-first .ensures)
 
 all-passed-requires : tie.Need-all-passed-requires Inv-loop μ-loop
 all-passed-requires c κs = search needs
@@ -289,13 +268,16 @@ same-length-7 c = same-times (c .before .before .loop .inv .stands .extraction)
 
 same-length-8 : tie.Need-same-length-8 Inv-loop μ-loop
 same-length-8 c =
-    let a = c .before .before .before .before .before .before .before .before .before .before .before .args in
+    let start = c .before .before .before .before .before .before .before .before .before .before .before in
+    let a = start .args in
     let l = c .before .before .loop in
     firsts-length (a .firsts .now) (l .firsts) (l .inv .state .extraction .units) (l .inv .noted)
 
 returns-2 : tie.Need-returns-2 Inv-loop μ-loop
 returns-2 c =
-    let a = c .before .before .before .before .before .before .before .before .before .before .before .args in
+    let at-fresh-tables = c .before .before .before .before .before in
+    let start = at-fresh-tables .before .before .before .before .before .before in
+    let a = start .args in
     let s = a .segment .now in
     let l = c .before .before .loop in
     let old = a .firsts .now in
@@ -306,7 +288,7 @@ returns-2 c =
     × RunFirsts (editionSays (a .edition)) s (roomsOf before) old (l .firsts)) (sym (c .all-passed .ensures))
     (subst (λ (x : Tables). RunTurn (editionSays (x .edition)) s before
     (record { tables = l .tables; extraction = l .extraction; totals = l .totals; outcome = Passed }) last
-    × RunFirsts (editionSays (x .edition)) s (roomsOf before) old (l .firsts)) (c .before .before .before .before .before .fresh-tables .ensures) (
+    × RunFirsts (editionSays (x .edition)) s (roomsOf before) old (l .firsts)) (at-fresh-tables .fresh-tables .ensures) (
       comes-to-end _ s before last old (l .firsts) (l .tables) (l .extraction) (l .totals) (l .index) (l .inv) left,
       all-noted _ s before last old (l .firsts) (l .tables) (l .extraction) (l .totals) (l .index) (l .inv) left,
     ))

@@ -80,11 +80,12 @@ add-size-2 c =
 returns : tie.Need-returns
 unfolding leaves
 returns c =
-    let a = c .before .before .before .before .before .before .before .args in (
-      sheet-short (a .map) (a .count) (a .firsts .now) (a .lens .now) (a .times .now) (a .bytes .now) _ (c .before .count-obus .ensures)
-          (length (a .sheet .now)) (c .if1 .taken),
-      refl,
-    )
+    let a = c .before .before .before .before .before .before .before .args in
+    record {
+      answers = sheet-short (a .map) (a .count) (a .firsts .now) (a .lens .now) (a .times .now) (a .bytes .now) _ (c .before .count-obus .ensures)
+          (length (a .sheet .now)) (c .if1 .taken);
+      written = refl;
+    }
 
 put-number-requires : tie.Need-put-number-requires
 put-number-requires c κs = omega arith
@@ -137,17 +138,18 @@ returns-2 c =
     let e = c .before .before .before .before .before .before .before .before .before .before .before .before .before .before .before
     .before .before .before .before .before .before .before .before .before .before .before .count-obus .ensures in
     let room = c .before .before .before .before .before .before .before .before .before .before .before .before .before .before .before
-    .before .before .before .before .before .before .before .before .before .before .if1 .left in (
-      sheet-fits (a .map) (a .count) (a .firsts .now) (a .lens .now) (a .times .now) (a .bytes .now) _ e (a .sheet .now) room,
-      sheet-put (a .map) (a .count) (a .firsts .now) (a .lens .now) (a .times .now) (a .bytes .now) _ e (a .sheet .now) room _ _ _ _ _ _
+    .before .before .before .before .before .before .before .before .before .before .if1 .left in
+    record {
+      answers = sheet-fits (a .map) (a .count) (a .firsts .now) (a .lens .now) (a .times .now) (a .bytes .now) _ e (a .sheet .now) room;
+      written = sheet-put (a .map) (a .count) (a .firsts .now) (a .lens .now) (a .times .now) (a .bytes .now) _ e (a .sheet .now) room _ _ _ _ _ _
           (c .before .before .before .before .before .before .before .before .before .before .before .before .before .before .before
           .before .before .before .before .before .before .before .put-number .ensures)
           (c .before .before .before .before .before .before .before .before .before .before .before .before .before .before .before
           .before .before .before .put-streams .ensures) (c .before .before .before .before .before .before .before .before .before
           .before .before .before .before .before .put-number2 .ensures) (c .before .before .before .before .before .before .before
           .before .before .before .put-units .ensures) (c .before .before .before .before .before .before .put-number3 .ensures) (c
-          .before .before .put-obus .ensures),
-    )
+          .before .before .put-obus .ensures);
+    }
 
 pub put-sheet-spec : {M : Type 1} → statement M
 put-sheet-spec =

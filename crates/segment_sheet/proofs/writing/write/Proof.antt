@@ -48,10 +48,12 @@ returns c =
     .before .before .before .before .before .args in
     let done = c .before .before .before .before .before .before .before .before .before .before .check in
     let before = outputsOf (a .out .now) (a .lens .now) (a .times .now) in
-    let told = sym (ap checkSays (c .before .answer .given .1)) ∙ done .ensures .0 in (
-      refused-writes _ (a .edition) (roomsOf before) (a .segment .now) _ told,
-      (done .ensures .1 .1 .0, refused-stays _ _ (a .sheet .now) told),
-    )
+    let told = sym (ap checkSays (c .before .answer .given .1)) ∙ done .ensures .0 in
+    record {
+      answers = refused-writes _ (a .edition) (roomsOf before) (a .segment .now) _ told;
+      outputs = done .ensures .1 .1 .0;
+      written = refused-stays _ _ (a .sheet .now) told;
+    }
 
 same-length-4 : tie.Need-same-length-4
 same-length-4 c = search needs
@@ -74,15 +76,14 @@ returns-2 c =
     let before = outputsOf (a .out .now) (a .lens .now) (a .times .now) in
     let told = sym (ap checkSays (c .before .before .before .before .before .before .before .before .before .before .answer2 .given .1))
     ∙ done .ensures .0 in
-    let put = c .before .before .put-sheet .ensures in (
-      accepted-writes (a .edition) (a .segment .now) before _ (search needs) _ _ _ _ told (done .ensures .1 .0) (done .ensures .1 .1 .0)
-          (done .ensures .1 .1 .1) _ _ (put .0),
-      (
-        done .ensures .1 .1 .0,
-        accepted-leaves (a .edition) (a .segment .now) before _ (search needs) _ _ _ _ told (done .ensures .1 .0)
-            (done .ensures .1 .1 .0) (done .ensures .1 .1 .1) _ (a .sheet .now) _ (put .0) (put .1),
-      ),
-    )
+    let put = c .before .before .put-sheet .ensures in
+    record {
+      answers = accepted-writes (a .edition) (a .segment .now) before _ (search needs) _ _ _ _ told (done .ensures .1 .0)
+          (done .ensures .1 .1 .0) (done .ensures .1 .1 .1) _ _ (put .answers);
+      outputs = done .ensures .1 .1 .0;
+      written = accepted-leaves (a .edition) (a .segment .now) before _ (search needs) _ _ _ _ told (done .ensures .1 .0)
+          (done .ensures .1 .1 .0) (done .ensures .1 .1 .1) _ (a .sheet .now) _ (put .answers) (put .written);
+    }
 
 pub write-spec : {M : Type 1} → statement M
 write-spec =

@@ -22,7 +22,7 @@ returns : tie.Need-returns
 unfolding leaves
 returns c =
     let told = ap checkedSays (sym (c .enum-told .given .1)) ∙ c .before .before .check .ensures in
-    (read-refused _ told _ _ _, (refl, (refl, refl)))
+    (read-refused _ told _ _ _, record { streams = refl; units = refl; obus = refl })
 
 outputs-short-requires : tie.Need-outputs-short-requires
 outputs-short-requires c κs =
@@ -36,7 +36,7 @@ returns-2 c =
     let at = c in
     let told = at .before .before .before in
     let told = ap checkedSays (sym (told .checked .given .1)) ∙ told .before .before .check .ensures in
-    (no-room _ _ told _ _ _ (sym (at .before .outputs-short .ensures) ∙ at .if1 .taken), (refl, (refl, refl)))
+    (no-room _ _ told _ _ _ (sym (at .before .outputs-short .ensures) ∙ at .if1 .taken), record { streams = refl; units = refl; obus = refl })
 
 mul-copy-numbers : tie.Need-mul-copy-numbers
 mul-copy-numbers c =
@@ -113,13 +113,11 @@ returns-3 c =
     let told = ap checkedSays (sym (told .checked .given .1)) ∙ told .before .before .check .ensures in
     let fit = sym (at .before .outputs-short .ensures) ∙ at .if1 .left in (
       all-read _ _ told _ _ _ fit,
-      (
-        streams-copied _ _ told _ (c12 .copy-numbers .ensures),
-        (
-          units-copied _ _ told _ (c7 .copy-numbers2 .ensures),
-          obus-copied _ _ told _ (c2 .copy-numbers3 .ensures),
-        ),
-      ),
+      record {
+        streams = streams-copied _ _ told _ (c12 .copy-numbers .ensures);
+        units = units-copied _ _ told _ (c7 .copy-numbers2 .ensures);
+        obus = obus-copied _ _ told _ (c2 .copy-numbers3 .ensures);
+      },
     )
 
 pub read-spec : {M : Type 1} → statement M

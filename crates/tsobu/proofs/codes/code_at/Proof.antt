@@ -44,7 +44,9 @@ shared-slice-read-result c = search needs
 
 returns-4 : tie.Need-returns-4
 returns-4 c =
-    sym (code-at (c .before .before .before .before .before .before .args .s .now) (c .before .before .before .before .before .before .args .i) (omega arith) ∙ code3-rest _ _ (getD (c .before .before .before .before .before .before .args .s .now) (c .before .before .before .before .before .before .args .i + 2) 0) (c .before .before .before .if2 .left) (c .before .if3 .left))
+    let s = c .before .before .before .before .before .before .args .s .now in
+    let i = c .before .before .before .before .before .before .args .i in
+    sym (code-at s i (omega arith) ∙ code3-rest _ _ (getD s (i + 2) 0) (c .before .before .before .if2 .left) (c .before .if3 .left))
 
 pub code-at-spec : {M : Type 1} → statement M
 code-at-spec =

@@ -1,3 +1,4 @@
+-- A block without two bytes after it counts as one with a start code (`coded-short`); of another the places are counted.
 use native.Mathlib.Omega.{arith}
 use Prim.Native.Nat.{ℕ}
 use mathlib.Core.Path.{sym, ap, _∙_}

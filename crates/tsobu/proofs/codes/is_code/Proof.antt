@@ -1,4 +1,4 @@
--- The tests of the definition, one after the other.
+-- A byte that fails makes the definition's conjunction false, whatever comes after it; the last byte decides.
 use borrow.Author.Tests.{ne-eqb, eq-eqb}
 use Rattle.tsobu.proofs.codes.is_code.Statement.{statement}
 use Rattle.tsobu.proofs.codes.is_code.Tie as tie

@@ -1,4 +1,4 @@
--- The bytes from i on, which `is_code` tests.
+-- The string from i on begins with the three bytes read (`code-at`), and `is_code` makes the definition's test of them.
 use borrow.Author.Needs.{needs}
 use mathlib.Core.Path.{sym, _∙_}
 use Rattle.tsobu.proofs.Places.{code-at}
@@ -25,9 +25,8 @@ is-code-requires c κs = search needs
 
 returns : tie.Need-returns
 returns c =
-    c .is-code .ensures ∙ sym
-    (code-at (c .before .before .before .before .before .args .s .now) (c .before .before .before .before .before .args .i)
-    (c .before .before .before .before .before .pre))
+    let start = c .before .before .before .before .before in
+    c .is-code .ensures ∙ sym (code-at (start .args .s .now) (start .args .i) (start .pre))
 
 pub is-code-at-spec : {M : Type 1} → statement M
 is-code-at-spec =

@@ -32,8 +32,9 @@ loop-less c = omega arith
 loop-again : tie.Need-loop-again Inv-loop μ-loop
 loop-again c =
     let start = c .before .before .before .before .before in
+    let e = sym (c .before .code-at .ensures) ∙ c .if1 .taken in
     omega
-    (arith, index-code (start .args .at) (c .before .before .before .loop .i) (start .args .unit .now) (omega arith) (omega arith) (sym (c .before .code-at .ensures) ∙ c .if1 .taken))
+    (arith, index-code (start .args .at) (c .before .before .before .loop .i) (start .args .unit .now) (omega arith) (omega arith) e)
 
 loop-less-2 : tie.Need-loop-less-2 Inv-loop μ-loop
 loop-less-2 c = omega arith
@@ -41,7 +42,8 @@ loop-less-2 c = omega arith
 loop-again-2 : tie.Need-loop-again-2 Inv-loop μ-loop
 loop-again-2 c =
     let start = c .before .before .before .before .before in
-    omega (arith, index-byte (start .args .at) (c .before .before .before .loop .i) (start .args .unit .now) (omega arith) (sym (c .before .code-at .ensures) ∙ c .if1 .left))
+    let e = sym (c .before .code-at .ensures) ∙ c .if1 .left in
+    omega (arith, index-byte (start .args .at) (c .before .before .before .loop .i) (start .args .unit .now) (omega arith) e)
 
 returns : tie.Need-returns Inv-loop μ-loop
 returns c =

@@ -29,10 +29,10 @@ abbrev μ-loop : tie.MeasureT-loop
 -- ---- in a turn
 left : (c : tie.In-loop Inv-loop μ-loop)
     → c .before .loop .k < length (payloads (c .before .before .before .before .before .args .unit .now))
-left c = let start = c .before .before .before .before .before in omega (arith, c .loop-test .taken, start .pre .0 .1)
+left c = let start = c .before .before .before .before .before in omega (arith, c .loop-test .taken, start .pre .0 .obus)
 
 few : (c : tie.In-loop Inv-loop μ-loop) → c .before .loop .k < 64
-few c = let start = c .before .before .before .before .before in omega (arith, c .loop-test .taken, start .pre .0 .2)
+few c = let start = c .before .before .before .before .before in omega (arith, c .loop-test .taken, start .pre .0 .few)
 
 end-is : (c : tie.In-loop Inv-loop μ-loop)
     → getD (c .before .before .before .before .before .args .ends .now) (c .before .loop .k) 0
@@ -60,8 +60,8 @@ lent c =
 loop-holds : tie.Need-loop-holds Inv-loop μ-loop
 loop-holds c =
     let start = c .before .before .before in (
-      copying-start (start .args .unit .now) (start .args .ends .now) _ _ (start .pre .0 .0)
-          (ap (λ (n : ℕ). take n (start .args .ends .now)) (sym (start .pre .0 .1)) ∙ start .pre .0 .3),
+      copying-start (start .args .unit .now) (start .args .ends .now) _ _ (start .pre .0 .headed)
+          (ap (λ (n : ℕ). take n (start .args .ends .now)) (sym (start .pre .0 .obus)) ∙ start .pre .0 .ending),
       omega arith,
     )
 
@@ -99,7 +99,7 @@ fitting : (c : tie.In-loop Inv-loop μ-loop)
     (c .before .loop .out)
 fitting c =
     let start = c .before .before .before .before .before in
-    copying-room (c .before .loop .inv .0) (left c) (start .pre .1 .0) (omega (arith, start .pre .0 .1, start .pre .1 .1))
+    copying-room (c .before .loop .inv .0) (left c) (start .pre .1 .0) (omega (arith, start .pre .0 .obus, start .pre .1 .1))
 
 copy-obu-requires : tie.Need-copy-obu-requires Inv-loop μ-loop
 copy-obu-requires c κs =
@@ -110,7 +110,7 @@ copy-obu-requires c κs =
     let w = unescape (payloadAt s (at .code)) in (
       λ e.
           ap Payload·dropped (lent i)
-          ∙ omega (arith, at .inv .1, start .pre .0 .4, dropped-left s (at .code) (passing-code (at .inv .0 .passing) (left i))),
+          ∙ omega (arith, at .inv .1, start .pre .0 .drops, dropped-left s (at .code) (passing-code (at .inv .0 .passing) (left i))),
       omega (
         arith,
         fitting i,
@@ -149,7 +149,7 @@ slice-write-lens : tie.Need-slice-write-lens Inv-loop μ-loop
 slice-write-lens c =
     let i = c .before .before .before .before .before .before in
     let start = i .before .before .before .before .before in
-    copying-place (i .before .loop .inv .0) (left i) (start .pre .1 .0) (omega (arith, start .pre .0 .1, start .pre .1 .1))
+    copying-place (i .before .loop .inv .0) (left i) (start .pre .1 .0) (omega (arith, start .pre .0 .obus, start .pre .1 .1))
 
 add-n : tie.Need-add-n Inv-loop μ-loop
 add-n c =
@@ -172,7 +172,7 @@ loop-again c =
       subst₂ (λ (o : Bytes) (e : ℕ). Copying s (start .args .ends .now) (start .args .out .now) (start .args .lens .now) o
           (set (at .lens) (at .k) r) e (at .n + r) (at .k + 1))
           (sym (written (c .before .before))) (sym (end-is i))
-          (copying-step (at .inv .0) (left i) (start .pre .1 .0) (omega (arith, start .pre .0 .1, start .pre .1 .1)) r
+          (copying-step (at .inv .0) (left i) (start .pre .1 .0) (omega (arith, start .pre .0 .obus, start .pre .1 .1)) r
           (called (c .before .before))),
       subst (λ (e : ℕ). sum (map Payload·dropped (payloads (drop e s))) ≤ droppedIn s) (sym (end-is i))
           (omega (arith, at .inv .1, dropped-left s (at .code) (passing-code (at .inv .0 .passing) (left i)))),
@@ -187,7 +187,7 @@ same-length-2 c = c .before .loop .inv .0 .lengths .long
 returns : tie.Need-returns Inv-loop μ-loop
 returns c =
     copying-done (c .before .loop .inv .0)
-    (let start = c .before .before .before .before .before in omega (arith, start .pre .0 .1, c .loop-test .left))
+    (let start = c .before .before .before .before .before in omega (arith, start .pre .0 .obus, c .loop-test .left))
 
 pub copy-obus-spec : {M : Type 1} → statement M
 copy-obus-spec =

@@ -9,7 +9,7 @@ use borrow.Author.Tests.{ltb-true, ltb-false}
 use lib.ListN.{length, drop, set}
 use Rattle.emulation.proofs.Steps.{given-or-dropped}
 use Rattle.unit.specs.Unit.{mostObus}
-use Rattle.unit.specs.Parts.{Place}
+use Rattle.tsobu.specs.Parts.{Place}
 use Rattle.tsobu.specs.StartCodes.{atStartCode, payloads}
 use Rattle.tsobu.specs.TsObu.{tsobuFigures, tsobuSays}
 use Rattle.tsobu.specs.declared.judging.Figures.{Figures}
@@ -156,22 +156,16 @@ mul-widths c = omega (arith, few (c .before .before .before .before .before .bef
 
 element-write-widths : tie.Need-element-write-widths Inv-loop μ-loop
 element-write-widths c =
-    omega (
-      arith,
-      few (c .before .before .before .before .before .before),
-      c .before .before .before .before .before .before .before .before .before .loop .inv .widths-noted .long,
-    )
+    let judged = c .before .before .before .before .before .before in
+    omega (arith, few judged, judged .before .before .before .loop .inv .widths-noted .long)
 
 mul-ends : tie.Need-mul-ends Inv-loop μ-loop
 mul-ends c = omega (arith, few (c .before .before .before .before .before .before))
 
 element-write-ends : tie.Need-element-write-ends Inv-loop μ-loop
 element-write-ends c =
-    omega (
-      arith,
-      few (c .before .before .before .before .before .before),
-      c .before .before .before .before .before .before .before .before .before .loop .inv .ending .long,
-    )
+    let judged = c .before .before .before .before .before .before in
+    omega (arith, few judged, judged .before .before .before .loop .inv .ending .long)
 
 sub-bytes : tie.Need-sub-bytes Inv-loop μ-loop
 sub-bytes c = omega (arith, end-is (c .before .before .before .before .before .before))

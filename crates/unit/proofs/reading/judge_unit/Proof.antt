@@ -57,22 +57,23 @@ returns-3 c =
 
 judge-whole-requires : tie.Need-judge-whole-requires
 judge-whole-requires c κs =
-    let s = c .before .before .before .before .before .before .before .before .before .before .before .args .unit .now in
+    let judged = c .before .before .before .before in
+    let s = judged .before .before .before .before .before .before .before .args .unit .now in
     let e = ap readSays (c .before .before .found .given .1) in
-    let p = counted-passed s _ (sym e ∙ c .before .before .before .before .judge-payloads .ensures .found) in
+    let p = counted-passed s _ (sym e ∙ judged .judge-payloads .ensures .found) in
     omega (arith, counts-obus s _ (p .1), ltb-false mostObus (length (payloads s)) (sym (p .0)))
 
 returns-4 : tie.Need-returns-4
 returns-4 c =
-    let s = c .before .before .before .before .before .before .before .before .before .before .before .before .args .unit .now in
+    let called = c .before .before .before .before .before in
+    let tested = called .before .before .before in
+    let s = tested .before .before .before .before .args .unit .now in
     let e = ap readSays (c .before .before .before .found .given .1) in
-    let judged = c .before .before .before .before .before .judge-payloads .ensures in
-    let headed = sym (c .before .before .before .before .before .before .before .before .before .at-start-code .ensures)
-    ∙ not-false _ (c .before .before .before .before .before .before .before .before .if2 .left) in
+    let judged = called .judge-payloads .ensures in
+    let headed = sym (tested .before .at-start-code .ensures) ∙ not-false _ (tested .if2 .left) in
     let f = sym e ∙ judged .found in
     let p = counted-passed s _ f in
-    let k = check-whole s (c .before .before .before .before .before .before .before .before .before .before .if1 .left) headed (p .0) _ _
-    (p .1) (judged .kinds _ (sym f)) in
+    let k = check-whole s (tested .before .before .if1 .left) headed (p .0) _ _ (p .1) (judged .kinds _ (sym f)) in
     (c .judge-whole .ensures ∙ k, whole-notes s _ _ _ _ k (counts-obus s _ (p .1)) (judged .ends _ (sym f)) (judged .widths _ (sym f)))
 
 pub judge-unit-spec : {M : Type 1} → statement M

@@ -15,14 +15,15 @@ use Rattle.unit.proofs.reading.read.Tie as tie
 
 -- an accepted unit
 accepted : (c : tie.After-known-told)
-    → checking (c .before .before .before .before .before .before .before .before .before .before .args .unit .now)
-    ≡ passed (c .before .answer .given .0 .0)
+    → let called = c .before .before .before in
+    checking (called .before .before .before .before .before .before .before .args .unit .now) ≡ passed (c .before .answer .given .0 .0)
 accepted c = sym (c .before .before .before .judge-unit .ensures .0) ∙ ap readSays (c .before .answer .given .1)
 
 -- the rooms, where they are not too short
 room : (c : tie.Else1)
-    → let counts = c .before .before .before .answer .given .0 .0 in
-    let args = c .before .before .before .before .before .before .before .before .before .before .before .before .args in
+    → let matched = c .before .before .before in
+    let counts = matched .answer .given .0 .0 in
+    let args = matched .before .before .before .before .before .before .before .before .before .args in
     (counts .bytes ≤ length (args .out .now)) × (counts .obus ≤ length (args .lens .now)) × (counts .obus ≤ length (args .widths .now))
 room c = rooms (c .before .before .before .answer .given .0 .0) _ _ _ (sym (c .before .no-room .ensures) ∙ c .if1 .left)
 
@@ -63,7 +64,13 @@ copy-obus-requires c κs =
     let k = accepted told in
     let a = checked _ _ k in
     let r = room (c .before .before .before) in (
-      (a .headed, a .obus, a .few, told .before .before .before .judge-unit .ensures .1 .ends _ k, a .drops),
+      record {
+        headed = a .headed;
+        obus = a .obus;
+        few = a .few;
+        ending = told .before .before .before .judge-unit .ensures .1 .ends _ k;
+        drops = a .drops;
+      },
       (omega (arith, a .bytes, r .0), r .1),
     )
 
@@ -84,13 +91,15 @@ same-length-3 c = search needs
 returns-3 : tie.Need-returns-3
 unfolding leaves
 returns-3 c =
-    let fit = c .before .before .before .before .before .before .before .before .before .before .before .before in
+    let copied = c .before .before .before .before .before .before .before .before in
+    let fit = copied .before .before .before .before in
     let told = fit .before .before in
+    let judged = told .before .before .before in
     let k = accepted told in
     let room = sym (fit .before .no-room .ensures) ∙ fit .if1 .left in
-    let obus = c .before .before .before .before .before .before .before .before .copy-obus .ensures in
-    let widths = told .before .before .before .judge-unit .ensures .1 .widths _ k in
-    let out = told .before .before .before .before .before .before .before .before .before .before .args .widths .now in
+    let obus = copied .copy-obus .ensures in
+    let widths = judged .judge-unit .ensures .1 .widths _ k in
+    let out = judged .before .before .before .before .before .before .before .args .widths .now in
     (reading-fits _ _ _ _ _ k room, (obus .0, (obus .1, c .before .before .copy-widths .ensures ∙ ap (λ (w : List ℕ). over w out) widths)))
 
 pub read-spec : {M : Type 1} → statement M

@@ -27,8 +27,10 @@ shared-slice-read-length c = omega arith
 
 returns : tie.Need-returns Inv-loop μ-loop
 returns c =
-    let lens = c .before .before .before .before .args .lens .now in
-    sym (ne-eqb (sum lens) (c .before .before .before .before .args .n) (λ e. omega (arith, sum-next lens (c .before .before .before .loop .i) (omega arith))))
+    let start = c .before .before .before .before in
+    let lens = start .args .lens .now in
+    let more = sum-next lens (c .before .before .before .loop .i) (omega arith) in
+    sym (ne-eqb (sum lens) (start .args .n) (λ e. omega (arith, more)))
 
 add-i : tie.Need-add-i Inv-loop μ-loop
 add-i c = omega arith
@@ -37,7 +39,9 @@ loop-less : tie.Need-loop-less Inv-loop μ-loop
 loop-less c = omega arith
 
 loop-again : tie.Need-loop-again Inv-loop μ-loop
-loop-again c = omega (arith, sum-next (c .before .before .before .before .args .lens .now) (c .before .before .before .loop .i) (omega arith))
+loop-again c =
+    let lens = c .before .before .before .before .args .lens .now in
+    omega (arith, sum-next lens (c .before .before .before .loop .i) (omega arith))
 
 returns-2 : tie.Need-returns-2 Inv-loop μ-loop
 returns-2 c =

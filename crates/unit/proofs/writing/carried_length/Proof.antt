@@ -1,5 +1,5 @@
--- n counts the bytes of the OBUs passed, as carried: these and the bytes of those left are the bytes of the whole, which is within the limit of
--- a carried unit.
+-- n counts the bytes of the OBUs passed, as carried: these and the bytes of those left are the bytes of the whole, which is within the
+-- limit of a carried unit.
 use native.Mathlib.Omega.{arith}
 use borrow.Author.Needs.{needs}
 use Prim.Native.Nat.{_+_, _-_}
@@ -52,12 +52,14 @@ loop-again : tie.Need-loop-again Inv-loop μ-loop
 loop-again c =
     let start = c .before .before .before .before .before .before .before in
     let at = c .before .before .before .before .loop in
-    counting-next (start .args .lens .now) (start .args .obus .now) (at .n) (at .i) (at .at) (at .inv) (omega arith) _ (c .escaped-bytes .ensures)
+    counting-next (start .args .lens .now) (start .args .obus .now) (at .n) (at .i) (at .at) (at .inv) (omega arith) _
+    (c .escaped-bytes .ensures)
 
 add-n-2 : tie.Need-add-n-2 Inv-loop μ-loop
 add-n-2 c =
     let start = c .before .before .before .before .before .before .before in
-    omega (arith, loop-again c .count, carried-most (start .args .lens .now) (start .args .obus .now) (start .pre .0) (start .pre .1) (start .pre .2))
+    let most = carried-most (start .args .lens .now) (start .args .obus .now) (start .pre .0) (start .pre .1) (start .pre .2) in
+    omega (arith, loop-again c .count, most)
 
 add-n : tie.Need-add-n Inv-loop μ-loop
 add-n c = omega (arith, add-n-2 c)

@@ -52,8 +52,9 @@ enum-known-judged c = search needs
 
 returns : tie.Need-returns Inv-loop μ-loop
 returns c =
-    let start = c .before .before .before .before .before .before .before .before .before .before .before in
-    let at = c .before .before .before .before .before .before .before .before .loop in
+    let turn = c .before .before .before .before .before .before .before .before in
+    let at = turn .loop in
+    let start = turn .before .before .before in
     judging-refused (start .args .lens .now) (start .args .obus .now) (at .i) (at .at) (at .kinds) (at .inv) (start .pre) (omega arith) _ _
     (sym (c .before .before .before .before .judge .ensures) ∙ ap judgedSays (c .before .before .judged .given .1))
 
@@ -74,8 +75,9 @@ loop-less c = omega arith
 
 loop-again : tie.Need-loop-again Inv-loop μ-loop
 loop-again c =
-    let start = c .before .before .before .before .before .before .before .before .before .before .before in
-    let at = c .before .before .before .before .before .before .before .before .loop in
+    let turn = c .before .before .before .before .before .before .before .before in
+    let at = turn .loop in
+    let start = turn .before .before .before in
     judging-next (start .args .lens .now) (start .args .obus .now) (at .i) (at .at) (at .kinds) (at .inv) (omega arith) (start .pre .1) _
     (sym (c .before .before .before .before .judge .ensures) ∙ ap judgedSays (c .before .before .judged2 .given .1)) _
     (c .kind-number .ensures)

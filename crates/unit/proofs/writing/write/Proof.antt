@@ -60,9 +60,10 @@ enum-known-judged c = search needs
 
 returns-5 : tie.Need-returns-5
 returns-5 c =
-    let start = c .before .before .before .before .before .before .before .before .before .before .before .before in
+    let called = c .before .before .before in
+    let start = called .before .before .before .before .before .before .before .before .before in
     refused-answer (start .args .lens .now) (start .args .obus .now) (start .args .out .now) _ _ refl
-    (sym (ap orderedSays (c .before .judged .given .1)) ∙ c .before .before .before .judge-obus .ensures)
+    (sym (ap orderedSays (c .before .judged .given .1)) ∙ called .judge-obus .ensures)
 
 enum-told : tie.Need-enum-told
 enum-told c = search needs
@@ -75,20 +76,22 @@ refuse-requires-5 c κs = search needs
 
 returns-6 : tie.Need-returns-6
 returns-6 c =
-    let start = c .before .before .before .before .before .before .before .before .before .before .before .before .before .before in
+    let called = c .before .before .before .before .before in
+    let start = called .before .before .before .before .before .before .before .before .before in
     let whole = length (carried (obusOf (start .args .lens .now) (start .args .obus .now))) in
     let out = start .args .out .now in
     let short = leb-false whole (length out) (sym (c .before .before .has-room .ensures) ∙ not-true _ (c .before .if5 .taken)) in
     no-room (start .args .lens .now) (start .args .obus .now) out (c .refuse5 .ensures)
-    (sym (ap orderedSays (c .before .before .before .enum-told .given .1)) ∙ c .before .before .before .before .before .judge-obus .ensures)
-    (omega (arith, short))
+    (sym (ap orderedSays (c .before .before .before .enum-told .given .1)) ∙ called .judge-obus .ensures) (omega (arith, short))
 
 -- the carried unit has room
 room : (c : tie.Else5)
-    → let start = c .before .before .before .before .before .before .before .before .before .before .before .before .before in
+    → let called = c .before .before .before .before in
+    let start = called .before .before .before .before .before .before .before .before .before in
     length (carried (obusOf (start .args .lens .now) (start .args .obus .now))) ≤ length (start .args .out .now)
 room c =
-    let start = c .before .before .before .before .before .before .before .before .before .before .before .before .before in
+    let called = c .before .before .before .before in
+    let start = called .before .before .before .before .before .before .before .before .before in
     leb-true (length (carried (obusOf (start .args .lens .now) (start .args .obus .now)))) (length (start .args .out .now))
     (sym (c .before .has-room .ensures) ∙ not-false _ (c .if5 .left))
 
@@ -103,10 +106,11 @@ same-length c = search needs
 returns-7 : tie.Need-returns-7
 returns-7 c =
     let fit = c .before .before .before .before in
-    let start = fit .before .before .before .before .before .before .before .before .before .before .before .before .before in
+    let called = fit .before .before .before .before in
+    let start = called .before .before .before .before .before .before .before .before .before in
     let written = c .before .before .write-obus .ensures in
     all-written (start .args .lens .now) (start .args .obus .now) (start .args .out .now) _ _ (written .0)
-    (sym (ap orderedSays (fit .before .before .enum-told .given .1)) ∙ fit .before .before .before .before .judge-obus .ensures)
+    (sym (ap orderedSays (fit .before .before .enum-told .given .1)) ∙ called .judge-obus .ensures)
     (omega (arith, written .0, room fit)) (written .1)
 
 pub write-spec : {M : Type 1} → statement M

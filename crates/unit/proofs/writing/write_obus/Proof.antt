@@ -53,7 +53,8 @@ write-obu-requires : tie.Need-write-obu-requires Inv-loop μ-loop
 write-obu-requires c κs =
     let start = c .before .before .before .before .before .before .before .before in
     let at = c .before .before .before .before .loop in
-    writing-room (start .args .lens .now) (start .args .obus .now) (start .args .out .now) (at .n) (at .i) (at .at) (at .out) (at .inv) (start .pre .1) (omega arith)
+    writing-room (start .args .lens .now) (start .args .obus .now) (start .args .out .now) (at .n) (at .i) (at .at) (at .out) (at .inv)
+    (start .pre .1) (omega arith)
 
 add-i : tie.Need-add-i Inv-loop μ-loop
 add-i c = omega arith
@@ -63,8 +64,9 @@ loop-less c = omega arith
 
 loop-again : tie.Need-loop-again Inv-loop μ-loop
 loop-again c =
-    let start = c .before .before .before .before .before .before .before .before .before .before .before in
-    let at = c .before .before .before .before .before .before .before .loop in
+    let turn = c .before .before .before .before .before .before .before in
+    let at = turn .loop in
+    let start = turn .before .before .before .before in
     writing-next (start .args .lens .now) (start .args .obus .now) (start .args .out .now) (at .n) (at .i) (at .at) (at .out) (at .inv)
     (start .pre .1) (omega arith) _ (c .before .before .write-obu .ensures .0) _ (c .before .before .write-obu .ensures .1)
 
@@ -78,7 +80,8 @@ returns : tie.Need-returns Inv-loop μ-loop
 returns c =
     let start = c .before .before .before .before .before in
     let at = c .before .loop in
-    writing-end (start .args .lens .now) (start .args .obus .now) (start .args .out .now) (at .n) (at .i) (at .at) (at .out) (at .inv) (omega arith)
+    writing-end (start .args .lens .now) (start .args .obus .now) (start .args .out .now) (at .n) (at .i) (at .at) (at .out) (at .inv)
+    (omega arith)
 
 pub write-obus-spec : {M : Type 1} → statement M
 write-obus-spec =

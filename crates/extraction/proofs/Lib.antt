@@ -1,0 +1,5 @@
+pub mod Beyond
+pub mod Extracting
+pub mod Firsts
+pub mod Holding
+pub mod Stepping

@@ -1,0 +1,137 @@
+-- An AV1 payload goes to the PES, another to the sections.
+use borrow.Author.Needs.{needs}
+use native.Mathlib.Omega.{arith}
+use mathlib.Core.Path.{refl, sym, ap, subst, _∙_}
+use Rattle.packet.specs.declared.header.Header.{Header}
+use Rattle.descriptor.specs.Edition.{Edition}
+use Rattle.segment_rules.specs.Rules.{isPcr}
+use Rattle.segment_rules.specs.Check.{outputsOf}
+use Rattle.extraction.specs.Parts.{PayloadTurn}
+use Rattle.extraction.proofs.Stepping.{payload-length, payload-lies, payload-same, content-taken, content-read}
+use Rattle.extraction.proofs.packets.take_content.Statement.{statement}
+use Rattle.extraction.proofs.packets.take_content.Tie as tie
+
+packet-at-requires : tie.Need-packet-at-requires
+packet-at-requires c κs = c .before .before .before .before .before .pre .0
+
+rest-requires : tie.Need-rest-requires
+rest-requires c κs = search needs
+
+is-av1-requires : tie.Need-is-av1-requires
+is-av1-requires c κs = search needs
+
+is-pcr-requires : tie.Need-is-pcr-requires
+is-pcr-requires c κs = search needs
+
+take-payload-requires : tie.Need-take-payload-requires
+take-payload-requires c κs = search needs
+
+same-length : tie.Need-same-length
+same-length c = search needs
+
+same-length-2 : tie.Need-same-length-2
+same-length-2 c = search needs
+
+same-length-3 : tie.Need-same-length-3
+same-length-3 c = search needs
+
+returns : tie.Need-returns
+returns c =
+    let a = c .before .before .before .before .before .before .before .before .before .before .before .before .before .before .before
+    .before .before .before .before .before .before .args in
+    let k = a .packet in
+    let taken = c .before .before .before .before .before .before .before .take-payload in
+    let lent = c .before .before .before .before .before .before .before .before .before .before .before .before .before .before .before
+    .packet-at in
+    let w = c .before .before .before .before .before .before .before .before .before .before .before .before .before .before .rest in
+    let pcr = c .before .before .before .before .before .before .before .before .before .before .before .is-pcr in
+    let after = outputsOf (taken .last .1 .1 .1 .1 .0) (taken .last .1 .1 .1 .1 .1 .0) (taken .last .1 .1 .1 .1 .1 .1 .0) in (
+      (λ edition before p same e h st n s.
+          content-taken s (k .index) p h (k .kind) (taken .result) after
+          (sym (c .before .before .before .before .before .before .before .before .before .before .before .before .before .is-av1 .ensures)
+          ∙ c
+          .before .before .before .before .before .before .before .before .before .before .before .before .if1 .taken)
+          (subst (λ (x : Edition). PayloadTurn x (k .header .start) (k .index) (w .result .now) (pcr .result) (a .extraction)
+          (outputsOf (a .out .now) (a .lens .now) (a .times .now)) (taken .result) after) (s .tables .follows) (taken .ensures) before p st
+          (record {
+            carries = h;
+            starts = sym (ap (λ (x : Header). x .start) e);
+            same = payload-same p (k .header) (lent .result .now) (w .result .now) e (lent .ensures ∙ sym same) (w .ensures) h;
+          })
+          (ap isPcr (sym (s .tables .pcr)) ∙ sym (pcr .ensures)) (s .extraction))),
+      refl,
+    )
+
+mul-at : tie.Need-mul-at
+mul-at c =
+    omega (
+      arith,
+      c .before .before .before .before .before .before .before .before .before .before .pre .0,
+      c .before .before .before
+          .before .before .before .before .before .before .before .good .0 .0,
+    )
+
+add-at : tie.Need-add-at
+add-at c =
+    omega (
+      arith,
+      c .before .before .before .before .before .before .before .before .before .before .pre .0,
+      c .before .before .before
+          .before .before .before .before .before .before .before .good .0 .0,
+    )
+
+sub-at : tie.Need-sub-at
+sub-at c =
+    let a = c .before .before .before .before .before .before .before .before .before .before .args in
+    let lent = c .before .before .before .before .packet-at in
+    let w = c .before .before .before .rest in
+    omega (
+      arith,
+      payload-length (a .segment .now) (lent .result .now) (w .result .now) (a .packet .index) (a .packet .header .payload)
+          (c .before .before .before .before .before .before .before .before .before .before .pre .0) (lent .ensures) (w .ensures),
+    )
+
+read-section-requires : tie.Need-read-section-requires
+read-section-requires c κs = search needs
+
+at-place-requires : tie.Need-at-place-requires
+at-place-requires c κs = search needs
+
+returns-2 : tie.Need-returns-2
+returns-2 c =
+    let begin = c .before .before .before .before .before .before .before .before .before .before .before .before .before in
+    let a = begin .args in
+    let k = a .packet in
+    let read = c .before .before .read-section in
+    let lent = c .before .before .before .before .before .before .before .packet-at in
+    let w = c .before .before .before .before .before .before .rest in (
+      (λ edition before p same e h st n s.
+          content-read s (k .index) p h (k .kind) n (read .result) (k .header .start) (w .result .now) (c .at-place .result)
+          (sym (c .before .before .before .before .before .is-av1 .ensures) ∙ c .before .before .before .before .if1 .left)
+          (ap (λ (x : Header). x .start) e) (payload-same p (k .header) (lent .result .now) (w .result .now) e (lent .ensures ∙ sym same)
+          (w .ensures) h) (c .at-place .ensures)
+          (read .ensures (payload-lies (a .segment .now) (lent .result .now) (w .result .now) (k .index) (k .header .payload)
+          (begin .pre .0)
+          (lent .ensures) (w .ensures)) edition)),
+      refl,
+    )
+
+pub take-content-spec : {M : Type 1} → statement M
+take-content-spec =
+    tie.close
+    (tie.spec
+    packet-at-requires
+    rest-requires
+    is-av1-requires
+    is-pcr-requires
+    take-payload-requires
+    same-length
+    same-length-2
+    same-length-3
+    returns
+    mul-at
+    add-at
+    sub-at
+    read-section-requires
+    at-place-requires
+    returns-2)

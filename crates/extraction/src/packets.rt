@@ -1,0 +1,243 @@
+// One packet of the segment, by the table of document 01 in its sequence.
+ghost use mathlib.Core.Path.{_≡_};
+ghost use Prim.Native.Nat.{_+_, _*_, _≤_};
+ghost use lib.ListN.{length};
+ghost use Rattle.descriptor.specs.Edition.{Edition};
+ghost use Rattle.descriptor.specs.Naming.{editionSays};
+ghost use Rattle.segment_rules.specs.Rules.{isAv1};
+ghost use Rattle.segment_rules.specs.Check.{outputsOf};
+ghost use Rattle.tables.specs.Tables.{kindSays, packetAt};
+ghost use Rattle.extraction.specs.Extraction.{roomsIn, Fits, isOutside, PacketTurn, StepsOutside};
+ghost use Rattle.extraction.specs.Parts.{roomsSay, isTaken, PayloadTurn, ContentTurn, ReadTurn};
+use crate::outputs::Rooms;
+use crate::units::Arrival;
+use crate::units::Extraction;
+use crate::units::ExtractionTurn;
+use crate::units::add;
+use crate::units::beyond;
+use crate::units::start;
+use lists::part;
+use lists::rest;
+use packet::PACKET_LENGTH;
+use packet::PacketRead;
+use refusal::Refusal;
+use tables::Kind;
+use tables::Outcome;
+use tables::Packet;
+use tables::Tables;
+use tables::at_place;
+use tables::check_counter;
+use tables::is_pcr;
+use tables::kind_of;
+use tables::read_section;
+
+// The tables and the units after a packet, what its PID was, and the verdict on it.
+pub struct Stepped {
+    pub tables: Tables,
+    pub extraction: Extraction,
+    pub kind: Kind,
+    pub outcome: Outcome,
+}
+
+fn is_av1(kind: Kind) -> bool
+    ensures { λ r. ⌜ r ≡ isAv1 (kindSays kind) ⌝ }
+{
+    match kind {
+        Kind::Null => false,
+        Kind::Pat => false,
+        Kind::Map => false,
+        Kind::Av1(_) => true,
+        Kind::Listed(_) => false,
+        Kind::Unlisted => false,
+    }
+}
+
+// The packet with this index.
+fn packet_at(segment: &[u8], index: usize) -> &[u8]
+    requires { ⌜ index * 188 + 188 ≤ length (now segment) ⌝ }
+    ensures { λ r. ⌜ now r ≡ packetAt (now (segment .entry)) index ⌝ }
+{
+    part(segment, index * PACKET_LENGTH, PACKET_LENGTH)
+}
+
+// The AV1 payload of a packet, which starts a PES or goes on with one.
+fn take_payload(
+    arrival: Arrival,
+    starts: bool,
+    payload: &[u8],
+    extraction: Extraction,
+    out: &mut [u8],
+    lens: &mut [usize],
+    times: &mut [u64],
+) -> ExtractionTurn
+    requires { ⌜ Fits extraction (roomsIn (now out) (now lens) (now times)) ⌝ }
+    ensures { λ r. ⌜ PayloadTurn (editionSays (arrival .edition)) starts (arrival .index) (now (payload .entry))
+        (arrival .«pcr_seen») extraction
+        (outputsOf (now (out .entry)) (now (lens .entry)) (now (times .entry))) r
+        (outputsOf (now (out .exit)) (now (lens .exit)) (now (times .exit))) ⌝ }
+{
+    if starts {
+        return start(arrival, payload, extraction, out, lens, times);
+    }
+    add(arrival, payload, extraction, out)
+}
+
+// What a packet that passed 24 carries: a section, or the payload of a PES.
+fn take_content(
+    segment: &[u8],
+    packet: Packet,
+    tables: Tables,
+    extraction: Extraction,
+    out: &mut [u8],
+    lens: &mut [usize],
+    times: &mut [u64],
+) -> Stepped
+    requires { ⌜ (packet .index * 188 + 188 ≤ length (now segment))
+        × Fits extraction (roomsIn (now out) (now lens) (now times)) ⌝ }
+    ensures { λ r. ⌜ ((edition : Edition) → ContentTurn edition (now (segment .entry)) packet tables extraction
+        (outputsOf (now (out .entry)) (now (lens .entry)) (now (times .entry))) r
+        (outputsOf (now (out .exit)) (now (lens .exit)) (now (times .exit)))) ⌝ }
+    ensures { λ r. ⌜ r .kind ≡ packet .kind ⌝ }
+{
+    let header = packet.header;
+    let kind = packet.kind;
+    let payload = rest(packet_at(segment, packet.index), header.payload);
+    if is_av1(kind) {
+        let pcr = tables.pcr;
+        let edition = tables.edition;
+        let arrival = Arrival {
+            index: packet.index,
+            pcr_seen: is_pcr(pcr),
+            edition,
+        };
+        let taken = take_payload(arrival, header.start, payload, extraction, out, lens, times);
+        let next = taken.extraction;
+        let outcome = taken.outcome;
+        return Stepped {
+            tables,
+            extraction: next,
+            kind,
+            outcome,
+        };
+    }
+    let at = (packet.index * PACKET_LENGTH + PACKET_LENGTH) - payload.len();
+    let turn = read_section(segment, at, payload, header.start, kind, tables);
+    let read = turn.tables;
+    let outcome = turn.outcome;
+    Stepped {
+        tables: read,
+        extraction,
+        kind,
+        outcome: at_place(packet.index, outcome),
+    }
+}
+
+// What a packet carries is taken: it passed 24, has payload and is no repeat.
+fn is_taken(outcome: Outcome, carries: bool, repeat: bool) -> bool
+    ensures { λ r. ⌜ r ≡ isTaken outcome carries repeat ⌝ }
+{
+    let Outcome::Passed = outcome else {
+        return false;
+    };
+    if !carries {
+        return false;
+    }
+    !repeat
+}
+
+// A packet that passed 21, 22 and 23: its PCR and its counter, then what it carries, but that of a repeat.
+fn step_read(
+    segment: &[u8],
+    packet: Packet,
+    tables: Tables,
+    extraction: Extraction,
+    out: &mut [u8],
+    lens: &mut [usize],
+    times: &mut [u64],
+) -> Stepped
+    requires { ⌜ (packet .index * 188 + 188 ≤ length (now segment))
+        × Fits extraction (roomsIn (now out) (now lens) (now times)) ⌝ }
+    ensures { λ r. ⌜ ((edition : Edition) → ReadTurn edition (now (segment .entry)) packet tables extraction
+        (outputsOf (now (out .entry)) (now (lens .entry)) (now (times .entry))) r
+        (outputsOf (now (out .exit)) (now (lens .exit)) (now (times .exit)))) ⌝ }
+    ensures { λ r. ⌜ r .kind ≡ packet .kind ⌝ }
+{
+    let header = packet.header;
+    let kind = packet.kind;
+    let counted = check_counter(segment, packet, tables);
+    let outcome = counted.outcome;
+    let checked = counted.tables;
+    let counters = checked.counters;
+    let repeat = counters.repeats(kind);
+    if !is_taken(outcome, header.has_payload, repeat) {
+        return Stepped {
+            tables: checked,
+            extraction,
+            kind,
+            outcome,
+        };
+    }
+    take_content(segment, packet, checked, extraction, out, lens, times)
+}
+
+// A segment of this length has no packet with this index, or a place of the units lies beyond the outputs.
+fn is_outside(size: usize, index: usize, extraction: Extraction, rooms: Rooms) -> bool
+    ensures { λ r. ⌜ r ≡ isOutside size index extraction (roomsSay rooms) ⌝ }
+{
+    if size / PACKET_LENGTH <= index {
+        return true;
+    }
+    beyond(extraction, rooms)
+}
+
+// The packet with this index: the table of document 01 in its sequence. Where the segment has no such packet, or a
+// place of the units lies beyond the outputs, 8.
+pub fn step(
+    segment: &[u8],
+    index: usize,
+    tables: Tables,
+    extraction: Extraction,
+    out: &mut [u8],
+    lens: &mut [usize],
+    times: &mut [u64],
+) -> Stepped
+    ensures { λ r. ⌜ (index * 188 + 188 ≤ length (now (segment .entry)) → (edition : Edition) →
+        PacketTurn edition (now (segment .entry)) index tables extraction
+        (outputsOf (now (out .entry)) (now (lens .entry)) (now (times .entry))) r
+        (outputsOf (now (out .exit)) (now (lens .exit)) (now (times .exit)))) ⌝ }
+    ensures { λ r. ⌜ StepsOutside (now (segment .entry)) index tables extraction
+        (outputsOf (now (out .entry)) (now (lens .entry)) (now (times .entry))) r
+        (outputsOf (now (out .exit)) (now (lens .exit)) (now (times .exit))) ⌝ }
+{
+    let rooms = Rooms {
+        bytes: out.len(),
+        lens: lens.len(),
+        times: times.len(),
+    };
+    if is_outside(segment.len(), index, extraction, rooms) {
+        return Stepped {
+            tables,
+            extraction,
+            kind: Kind::Unlisted,
+            outcome: Outcome::Refused(Refusal::NO_ROOM.at(index)),
+        };
+    }
+    let read = packet::read(packet_at(segment, index));
+    match read {
+        PacketRead::Refused(refused) => Stepped {
+            tables,
+            extraction,
+            kind: Kind::Unlisted,
+            outcome: at_place(index, Outcome::Refused(refused)),
+        },
+        PacketRead::Header(header) => {
+            let kind = kind_of(tables, header.pid);
+            let packet = Packet {
+                index,
+                header,
+                kind,
+            };
+            step_read(segment, packet, tables, extraction, out, lens, times)
+        }
+    }
+}

@@ -1,0 +1,4 @@
+pub mod Puts
+pub mod Sectioning
+pub mod Starting
+pub mod Fitting
