@@ -14,7 +14,7 @@ use Rattle.descriptor.specs.declared.fields.Delay.{Delay}
 use Rattle.descriptor.specs.declared.fields.Delay.the-variants.{Absent, Present}
 use Rattle.descriptor.specs.declared.fields.Video.{Video}
 use Rattle.comparison.specs.declared.Disagreement.{Disagreement}
-use Rattle.segment.specs.declared.whole.Summary.{Summary}
+use Rattle.segment.specs.declared.checking.Summary.{Summary}
 use Rattle.answers.specs.declared.answer.Answer.{Answer}
 use Rattle.answers.specs.declared.segments.Comparison.{Comparison}
 use Rattle.answers.specs.declared.segments.SegmentAnswer.{SegmentAnswer}

@@ -8,7 +8,7 @@ use refusal::Refusal;
 use replay::Above;
 use replay::Answer;
 use replay::Last;
-use replay::Ran;
+use replay::RunResult;
 use replay::State;
 use ticks::Ticks27;
 
@@ -146,7 +146,7 @@ fn state_answer(state: State) -> ReplayState
 }
 
 // What a run answered, and the state that it left.
-pub fn replay_answer(ran: Ran) -> ReplayAnswer
+pub fn replay_answer(ran: RunResult) -> ReplayAnswer
     ensures { λ r. ⌜ r ≡ replayAnswer (ranSays ran) ⌝ }
 {
     let state = ran.state;

@@ -31,7 +31,8 @@ use Rattle.tsobu.proofs.Splits.{code-is, split-code, split-byte}
 use Rattle.tsobu.proofs.Places.{payloadAt, payload-is}
 use Rattle.unit.specs.Unit.{readUnit, obusIn}
 use Rattle.unit.proofs.Acceptance.{reads}
-use Rattle.comparison.specs.Comparison.{sequenceContent, headersOf, sequenceHeaders, frameType, isFrame, untilFrame, headersBeforeFrame}
+use Rattle.comparison.specs.Comparison.{sequenceContent, headersOf, sequenceHeaders, frameType, isFrame, untilFrame}
+use Rattle.comparison.specs.Comparison.{headersBeforeFrame}
 
 -- ---- the first byte of an OBU
 marked-zero : (a : ℕ) (l : Bytes) → marked (a ∷ l) ≡ true → a ≡ 0

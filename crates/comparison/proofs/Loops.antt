@@ -139,7 +139,8 @@ lengths-next count index lens h k =
 -- from this unit on, which begins at this place, is found what the whole gives
 pub record Walking (d : Fields) (bytes : Bytes) (lens : List ℕ) (count at index : ℕ) : Type 0 where
   pub within : at ≤ length bytes
-  pub same : firstFrom index d (headersCut (lengthsFrom count index lens) (drop at bytes)) ≡ firstFrom 0 d (headersCut (take count lens) bytes)
+  pub same : firstFrom index d (headersCut (lengthsFrom count index lens) (drop at bytes))
+      ≡ firstFrom 0 d (headersCut (take count lens) bytes)
 
 pub walking-start : (d : Fields) (bytes : Bytes) (lens : List ℕ) (count : ℕ) → Walking d bytes lens count 0 0
 walking-start d bytes lens count =
@@ -189,5 +190,6 @@ module _ {d : Fields} {bytes : Bytes} {lens : List ℕ} {count at index : ℕ} (
                 ∙ whole;
           }
 
-      pub walking-found : (m : ℕ) → found ≡ field.Field m → inUnit index (foundSays found) ≡ firstFrom 0 d (headersCut (take count lens) bytes)
+      pub walking-found : (m : ℕ) → found ≡ field.Field m
+          → inUnit index (foundSays found) ≡ firstFrom 0 d (headersCut (take count lens) bytes)
       walking-found m e = unit-differs d index n rest (drop at bytes) found here-is m e ∙ whole

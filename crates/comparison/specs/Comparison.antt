@@ -13,8 +13,8 @@ use Rattle.obu.specs.declared.header.Header.{Header}
 use Rattle.obu.specs.Header.{typeBits, headerOf}
 use Rattle.unit.specs.Unit.{obusIn}
 use Rattle.descriptor.specs.declared.fields.Fields.{Fields}
-use Rattle.sequence.specs.declared.comparison.Difference.{Difference}
-use Rattle.sequence.specs.declared.comparison.Difference.the-variants as difference
+use Rattle.sequence.specs.declared.comparing.Difference.{Difference}
+use Rattle.sequence.specs.declared.comparing.Difference.the-variants as difference
 use Rattle.sequence.specs.Comparison.{comparing}
 use Rattle.comparison.specs.declared.Disagreement.{Disagreement}
 use Rattle.comparison.specs.declared.FieldFound.{FieldFound}

@@ -33,16 +33,16 @@ use Rattle.segment_rules.specs.Check.{Outputs, outputsOf, roomsOf, ptsAndDts}
 use Rattle.segment_rules.proofs.Sequence.{bind-same, then-same, sequence-append, rule-then, starts, adds}
 use Rattle.tables.specs.declared.state.Outcome.{Outcome}
 use Rattle.tables.specs.declared.state.Outcome.the-variants as outcome
-use Rattle.tables.specs.Tables.{Turns}
-use Rattle.tables.proofs.Turning.{turn-refused, refused-turn, passed-turn, turn-as}
+use Rattle.tables.specs.Tables.{Refines}
+use Rattle.tables.proofs.Refining.{refines-refused, refused-refines, passed-refines, refines-as}
 use Rattle.extraction.specs.declared.state.PesFound.{PesFound}
 use Rattle.extraction.specs.declared.state.PesSeen.{PesSeen}
 use Rattle.extraction.specs.declared.state.PesSeen.the-variants as seen
 use Rattle.extraction.specs.declared.outputs.Rooms as code
 use Rattle.extraction.specs.declared.units.Extraction.{Extraction}
-use Rattle.extraction.specs.declared.units.ExtractionTurn.{ExtractionTurn}
-use Rattle.extraction.specs.Extraction.{openPes, pesOf, unitsBegun, Fits, UnitsStand}
-use Rattle.extraction.specs.Parts.{isAbsent, RoomsStand, PayloadOf, PesTurn}
+use Rattle.extraction.specs.declared.units.ExtractionResult.{ExtractionResult}
+use Rattle.extraction.specs.Extraction.{openPes, pesOf, unitsBegun, Fits, UnitsRepresent}
+use Rattle.extraction.specs.Parts.{isAbsent, RoomsRepresent, PayloadOf, PesRefines}
 use Rattle.extraction.proofs.Holding.{written, same-bytes, same-lens, same-times, unit-bytes, stands-opened, stands-added}
 use Rattle.extraction.proofs.Holding.{stands-closed}
 
@@ -61,7 +61,8 @@ module _ (o : OpenPes) (x : state.Extraction) where
 
   module _ (e : lengthWrong o ≡ false) where
     -- reading accepts it
-    pub judged-right : (c : Counts) → checking (o .bytes) ≡ passed c → Turns outcome.Passed (closeOpen o x) (λ y. y ≡ withUnit (unitOf o) x)
+    pub judged-right : (c : Counts) → checking (o .bytes) ≡ passed c
+        → Refines outcome.Passed (closeOpen o x) (λ y. y ≡ withUnit (unitOf o) x)
     unfolding closeOpen checking _>>_ atPlace
     judged-right c k =
         let h = passed-then (readUnit (o .bytes)) _ c k in
@@ -83,9 +84,9 @@ unit-fits {e} f fits o =
     (omega (arith, begun, fits .inLens), omega (arith, begun, fits .inTimes))
 
 module _ {before : Outputs} {out lens times : List ℕ} {e : Extraction} {x : state.Extraction}
-    (s : UnitsStand before (outputsOf out lens times) e x) where
+    (s : UnitsRepresent before (outputsOf out lens times) e x) where
   -- there is none
-  pub none-closes : e .pes ≡ seen.Closed → Turns outcome.Passed (closePes x) (UnitsStand before (outputsOf out lens times) e)
+  pub none-closes : e .pes ≡ seen.Closed → Refines outcome.Passed (closePes x) (UnitsRepresent before (outputsOf out lens times) e)
   unfolding closeIfOpen
   none-closes c = (x, ap (λ (p : Option OpenPes). closeIfOpen p x) (s .pes ∙ ap (pesOf (openBytes (x .pes))) c), s)
 
@@ -95,42 +96,42 @@ module _ {before : Outputs} {out lens times : List ℕ} {e : Extraction} {x : st
 
     -- the verdict on its unit
     module _ (judged : Outcome) (bytes : Bytes) (lent : bytes ≡ take (e .bytes) (drop (e .start) out))
-        (says : (y : state.Extraction) → Turns judged (closeOpen (openPes f bytes) y) (λ z. z ≡ withUnit (unitOf (openPes f bytes)) y))
+        (says : (y : state.Extraction) → Refines judged (closeOpen (openPes f bytes) y) (λ z. z ≡ withUnit (unitOf (openPes f bytes)) y))
       where
-        closes : Turns judged (closePes x) (λ z. z ≡ withUnit (unitOf (openPes f (openBytes (x .pes)))) x)
+        closes : Refines judged (closePes x) (λ z. z ≡ withUnit (unitOf (openPes f (openBytes (x .pes)))) x)
         unfolding closeIfOpen
         closes =
-            turn-as (closeOpen (openPes f (openBytes (x .pes))) x) (λ z. z ≡ withUnit (unitOf (openPes f (openBytes (x .pes)))) x)
+            refines-as (closeOpen (openPes f (openBytes (x .pes))) x) (λ z. z ≡ withUnit (unitOf (openPes f (openBytes (x .pes)))) x)
             (closePes x) judged
             (sym (ap (λ (p : Option OpenPes). closeIfOpen p x) is-open))
-            (subst (λ (b : Bytes). Turns judged (closeOpen (openPes f b) x) (λ z. z ≡ withUnit (unitOf (openPes f b)) x))
+            (subst (λ (b : Bytes). Refines judged (closeOpen (openPes f b) x) (λ z. z ≡ withUnit (unitOf (openPes f b)) x))
             (lent ∙ unit-bytes s) (says x))
 
         -- it was refused
-        pub refused-closes : (q : Refused) → judged ≡ outcome.Refused q → Turns judged (closePes x)
-            (UnitsStand before (outputsOf out lens times) e)
-        refused-closes q k = turn-refused (closePes x) _ judged q k (sym (refused-turn (closePes x) _ judged q k closes))
+        pub refused-closes : (q : Refused) → judged ≡ outcome.Refused q → Refines judged (closePes x)
+            (UnitsRepresent before (outputsOf out lens times) e)
+        refused-closes q k = refines-refused (closePes x) _ judged q k (sym (refused-refines (closePes x) _ judged q k closes))
 
         -- it passed, and its length and times are in their places
         pub passed-closes : (p d : ℕ) (lens′ times′ : List ℕ) → judged ≡ outcome.Passed → p ∷ d ∷ [] ≡ ptsAndDts (f .header .times) → lens′
             ≡
             set lens (e .units) (e .bytes)
             → times′ ≡ set (set times (2 * e .units) p) (2 * e .units + 1) d
-            → Turns outcome.Passed (closePes x)
-            (UnitsStand before (outputsOf out lens′ times′) (record
+            → Refines outcome.Passed (closePes x)
+            (UnitsRepresent before (outputsOf out lens′ times′) (record
             { pes = seen.Closed; units = e .units + 1; start = e .start + e .bytes; bytes = 0 }))
         passed-closes p d lens′ times′ k pair l t =
             let e′ : Extraction = record { pes = seen.Closed; units = e .units + 1; start = e .start + e .bytes; bytes = 0 } in
-            let c = passed-turn (closePes x) _ judged k closes in
+            let c = passed-refines (closePes x) _ judged k closes in
             let x′ = withUnit (unitOf (openPes f (openBytes (x .pes)))) x in
             let stands =
-            subst (λ (ls : List ℕ). UnitsStand before (outputsOf out ls times′) e′ x′) (sym l)
-            (subst (λ (ts : List ℕ). UnitsStand before (outputsOf out (set lens (e .units) (e .bytes)) ts) e′ x′) (sym t)
+            subst (λ (ls : List ℕ). UnitsRepresent before (outputsOf out ls times′) e′ x′) (sym l)
+            (subst (λ (ts : List ℕ). UnitsRepresent before (outputsOf out (set lens (e .units) (e .bytes)) ts) e′ x′) (sym t)
             (stands-closed s f o p d pair)) in
             (x′, c .1 ∙ ap passed (c .2), stands)
 
 -- ---- the rooms, from the code's places
-module _ {before now : Outputs} {e : Extraction} {x : state.Extraction} (s : UnitsStand before now e x) where
+module _ {before now : Outputs} {e : Extraction} {x : state.Extraction} (s : UnitsRepresent before now e x) where
   units-few : e .units < 1024 → ltb mostUnits (withNext x) ≡ false
   units-few h = le-ltb 1024 (withNext x) (omega (arith, s .units))
 
@@ -158,9 +159,9 @@ module _ {before now : Outputs} {e : Extraction} {x : state.Extraction} (s : Uni
   times-pass h = lt-ltb (length (before .times)) (2 * withNext x) (omega (arith, same-times s, s .units))
 
 -- ---- 31, 34, 8 of a payload with which a PES is to open
-module _ (i : ℕ) (p w : Bytes) (st : State) {before now : Outputs} {e : Extraction} {rooms : code.Rooms} (r : RoomsStand rooms now)
+module _ (i : ℕ) (p w : Bytes) (st : State) {before now : Outputs} {e : Extraction} {rooms : code.Rooms} (r : RoomsRepresent rooms now)
     (is : PayloadOf p true w)
-    (s : UnitsStand before now e (st .extraction)) where
+    (s : UnitsRepresent before now e (st .extraction)) where
   abbrev three : Verdict State
   three = inSequence (rule31 i p state.Av1 ∷ rule34 i p state.Av1 ∷ rule8 i p state.Av1 (roomsOf before) ∷ []) st
 
@@ -225,7 +226,7 @@ module _ (i : ℕ) (p w : Bytes) (st : State) {before now : Outputs} {e : Extrac
               let past : length (now .times) < 2 * (e .units + 1) = omega (arith, r .times) in
               sym (up-to (refuse-at i 8 _ refl) (or-by-false fit (or-by-false room (sym (times-pass s past)))))
 
-          pub may-all : 2 * (e .units + 1) ≤ rooms .times → Turns outcome.Passed three (λ st′. st′ ≡ st)
+          pub may-all : 2 * (e .units + 1) ≤ rooms .times → Refines outcome.Passed three (λ st′. st′ ≡ st)
           may-all t =
               let within : 2 * (e .units + 1) ≤ length (now .times) = omega (arith, r .times) in
               (st, sym (up-to (pass-at i 8 refl refl) (or-by-false fit (or-by-false room (sym (times-fit s within))))), refl)
@@ -329,22 +330,25 @@ module _ (edition : Edition) (i : ℕ) (p w : Bytes) (st : State) (before : Outp
           → v ≡ rules
       then-three g = parts (pass-at i 29 right (pass-at i 30 (sym by-times ∙ k) g))
 
-      module _ (o : Outcome) (may : Turns o (inSequence (rule31 i p state.Av1 ∷ rule34 i p state.Av1 ∷ rule8 i p state.Av1 (roomsOf before)
+      module _ (o : Outcome) (may : Refines o (inSequence (rule31 i p state.Av1 ∷ rule34 i p state.Av1 ∷ rule8 i p state.Av1
+          (roomsOf before)
           ∷ []) st) (λ st1. st1 ≡ st)) where
         -- 31, 34, 8
-        pub opens-refused : (q : Refused) → o ≡ outcome.Refused q → (r : ExtractionTurn) (after : Outputs) → r .outcome ≡ o
-            → PesTurn before (payloadRules edition (roomsOf before) i p state.Av1) st r after
-        opens-refused q g r after f = turn-refused rules _ (r .outcome) q (f ∙ g) (then-three (stop _ _ _ (refused-turn _ _ o q g may)))
+        pub opens-refused : (q : Refused) → o ≡ outcome.Refused q → (r : ExtractionResult) (after : Outputs) → r .outcome ≡ o
+            → PesRefines before (payloadRules edition (roomsOf before) i p state.Av1) st r after
+        opens-refused q g r after f = refines-refused rules _ (r .outcome) q (f
+            ∙ g) (then-three (stop _ _ _ (refused-refines _ _ o q g may)))
 
         -- the bytes are in the output
-        pub opens-right : {out lens times : List ℕ} {e : Extraction} → UnitsStand before (outputsOf out lens times) e (st .extraction) → o ≡
+        pub opens-right : {out lens times : List ℕ} {e : Extraction} → UnitsRepresent before (outputsOf out lens times) e (st .extraction)
+            → o ≡
             outcome.Passed
             → (bytes out′ : Bytes) → bytes ≡ pesData w → out′ ≡ placed out (e .start + e .bytes) bytes → e .pes ≡ seen.Closed
             → e .start + e .bytes + length bytes ≤ length (before .bytes) → e .units + 1 ≤ length (before .lens) → 2 * (e .units + 1) ≤
             length (before .times)
-            → Turns outcome.Passed rules
+            → Refines outcome.Passed rules
             (λ st′. (st′ .tables ≡ st .tables)
-            × UnitsStand before (outputsOf out′ lens times)
+            × UnitsRepresent before (outputsOf out′ lens times)
             (record {
               pes = seen.Open (record { first = i; header = header });
               units = e .units;
@@ -356,7 +360,7 @@ module _ (edition : Edition) (i : ℕ) (p w : Bytes) (st : State) (before : Outp
         opens-right {out} {lens} {times} {e} s g bytes out′ lent put closed inBytes inLens inTimes =
             let f : PesFound = record { first = i; header = header } in
             let e′ : Extraction = record { pes = seen.Open f; units = e .units; start = e .start + e .bytes; bytes = length bytes } in
-            let t = passed-turn _ _ o g may in
+            let t = passed-refines _ _ o g may in
             let stands = stands-opened s bytes f closed inBytes inLens inTimes in (
               withExtraction (withPes (openPes f bytes) (st .extraction)) st,
               sym (then-three (go-on st _ (t .1 ∙ ap passed (t .2))
@@ -364,7 +368,7 @@ module _ (edition : Edition) (i : ℕ) (p w : Bytes) (st : State) (before : Outp
                   (withPes (record { first = i; header = x; bytes = y }) (st .extraction)) st)) (read-header w header read) lent))),
               (
                 refl,
-                subst (λ (y : Bytes). UnitsStand before (outputsOf y lens times) e′ (withPes (openPes f bytes) (st .extraction)))
+                subst (λ (y : Bytes). UnitsRepresent before (outputsOf y lens times) e′ (withPes (openPes f bytes) (st .extraction)))
                     (sym put) stands,
               ),
             )
@@ -374,30 +378,30 @@ module _ (edition : Edition) (i : ℕ) (p w : Bytes) (st : State) (before : Outp
   abbrev all : Verdict State
   all = inSequence (pesRules edition (roomsOf before) i p state.Av1) st
 
-  module _ (v : ExtractionTurn) (mid : Outputs) (closed : Turns (v .outcome) (closePes (st .extraction))
-      (UnitsStand before mid (v .extraction))) where
+  module _ (v : ExtractionResult) (mid : Outputs) (closed : Refines (v .outcome) (closePes (st .extraction))
+      (UnitsRepresent before mid (v .extraction))) where
     -- the closing refused
-    pub starts-refused : (q : Refused) → v .outcome ≡ outcome.Refused q → (after : Outputs) → PesTurn before
+    pub starts-refused : (q : Refused) → v .outcome ≡ outcome.Refused q → (after : Outputs) → PesRefines before
         (pesRules edition (roomsOf before) i p state.Av1) st v after
     unfolding onUnits _>>=_
     starts-refused q k after =
-        turn-refused all _ (v .outcome) q k
+        refines-refused all _ (v .outcome) q k
         (sym (starts edition (roomsOf before) i p st (is .carries) (is .starts)
         ∙ ap (λ (y : Verdict state.Extraction). (y >>= λ x. passed (withExtraction x st)) >>= inSequence
         (payloadRules edition (roomsOf before) i p state.Av1))
-        (refused-turn (closePes (st .extraction)) (UnitsStand before mid (v .extraction)) (v .outcome) q k closed)))
+        (refused-refines (closePes (st .extraction)) (UnitsRepresent before mid (v .extraction)) (v .outcome) q k closed)))
 
     -- it passed, and the opening follows from the state that it left
-    pub starts-opens : (r : ExtractionTurn) (after : Outputs) → v .outcome ≡ outcome.Passed
-        → ((st1 : State) → st1 .tables ≡ st .tables → UnitsStand before mid (v .extraction) (st1 .extraction)
-        → PesTurn before (payloadRules edition (roomsOf before) i p state.Av1) st1 r after)
-        → PesTurn before (pesRules edition (roomsOf before) i p state.Av1) st r after
+    pub starts-opens : (r : ExtractionResult) (after : Outputs) → v .outcome ≡ outcome.Passed
+        → ((st1 : State) → st1 .tables ≡ st .tables → UnitsRepresent before mid (v .extraction) (st1 .extraction)
+        → PesRefines before (payloadRules edition (roomsOf before) i p state.Av1) st1 r after)
+        → PesRefines before (pesRules edition (roomsOf before) i p state.Av1) st r after
     unfolding onUnits _>>=_
     starts-opens r after k opened =
-        let c = passed-turn (closePes (st .extraction)) (UnitsStand before mid (v .extraction)) (v .outcome) k closed in
+        let c = passed-refines (closePes (st .extraction)) (UnitsRepresent before mid (v .extraction)) (v .outcome) k closed in
         let st1 = withExtraction (c .0) st in
-        turn-as (inSequence (payloadRules edition (roomsOf before) i p state.Av1) st1)
-        (λ st′. (st′ .tables ≡ st .tables) × UnitsStand before after (r .extraction) (st′ .extraction)) all (r .outcome)
+        refines-as (inSequence (payloadRules edition (roomsOf before) i p state.Av1) st1)
+        (λ st′. (st′ .tables ≡ st .tables) × UnitsRepresent before after (r .extraction) (st′ .extraction)) all (r .outcome)
         (sym (starts edition (roomsOf before) i p st (is .carries) (is .starts)
         ∙ ap (λ (y : Verdict state.Extraction). (y >>= λ x. passed (withExtraction x st)) >>= inSequence
         (payloadRules edition (roomsOf before) i p state.Av1)) (c .1)))
@@ -406,7 +410,7 @@ module _ (edition : Edition) (i : ℕ) (p w : Bytes) (st : State) (before : Outp
 -- ---- a payload that goes on with the open PES
 module _ (edition : Edition) (i : ℕ) (p w : Bytes) (st : State) {before : Outputs} {out lens times : List ℕ} {e : Extraction}
     (is : PayloadOf p false w)
-    (s : UnitsStand before (outputsOf out lens times) e (st .extraction)) where
+    (s : UnitsRepresent before (outputsOf out lens times) e (st .extraction)) where
   abbrev more : Verdict State
   more = inSequence (pesRules edition (roomsOf before) i p state.Av1) st
 
@@ -450,9 +454,9 @@ module _ (edition : Edition) (i : ℕ) (p w : Bytes) (st : State) {before : Outp
           (sym (is .same)))
 
       pub adds-right : {out′ : List ℕ} → e .start + e .bytes + length w ≤ length out → out′ ≡ placed out (e .start + e .bytes) w
-          → Turns outcome.Passed more
+          → Refines outcome.Passed more
           (λ st′. (st′ .tables ≡ st .tables)
-          × UnitsStand before (outputsOf out′ lens times) (record {
+          × UnitsRepresent before (outputsOf out′ lens times) (record {
             pes =
                 seen.Open f;
             units = e .units;
@@ -466,5 +470,5 @@ module _ (edition : Edition) (i : ℕ) (p w : Bytes) (st : State) {before : Outp
             withExtraction x′ st,
             sym (added (pass-at i 29 goes-on (pass-at i 31 (ap not k)
                 (pass-at i 8 (bytes-fit s w b) (ap (λ (y : state.Extraction). passed (withExtraction y st)) (sym longer-by)))))),
-            (refl, subst (λ (l : List ℕ). UnitsStand before (outputsOf l lens times) e′ x′) (sym g) stands),
+            (refl, subst (λ (l : List ℕ). UnitsRepresent before (outputsOf l lens times) e′ x′) (sym g) stands),
           )

@@ -20,7 +20,7 @@ use Rattle.segment_rules.proofs.Growing.{Grows, same-units, one-more}
 use Rattle.extraction.specs.declared.state.PesSeen.{PesSeen}
 use Rattle.extraction.specs.declared.state.PesSeen.the-variants as seen
 use Rattle.extraction.specs.declared.units.Extraction.{Extraction}
-use Rattle.extraction.specs.Extraction.{openPes, pesOf, firstOf, firstNoted, UnitsStand}
+use Rattle.extraction.specs.Extraction.{openPes, pesOf, firstOf, firstNoted, UnitsRepresent}
 use Rattle.extraction.proofs.Holding.{length-over, over-one, map-last}
 
 -- ---- as much of a list as there is room for
@@ -72,8 +72,8 @@ first-of : (o : OpenPes) (bytes : Bytes) (p : PesSeen) → pesOf bytes p ≡ som
 first-of o bytes seen.Closed k = let z : _≡_ {A = ℕ} 0 1 = cc in absurd (omega arith)
 first-of o bytes (seen.Open f) k = let same : openPes f bytes ≡ o = cc in ap (λ (q : OpenPes). q .first) same
 
-module _ {before now now′ : Outputs} {e e′ : Extraction} {x x′ : state.Extraction} (s : UnitsStand before now e x)
-    (s′ : UnitsStand before now′ e′ x′) (old firsts : List ℕ) (h : firsts ≡ holdingFirsts (x .units) old) where
+module _ {before now now′ : Outputs} {e e′ : Extraction} {x x′ : state.Extraction} (s : UnitsRepresent before now e x)
+    (s′ : UnitsRepresent before now′ e′ x′) (old firsts : List ℕ) (h : firsts ≡ holdingFirsts (x .units) old) where
   put : (o : OpenPes) → x .pes ≡ some o
       → set firsts (e .units) (firstOf (e .pes)) ≡ holdingFirsts (x .units ++ (unitOf o ∷ [])) old
   put o at =

@@ -1,4 +1,5 @@
--- The code's places and the three outputs against what has been extracted (`UnitsStand`): at the start, after a payload's bytes, after a
+-- The code's places and the three outputs against what has been extracted (`UnitsRepresent`): at the start, after a payload's bytes, after
+-- a
 -- unit's end.
 -- Assumes nothing.
 use Prim.Native.Nat.{ℕ, suc, _+_, _*_, _≤_, _<_}
@@ -18,7 +19,7 @@ use Rattle.extraction.specs.declared.state.PesFound.{PesFound}
 use Rattle.extraction.specs.declared.state.PesSeen.{PesSeen}
 use Rattle.extraction.specs.declared.state.PesSeen.the-variants as seen
 use Rattle.extraction.specs.declared.units.Extraction.{Extraction}
-use Rattle.extraction.specs.Extraction.{openPes, pesOf, freshExtraction, unitsBegun, Fits, UnitsStand}
+use Rattle.extraction.specs.Extraction.{openPes, pesOf, freshExtraction, unitsBegun, Fits, UnitsRepresent}
 
 -- ---- what stands over the front of an output
 pub length-over : (w b : List ℕ) → length w ≤ length b → length (over w b) ≡ length b
@@ -68,7 +69,7 @@ length-lengths [] = refl
 length-lengths (u ∷ l) = ap suc (length-lengths l)
 
 -- ---- the outputs keep their lengths
-module _ {before now : Outputs} {e : Extraction} {x : state.Extraction} (s : UnitsStand before now e x) where
+module _ {before now : Outputs} {e : Extraction} {x : state.Extraction} (s : UnitsRepresent before now e x) where
   pub written : e .start + e .bytes ≡ length (carriedSoFar x)
   written = omega (arith, s .start, s .bytes, length-append (carriedUnits (x .units)) (openBytes (x .pes)))
 
@@ -127,7 +128,7 @@ module _ {before now : Outputs} {e : Extraction} {x : state.Extraction} (s : Uni
       ∙ take-append-seam unit tail
 
 -- ---- at the start
-pub units-start : (before : Outputs) → UnitsStand before before freshExtraction noUnits
+pub units-start : (before : Outputs) → UnitsRepresent before before freshExtraction noUnits
 unfolding flatten
 units-start before =
     record {
@@ -141,7 +142,7 @@ units-start before =
 
 -- ---- a payload's bytes
 module _ {before : Outputs} {out lens times : List ℕ} {e : Extraction} {x : state.Extraction}
-    (s : UnitsStand before (outputsOf out lens times) e x) (w : Bytes) where
+    (s : UnitsRepresent before (outputsOf out lens times) e x) (w : Bytes) where
   -- in the output behind what stands there
   put-behind : placed out (e .start + e .bytes) w ≡ over (carriedSoFar x ++ w) (before .bytes)
   put-behind =
@@ -159,7 +160,7 @@ module _ {before : Outputs} {out lens times : List ℕ} {e : Extraction} {x : st
   pub stands-opened : (f : PesFound) → e .pes ≡ seen.Closed → e .start + e .bytes + length w ≤ length (before .bytes) → e .units + 1 ≤
       length (before .lens)
       → 2 * (e .units + 1) ≤ length (before .times)
-      → UnitsStand before (outputsOf (placed out (e .start + e .bytes) w) lens times)
+      → UnitsRepresent before (outputsOf (placed out (e .start + e .bytes) w) lens times)
       (record { pes = seen.Open f; units = e .units; start = e .start + e .bytes; bytes = length w }) (withPes (openPes f w) x)
   stands-opened f c b l t =
       record {
@@ -173,7 +174,7 @@ module _ {before : Outputs} {out lens times : List ℕ} {e : Extraction} {x : st
 
   -- the open PES goes on with them
   pub stands-added : (f : PesFound) → e .pes ≡ seen.Open f → e .start + e .bytes + length w ≤ length (before .bytes)
-      → UnitsStand before (outputsOf (placed out (e .start + e .bytes) w) lens times)
+      → UnitsRepresent before (outputsOf (placed out (e .start + e .bytes) w) lens times)
       (record { pes = seen.Open f; units = e .units; start = e .start; bytes = e .bytes + length w })
       (withPes (openPes f (openBytes (x .pes) ++ w)) x)
   stands-added f o b =
@@ -195,7 +196,7 @@ module _ {before : Outputs} {out lens times : List ℕ} {e : Extraction} {x : st
 
 -- ---- a unit's end
 module _ {before : Outputs} {out lens times : List ℕ} {e : Extraction} {x : state.Extraction}
-    (s : UnitsStand before (outputsOf out lens times) e x) (f : PesFound)
+    (s : UnitsRepresent before (outputsOf out lens times) e x) (f : PesFound)
     (o : e .pes ≡ seen.Open f) (p d : ℕ) (pair : p ∷ d ∷ [] ≡ ptsAndDts (f .header .times)) where
   abbrev unit : AccessUnit
   unit = unitOf (openPes f (openBytes (x .pes)))
@@ -223,7 +224,7 @@ module _ {before : Outputs} {out lens times : List ℕ} {e : Extraction} {x : st
       ∙ ap (λ (l : List ℕ). over l (before .times))
       (append-assoc t (p ∷ []) (d ∷ []) ∙ ap (λ (l : List ℕ). t ++ l) pair ∙ sym (flatten-last (λ u. ptsAndDts (u .times)) (x .units) unit))
 
-  pub stands-closed : UnitsStand before (outputsOf out (set lens (e .units) (e .bytes))
+  pub stands-closed : UnitsRepresent before (outputsOf out (set lens (e .units) (e .bytes))
       (set (set times (2 * e .units) p) (2 * e .units + 1) d))
       (record { pes = seen.Closed; units = e .units + 1; start = e .start + e .bytes; bytes = 0 }) (withUnit unit x)
   stands-closed =

@@ -35,17 +35,17 @@ use Rattle.tables.specs.declared.state.Kind.the-variants as kinds
 use Rattle.tables.specs.declared.state.Outcome.{Outcome}
 use Rattle.tables.specs.declared.state.Outcome.the-variants as outcome
 use Rattle.tables.specs.declared.tables.Tables.{Tables}
-use Rattle.tables.specs.declared.tables.TablesTurn.{TablesTurn}
-use Rattle.tables.specs.Tables.{Turns, placedAt, recordIn, lastRepeated, streamsIn, LiesAt, packetAt, TablesStand, CarriesOut}
+use Rattle.tables.specs.declared.tables.TablesResult.{TablesResult}
+use Rattle.tables.specs.Tables.{Refines, placedAt, recordIn, lastRepeated, streamsIn, LiesAt, packetAt, TablesRepresent, CarriesOut}
 use Rattle.tables.specs.Tables.{kindSays, SlotOf}
 use Rattle.tables.proofs.Standing.{pids-stand}
 use Rattle.tables.proofs.Counting.{kind-repeats, kept-pids}
-use Rattle.tables.proofs.Turning.{turn-refused, refused-turn, passed-turn, turn-at, turn-as, turn-also, turn-then}
+use Rattle.tables.proofs.Refining.{refines-refused, refused-refines, passed-refines, refines-at, refines-as, refines-also, refines-then}
 use Rattle.extraction.specs.declared.units.Extraction.{Extraction}
-use Rattle.extraction.specs.declared.units.ExtractionTurn.{ExtractionTurn}
+use Rattle.extraction.specs.declared.units.ExtractionResult.{ExtractionResult}
 use Rattle.extraction.specs.declared.packets.Stepped.{Stepped}
-use Rattle.extraction.specs.Extraction.{UnitsStand, StateStands, noRoom}
-use Rattle.extraction.specs.Parts.{PesTurn, isTaken}
+use Rattle.extraction.specs.Extraction.{UnitsRepresent, StateRepresents, noRoom}
+use Rattle.extraction.specs.Parts.{PesRefines, isTaken}
 
 -- ---- where the payload lies
 -- bytes that end at a place of the segment
@@ -138,47 +138,50 @@ module _ (edition : Edition) (rooms : Rooms) (i : ℕ) (p : Bytes) where
   two-parts k st h e = ap (λ (v : Verdict State). v >>= unlessRepeat p (inSequence (after24 edition rooms i p k))) (up-to-24 i p st ∙ rw e)
 
 module _ {edition : Edition} {segment : Bytes} {before now : Outputs} {c : Tables} {e : Extraction} {st : State}
-    (s : StateStands edition segment before now c e st)
+    (s : StateRepresents edition segment before now c e st)
     (i : ℕ) (p : Bytes) (h : hasPayload p ≡ true) (k : Kind) where
   -- an AV1 payload
-  pub content-taken : (r : ExtractionTurn) (after : Outputs) → isAv1 (kindSays k) ≡ true → PesTurn before
+  pub content-taken : (r : ExtractionResult) (after : Outputs) → isAv1 (kindSays k) ≡ true → PesRefines before
       (pesRules edition (roomsOf before) i p state.Av1) st r after
-      → Turns (r .outcome) (inSequence (after24 edition (roomsOf before) i p (kindSays k)) st)
-      (StateStands edition segment before after c (r .extraction))
+      → Refines (r .outcome) (inSequence (after24 edition (roomsOf before) i p (kindSays k)) st)
+      (StateRepresents edition segment before after c (r .extraction))
   content-taken r after a t =
-      turn-as (inSequence (pesRules edition (roomsOf before) i p state.Av1) st) (StateStands edition segment before after c (r .extraction))
+      refines-as (inSequence (pesRules edition (roomsOf before) i p state.Av1) st) (StateRepresents edition segment before after c
+      (r .extraction))
       _ (r .outcome)
       (sym (content-av1 edition (roomsOf before) i p st)
       ∙ ap (λ (x : state.Kind). inSequence (after24 edition (roomsOf before) i p x) st) (sym (av1-kind (kindSays k) a)))
-      (turn-also (inSequence (pesRules edition (roomsOf before) i p state.Av1) st)
-      (λ st′. (st′ .tables ≡ st .tables) × UnitsStand before after (r .extraction) (st′ .extraction))
-      (StateStands edition segment before after c (r .extraction)) (r .outcome) t
-      (λ st′ _ u. record { tables = subst (TablesStand edition segment c) (sym (u .0)) (s .tables); extraction = u .1 }))
+      (refines-also (inSequence (pesRules edition (roomsOf before) i p state.Av1) st)
+      (λ st′. (st′ .tables ≡ st .tables) × UnitsRepresent before after (r .extraction) (st′ .extraction))
+      (StateRepresents edition segment before after c (r .extraction)) (r .outcome) t
+      (λ st′ _ u. record { tables = subst (TablesRepresent edition segment c) (sym (u .0)) (s .tables); extraction = u .1 }))
 
   -- a section
-  pub content-read : Named (st .tables) → (r : TablesTurn) (b : Bool) (w : Bytes) (o : Outcome) → isAv1 (kindSays k) ≡ false → b ≡
+  pub content-read : Named (st .tables) → (r : TablesResult) (b : Bool) (w : Bytes) (o : Outcome) → isAv1 (kindSays k) ≡ false → b ≡
       payloadUnitStartIndicator p → w ≡ payload p
       → o ≡ placedAt i (r .outcome) → CarriesOut edition segment c r (sectionRead edition (kindSays k) b w)
-      → Turns o (inSequence (after24 edition (roomsOf before) i p (kindSays k)) st) (StateStands edition segment before now (r .tables) e)
+      → Refines o (inSequence (after24 edition (roomsOf before) i p (kindSays k)) st) (StateRepresents edition segment before now
+      (r .tables) e)
   content-read n r b w o a f g m t =
       let read = sectionRead edition (kindSays k) (payloadUnitStartIndicator p) (payload p) (st .tables) in
-      let turn : Turns (r .outcome) read (TablesStand edition segment (r .tables)) =
-      turn-as _ (TablesStand edition segment (r .tables)) read (r .outcome)
+      let turn : Refines (r .outcome) read (TablesRepresent edition segment (r .tables)) =
+      refines-as _ (TablesRepresent edition segment (r .tables)) read (r .outcome)
       (ap₂ (λ (x : Bool) (y : Bytes). sectionRead edition (kindSays k) x y (st .tables)) f g) (t (st .tables) n (s .tables)) in
-      subst (λ (x : Outcome). Turns x (inSequence (after24 edition (roomsOf before) i p (kindSays k)) st)
-      (StateStands edition segment before now (r .tables) e)) (sym m)
-      (turn-as _ (StateStands edition segment before now (r .tables) e) _ (placedAt i (r .outcome))
+      subst (λ (x : Outcome). Refines x (inSequence (after24 edition (roomsOf before) i p (kindSays k)) st)
+      (StateRepresents edition segment before now (r .tables) e)) (sym m)
+      (refines-as _ (StateRepresents edition segment before now (r .tables) e) _ (placedAt i (r .outcome))
       (sym (content-section edition (roomsOf before) i p (kindSays k) st a h))
-      (turn-then (atPlace i read) (TablesStand edition segment (r .tables)) (StateStands edition segment before now (r .tables) e)
+      (refines-then (atPlace i read) (TablesRepresent edition segment (r .tables)) (StateRepresents edition segment before now
+      (r .tables) e)
       (λ u. withTables u st) (placedAt i (r .outcome))
-      (turn-at read (TablesStand edition segment (r .tables)) i (r .outcome) turn)
+      (refines-at read (TablesRepresent edition segment (r .tables)) i (r .outcome) turn)
       (λ u _ v. record { tables = v; extraction = s .extraction })))
 
 -- ---- a packet that passed 21, 22 and 23
 module _ {edition : Edition} {segment : Bytes} {before now : Outputs} {c : Tables} {e : Extraction} {st : State}
-    (s : StateStands edition segment before now c e st)
-    (n : Named (st .tables)) (i : ℕ) (p : Bytes) (k : Kind) (h : Header) (right : headerOf p ≡ passed h) (r : TablesTurn)
-    (counts : Turns (r .outcome) (checked i p (clocked i p (st .tables))) (TablesStand edition segment (r .tables))) where
+    (s : StateRepresents edition segment before now c e st)
+    (n : Named (st .tables)) (i : ℕ) (p : Bytes) (k : Kind) (h : Header) (right : headerOf p ≡ passed h) (r : TablesResult)
+    (counts : Refines (r .outcome) (checked i p (clocked i p (st .tables))) (TablesRepresent edition segment (r .tables))) where
   abbrev whole : Verdict State
   whole = packetRules edition (roomsOf before) i p (kindSays k) st
 
@@ -194,15 +197,15 @@ module _ {edition : Edition} {segment : Bytes} {before now : Outputs} {c : Table
       ∙ ap (λ (x : Verdict state.Tables). (x >>= λ t. passed (withTables t st)) >>= unlessRepeat p carries) f
 
   -- 24
-  counter-wrong : (q : Refused) → r .outcome ≡ outcome.Refused q → (S : State → Type 0) → Turns (r .outcome) whole S
+  counter-wrong : (q : Refused) → r .outcome ≡ outcome.Refused q → (S : State → Type 0) → Refines (r .outcome) whole S
   unfolding _>>=_
   counter-wrong q f S =
-      turn-refused whole S (r .outcome) q f (sym (counted-then (refusedBy q)
-      (refused-turn _ (TablesStand edition segment (r .tables)) (r .outcome) q f counts)))
+      refines-refused whole S (r .outcome) q f (sym (counted-then (refusedBy q)
+      (refused-refines _ (TablesRepresent edition segment (r .tables)) (r .outcome) q f counts)))
 
   module _ (f : r .outcome ≡ outcome.Passed) where
-    pub after-24 : (t : state.Tables) × (checked i p (clocked i p (st .tables)) ≡ passed t) × TablesStand edition segment (r .tables) t
-    after-24 = passed-turn _ (TablesStand edition segment (r .tables)) (r .outcome) f counts
+    pub after-24 : (t : state.Tables) × (checked i p (clocked i p (st .tables)) ≡ passed t) × TablesRepresent edition segment (r .tables) t
+    after-24 = passed-refines _ (TablesRepresent edition segment (r .tables)) (r .outcome) f counts
 
     abbrev next : State
     next = withTables (after-24 .0) st
@@ -210,7 +213,7 @@ module _ {edition : Edition} {segment : Bytes} {before now : Outputs} {c : Table
     pub next-named : Named (next .tables)
     next-named = subst (Holds Named) (after-24 .1) (checked-named i p (clocked i p (st .tables)) (clocked-named i p (st .tables) n))
 
-    pub next-stands : StateStands edition segment before now (r .tables) e next
+    pub next-stands : StateRepresents edition segment before now (r .tables) e next
     next-stands = record { tables = after-24 .2; extraction = s .extraction }
 
     -- the code's record of the packet's kind says whether it is a repeat
@@ -231,29 +234,29 @@ module _ {edition : Edition} {segment : Bytes} {before now : Outputs} {c : Table
     goes = counted-then (passed (after-24 .0)) (after-24 .1)
 
     -- without payload there is nothing more
-    no-content : hasPayload p ≡ false → Turns (r .outcome) whole (StateStands edition segment before now (r .tables) e)
+    no-content : hasPayload p ≡ false → Refines (r .outcome) whole (StateRepresents edition segment before now (r .tables) e)
     no-content b =
-        subst (λ (x : Outcome). Turns x whole (StateStands edition segment before now (r .tables) e)) (sym f)
+        subst (λ (x : Outcome). Refines x whole (StateRepresents edition segment before now (r .tables) e)) (sym f)
         (next, goes ∙ either-way p carries next (content-none edition (roomsOf before) i p (kindSays k) next b), next-stands)
 
     -- nor is there for a repeat
-    no-more : isRepeat p next ≡ true → Turns (r .outcome) whole (StateStands edition segment before now (r .tables) e)
+    no-more : isRepeat p next ≡ true → Refines (r .outcome) whole (StateRepresents edition segment before now (r .tables) e)
     no-more b =
-        subst (λ (x : Outcome). Turns x whole (StateStands edition segment before now (r .tables) e)) (sym f)
+        subst (λ (x : Outcome). Refines x whole (StateRepresents edition segment before now (r .tables) e)) (sym f)
         (next, goes ∙ repeated p carries next b, next-stands)
 
     -- what it carries
-    pub with-content : isRepeat p next ≡ false → (o : Outcome) (S : State → Type 0) → Turns o (carries next) S → Turns o whole S
-    with-content b o S t = turn-as _ S whole o (sym (goes ∙ not-repeated p carries next b)) t
+    pub with-content : isRepeat p next ≡ false → (o : Outcome) (S : State → Type 0) → Refines o (carries next) S → Refines o whole S
+    with-content b o S t = refines-as _ S whole o (sym (goes ∙ not-repeated p carries next b)) t
 
   -- what it carries is not taken: 24, or it passed as it is
   pub not-taken : SlotOf c (h .pid) k → (carried repeat : Bool) → hasPayload p ≡ carried
       → repeat ≡ lastRepeated (recordIn k (r .tables .counters) .last) → isTaken (r .outcome) carried repeat ≡ false
-      → Turns (r .outcome) whole (StateStands edition segment before now (r .tables) e)
+      → Refines (r .outcome) whole (StateRepresents edition segment before now (r .tables) e)
   not-taken l carried repeat has says z = go (r .outcome) refl z
     where
       go : (o : Outcome) → r .outcome ≡ o → isTaken o carried repeat ≡ false
-          → Turns (r .outcome) whole (StateStands edition segment before now (r .tables) e)
+          → Refines (r .outcome) whole (StateRepresents edition segment before now (r .tables) e)
       go outcome.Passed f y =
           case carried
           (λ t. case repeat (λ u. no-more f (sym (next-repeats f l) ∙ sym says ∙ u))
@@ -283,10 +286,10 @@ module _ (edition : Edition) (rooms : Rooms) (segment : Bytes) (i : ℕ) (st : S
   -- 21, 22 or 23
   pub header-refused : (k : state.Kind) (x : Refused) → r ≡ answer.Refused x → (o : Outcome) → o ≡ placedAt i (outcome.Refused x)
       → (S : State → Type 0)
-      → Turns o (packetRules edition rooms i (packetAt segment i) k st) S
+      → Refines o (packetRules edition rooms i (packetAt segment i) k st) S
   unfolding packetRules atPlace _>>_ _>>=_
   header-refused k x f o g S =
-      turn-refused (packetRules edition rooms i (packetAt segment i) k st) S o (record { why = x .why; place = i }) g
+      refines-refused (packetRules edition rooms i (packetAt segment i) k st) S o (record { why = x .why; place = i }) g
       (sym (ap (λ (v : Verdict State). v >>= unlessRepeat (packetAt segment i)
       (inSequence (after24 edition rooms i (packetAt segment i) k)))
       (up-to-24 i (packetAt segment i) st
@@ -300,13 +303,13 @@ module _ (edition : Edition) (rooms : Rooms) (segment : Bytes) (i : ℕ) (st : S
 -- of the kind that its PID is
 pub packet-kind : (edition : Edition) (rooms : Rooms) (p : Bytes) (i : ℕ) (st : State) (h : Header) (k : Kind) (r : Stepped)
     (S : State → Type 0) → headerOf p ≡ passed h
-    → kindSays k ≡ kindOf (st .tables) (h .pid) → r .kind ≡ k → Turns (r .outcome) (packetRules edition rooms i p (kindSays k) st) S
-    → Turns (r .outcome) (packetRules edition rooms i p (kindOf (st .tables) (pid p)) st)
+    → kindSays k ≡ kindOf (st .tables) (h .pid) → r .kind ≡ k → Refines (r .outcome) (packetRules edition rooms i p (kindSays k) st) S
+    → Refines (r .outcome) (packetRules edition rooms i p (kindOf (st .tables) (pid p)) st)
     (λ st′. S st′ × (kindSays (r .kind) ≡ kindOf (st .tables) (pid p)))
 packet-kind edition rooms p i st h k r S right e f t =
     let same : kindSays k ≡ kindOf (st .tables) (pid p) = e ∙ ap (λ (x : Header). kindOf (st .tables) (x .pid)) (passed-fields p h right) in
-    turn-as _ (λ st′. S st′ × (kindSays (r .kind) ≡ kindOf (st .tables) (pid p))) _ (r .outcome)
+    refines-as _ (λ st′. S st′ × (kindSays (r .kind) ≡ kindOf (st .tables) (pid p))) _ (r .outcome)
     (ap (λ (x : state.Kind). packetRules edition rooms i p x st) same)
-    (turn-also (packetRules edition rooms i p (kindSays k) st) S (λ st′. S st′ × (kindSays (r .kind) ≡ kindOf (st .tables) (pid p)))
+    (refines-also (packetRules edition rooms i p (kindSays k) st) S (λ st′. S st′ × (kindSays (r .kind) ≡ kindOf (st .tables) (pid p)))
     (r .outcome) t
     (λ st′ _ z. (z, ap kindSays f ∙ same)))

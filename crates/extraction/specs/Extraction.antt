@@ -19,12 +19,12 @@ use Rattle.tables.specs.declared.state.Outcome.{Outcome}
 use Rattle.tables.specs.declared.state.Outcome.the-variants.{Refused}
 use Rattle.tables.specs.declared.state.Kind.the-variants as kinds
 use Rattle.tables.specs.declared.tables.Tables.{Tables}
-use Rattle.tables.specs.Tables.{Turns, packetAt, TablesStand, kindSays}
+use Rattle.tables.specs.Tables.{Refines, packetAt, TablesRepresent, kindSays}
 use Rattle.extraction.specs.declared.state.PesFound.{PesFound}
 use Rattle.extraction.specs.declared.state.PesSeen.{PesSeen}
 use Rattle.extraction.specs.declared.state.PesSeen.the-variants as seen
 use Rattle.extraction.specs.declared.units.Extraction.{Extraction}
-use Rattle.extraction.specs.declared.units.ExtractionTurn.{ExtractionTurn}
+use Rattle.extraction.specs.declared.units.ExtractionResult.{ExtractionResult}
 use Rattle.extraction.specs.declared.packets.Stepped.{Stepped}
 
 -- ---- the units
@@ -63,7 +63,7 @@ holdingSoFar x before =
     }
 
 -- the code's places and the outputs, which were `before` at first, hold what has been extracted
-pub record UnitsStand (before now : Outputs) (e : Extraction) (x : state.Extraction) : Type 0 where
+pub record UnitsRepresent (before now : Outputs) (e : Extraction) (x : state.Extraction) : Type 0 where
   pub pes : x .pes ≡ pesOf (openBytes (x .pes)) (e .pes)
   pub units : e .units ≡ length (x .units)
   pub start : e .start ≡ length (carriedUnits (x .units))
@@ -72,10 +72,10 @@ pub record UnitsStand (before now : Outputs) (e : Extraction) (x : state.Extract
   pub fits : Fits e (roomsOf before)
 
 -- the closing of a PES
-abbrev pub ClosingTurn : Extraction → Outputs → ExtractionTurn → Outputs → Type 0
-ClosingTurn e now r after =
-    (before : Outputs) (x : state.Extraction) → UnitsStand before now e x
-    → Turns (r .outcome) (closePes x) (UnitsStand before after (r .extraction))
+abbrev pub ClosingRefines : Extraction → Outputs → ExtractionResult → Outputs → Type 0
+ClosingRefines e now r after =
+    (before : Outputs) (x : state.Extraction) → UnitsRepresent before now e x
+    → Refines (r .outcome) (closePes x) (UnitsRepresent before after (r .extraction))
 
 -- ---- the packets that began the units
 -- the packet that began the open PES
@@ -88,19 +88,19 @@ abbrev pub firstNoted : Extraction → Extraction → List ℕ → List ℕ
 firstNoted e e′ firsts = pick (ltb (e .units) (e′ .units)) (set firsts (e .units) (firstOf (e .pes))) firsts
 
 -- ---- the tables and the units
-pub record StateStands (edition : Edition) (segment : Bytes) (before now : Outputs) (c : Tables) (e : Extraction)
+pub record StateRepresents (edition : Edition) (segment : Bytes) (before now : Outputs) (c : Tables) (e : Extraction)
     (st : State) : Type 0 where
-  pub tables : TablesStand edition segment c (st .tables)
-  pub extraction : UnitsStand before now e (st .extraction)
+  pub tables : TablesRepresent edition segment c (st .tables)
+  pub extraction : UnitsRepresent before now e (st .extraction)
 
 module _ (edition : Edition) (segment : Bytes) where
   -- a packet
-  abbrev pub PacketTurn : ℕ → Tables → Extraction → Outputs → Stepped → Outputs → Type 0
-  PacketTurn i c e now r after =
-      (before : Outputs) (st : State) → Named (st .tables) → StateStands edition segment before now c e st
-      → Turns (r .outcome)
+  abbrev pub PacketRefines : ℕ → Tables → Extraction → Outputs → Stepped → Outputs → Type 0
+  PacketRefines i c e now r after =
+      (before : Outputs) (st : State) → Named (st .tables) → StateRepresents edition segment before now c e st
+      → Refines (r .outcome)
       (packetRules edition (roomsOf before) i (packetAt segment i) (kindOf (st .tables) (pid (packetAt segment i))) st)
-      (λ st′. StateStands edition segment before after (r .tables) (r .extraction) st′
+      (λ st′. StateRepresents edition segment before after (r .tables) (r .extraction) st′
       × (kindSays (r .kind) ≡ kindOf (st .tables) (pid (packetAt segment i))))
 
 -- ---- what is handed in to a public function
@@ -118,7 +118,7 @@ isOutside size i e rooms = ltb size (i * packetLength + packetLength) || isBeyon
 abbrev pub noRoom : ℕ → Outcome
 noRoom place = Refused (record { why = record { number = 8 }; place = place })
 
-abbrev pub ClosesBeyond : Extraction → Outputs → ExtractionTurn → Outputs → Type 0
+abbrev pub ClosesBeyond : Extraction → Outputs → ExtractionResult → Outputs → Type 0
 ClosesBeyond e now r after =
     isBeyond e (roomsOf now) ≡ true → (r ≡ record { extraction = e; outcome = noRoom 0 }) × (after ≡ now)
 

@@ -22,13 +22,13 @@ use Rattle.tables.specs.declared.state.Packet.{Packet}
 use Rattle.tables.specs.declared.state.Outcome.{Outcome}
 use Rattle.tables.specs.declared.state.Outcome.the-variants.{Passed, Refused}
 use Rattle.tables.specs.declared.tables.Tables.{Tables}
-use Rattle.tables.specs.Tables.{Turns, packetAt, kindSays, SlotOf}
+use Rattle.tables.specs.Tables.{Refines, packetAt, kindSays, SlotOf}
 use Rattle.extraction.specs.declared.state.PesSeen.the-variants as seen
 use Rattle.extraction.specs.declared.outputs.Rooms as outputs
 use Rattle.extraction.specs.declared.units.Extraction.{Extraction}
-use Rattle.extraction.specs.declared.units.ExtractionTurn.{ExtractionTurn}
+use Rattle.extraction.specs.declared.units.ExtractionResult.{ExtractionResult}
 use Rattle.extraction.specs.declared.packets.Stepped.{Stepped}
-use Rattle.extraction.specs.Extraction.{UnitsStand, StateStands}
+use Rattle.extraction.specs.Extraction.{UnitsRepresent, StateRepresents}
 
 -- ---- the units
 -- the times of a header are not there
@@ -41,7 +41,7 @@ abbrev pub roomsSay : outputs.Rooms → Rooms
 roomsSay rooms = record { bytes = rooms .bytes; lens = rooms .lens; times = rooms .times }
 
 -- the code's rooms are those of these outputs
-pub record RoomsStand (rooms : outputs.Rooms) (o : Outputs) : Type 0 where
+pub record RoomsRepresent (rooms : outputs.Rooms) (o : Outputs) : Type 0 where
   pub bytes : rooms .bytes ≡ length (o .bytes)
   pub lens : rooms .lens ≡ length (o .lens)
   pub times : rooms .times ≡ length (o .times)
@@ -53,8 +53,8 @@ pub record HasRoom (e : Extraction) (bytes : ℕ) (rooms : outputs.Rooms) : Type
   pub inTimes : 2 * (e .units + 1) ≤ rooms .times
 
 -- the verdict on the unit of a PES that closes
-abbrev pub JudgeTurn : OpenPes → Outcome → Type 0
-JudgeTurn o r = (x : state.Extraction) → Turns r (closeOpen o x) (λ x′. x′ ≡ withUnit (unitOf o) x)
+abbrev pub JudgeRefines : OpenPes → Outcome → Type 0
+JudgeRefines o r = (x : state.Extraction) → Refines r (closeOpen o x) (λ x′. x′ ≡ withUnit (unitOf o) x)
 
 -- ---- an AV1 payload
 -- w is the payload of packet p, which has this payload start
@@ -64,35 +64,36 @@ pub record PayloadOf (p : Bytes) (startFlag : Bool) (w : Bytes) : Type 0 where
   pub same : w ≡ payload p
 
 -- rules of a PES, which leave the tables
-abbrev pub PesTurn : Outputs → List Rule → State → ExtractionTurn → Outputs → Type 0
-PesTurn before rules st r after =
-    Turns (r .outcome) (inSequence rules st)
-    (λ st′. (st′ .tables ≡ st .tables) × UnitsStand before after (r .extraction) (st′ .extraction))
+abbrev pub PesRefines : Outputs → List Rule → State → ExtractionResult → Outputs → Type 0
+PesRefines before rules st r after =
+    Refines (r .outcome) (inSequence rules st)
+    (λ st′. (st′ .tables ≡ st .tables) × UnitsRepresent before after (r .extraction) (st′ .extraction))
 
 -- 31, 34, 8 of a payload with which a PES is to open, and which has so many bytes behind its header
-abbrev pub MayOpenTurn : ℕ → ℕ → Bool → Extraction → outputs.Rooms → Outcome → Type 0
-MayOpenTurn i bytes pcrSeen e rooms r =
-    (before now : Outputs) (p w : Bytes) (st : State) → RoomsStand rooms now → PayloadOf p true w
-    → bytes ≡ length (pesData w) → isPcr (st .tables .pcr) ≡ pcrSeen → UnitsStand before now e (st .extraction)
-    → Turns r
+abbrev pub MayOpenRefines : ℕ → ℕ → Bool → Extraction → outputs.Rooms → Outcome → Type 0
+MayOpenRefines i bytes pcrSeen e rooms r =
+    (before now : Outputs) (p w : Bytes) (st : State) → RoomsRepresent rooms now → PayloadOf p true w
+    → bytes ≡ length (pesData w) → isPcr (st .tables .pcr) ≡ pcrSeen → UnitsRepresent before now e (st .extraction)
+    → Refines r
     (inSequence (rule31 i p state.Av1 ∷ rule34 i p state.Av1 ∷ rule8 i p state.Av1 (roomsOf before) ∷ []) st)
     (λ st′. st′ ≡ st)
 
 module _ (edition : Edition) where
   -- a PES opens with a payload, no other being open
-  abbrev pub OpeningTurn : ℕ → Bytes → Bool → Extraction → outputs.Rooms → Bytes → ExtractionTurn → Bytes → Type 0
-  OpeningTurn i w pcrSeen e rooms out r out′ =
-      (before : Outputs) (lens times : List ℕ) (p : Bytes) (st : State) → RoomsStand rooms (outputsOf out lens times)
+  abbrev pub OpeningRefines : ℕ → Bytes → Bool → Extraction → outputs.Rooms → Bytes → ExtractionResult → Bytes → Type 0
+  OpeningRefines i w pcrSeen e rooms out r out′ =
+      (before : Outputs) (lens times : List ℕ) (p : Bytes) (st : State)
+      → RoomsRepresent rooms (outputsOf out lens times)
       → PayloadOf p true w → isPcr (st .tables .pcr) ≡ pcrSeen → e .pes ≡ seen.Closed
-      → UnitsStand before (outputsOf out lens times) e (st .extraction)
-      → PesTurn before (payloadRules edition (roomsOf before) i p state.Av1) st r (outputsOf out′ lens times)
+      → UnitsRepresent before (outputsOf out lens times) e (st .extraction)
+      → PesRefines before (payloadRules edition (roomsOf before) i p state.Av1) st r (outputsOf out′ lens times)
 
   -- an AV1 payload: the rules of a PES
-  abbrev pub PayloadTurn : Bool → ℕ → Bytes → Bool → Extraction → Outputs → ExtractionTurn → Outputs → Type 0
-  PayloadTurn startFlag i w pcrSeen e now r after =
+  abbrev pub PayloadRefines : Bool → ℕ → Bytes → Bool → Extraction → Outputs → ExtractionResult → Outputs → Type 0
+  PayloadRefines startFlag i w pcrSeen e now r after =
       (before : Outputs) (p : Bytes) (st : State) → PayloadOf p startFlag w → isPcr (st .tables .pcr) ≡ pcrSeen
-      → UnitsStand before now e (st .extraction)
-      → PesTurn before (pesRules edition (roomsOf before) i p state.Av1) st r after
+      → UnitsRepresent before now e (st .extraction)
+      → PesRefines before (pesRules edition (roomsOf before) i p state.Av1) st r after
 
 -- ---- a packet
 -- what it carries is taken: it passed 24, has payload and is no repeat
@@ -102,21 +103,21 @@ isTaken (Refused q) carries repeat = false
 
 module _ (edition : Edition) (segment : Bytes) where
   -- what a packet does, from a state for which the code's stands, is this rule of the definitions
-  abbrev pub RuleTurn : Outputs → Rule → Tables → Extraction → Outputs → Stepped → Outputs → Type 0
-  RuleTurn before rule c e now r after =
-      (st : State) → Named (st .tables) → StateStands edition segment before now c e st
-      → Turns (r .outcome) (rule st) (StateStands edition segment before after (r .tables) (r .extraction))
+  abbrev pub RuleRefines : Outputs → Rule → Tables → Extraction → Outputs → Stepped → Outputs → Type 0
+  RuleRefines before rule c e now r after =
+      (st : State) → Named (st .tables) → StateRepresents edition segment before now c e st
+      → Refines (r .outcome) (rule st) (StateRepresents edition segment before after (r .tables) (r .extraction))
 
   -- a packet with payload that passed 24
-  abbrev pub ContentTurn : Packet → Tables → Extraction → Outputs → Stepped → Outputs → Type 0
-  ContentTurn k c e now r after =
+  abbrev pub ContentRefines : Packet → Tables → Extraction → Outputs → Stepped → Outputs → Type 0
+  ContentRefines k c e now r after =
       (before : Outputs) (p : Bytes) → p ≡ packetAt segment (k .index) → k .header ≡ fields p → hasPayload p ≡ true
-      → RuleTurn before (inSequence (after24 edition (roomsOf before) (k .index) p (kindSays (k .kind)))) c e now r
+      → RuleRefines before (inSequence (after24 edition (roomsOf before) (k .index) p (kindSays (k .kind)))) c e now r
       after
 
   -- a packet that passed 21, 22 and 23
-  abbrev pub ReadTurn : Packet → Tables → Extraction → Outputs → Stepped → Outputs → Type 0
-  ReadTurn k c e now r after =
+  abbrev pub ReadRefines : Packet → Tables → Extraction → Outputs → Stepped → Outputs → Type 0
+  ReadRefines k c e now r after =
       (before : Outputs) (p : Bytes) → p ≡ packetAt segment (k .index) → headerOf p ≡ verdict.passed (k .header)
       → SlotOf c (k .header .pid) (k .kind)
-      → RuleTurn before (packetRules edition (roomsOf before) (k .index) p (kindSays (k .kind))) c e now r after
+      → RuleRefines before (packetRules edition (roomsOf before) (k .index) p (kindSays (k .kind))) c e now r after

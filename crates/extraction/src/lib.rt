@@ -11,7 +11,7 @@ pub use packets::step;
 pub use state::PesFound;
 pub use state::PesSeen;
 pub use units::Extraction;
-pub use units::ExtractionTurn;
+pub use units::ExtractionResult;
 pub use units::close;
 pub use units::fresh_extraction;
 pub use units::note_first;

@@ -7,12 +7,12 @@ ghost use Rattle.descriptor.specs.Naming.{editionSays};
 ghost use Rattle.segment_rules.specs.Rules.{isAv1};
 ghost use Rattle.segment_rules.specs.Check.{outputsOf};
 ghost use Rattle.tables.specs.Tables.{kindSays, packetAt};
-ghost use Rattle.extraction.specs.Extraction.{roomsIn, Fits, isOutside, PacketTurn, StepsOutside};
-ghost use Rattle.extraction.specs.Parts.{roomsSay, isTaken, PayloadTurn, ContentTurn, ReadTurn};
+ghost use Rattle.extraction.specs.Extraction.{roomsIn, Fits, isOutside, PacketRefines, StepsOutside};
+ghost use Rattle.extraction.specs.Parts.{roomsSay, isTaken, PayloadRefines, ContentRefines, ReadRefines};
 use crate::outputs::Rooms;
 use crate::units::Arrival;
 use crate::units::Extraction;
-use crate::units::ExtractionTurn;
+use crate::units::ExtractionResult;
 use crate::units::add;
 use crate::units::beyond;
 use crate::units::start;
@@ -69,9 +69,9 @@ fn take_payload(
     out: &mut [u8],
     lens: &mut [usize],
     times: &mut [u64],
-) -> ExtractionTurn
+) -> ExtractionResult
     requires { ⌜ Fits extraction (roomsIn (now out) (now lens) (now times)) ⌝ }
-    ensures { λ r. ⌜ PayloadTurn (editionSays (arrival .edition)) starts (arrival .index) (now (payload .entry))
+    ensures { λ r. ⌜ PayloadRefines (editionSays (arrival .edition)) starts (arrival .index) (now (payload .entry))
         (arrival .«pcr_seen») extraction
         (outputsOf (now (out .entry)) (now (lens .entry)) (now (times .entry))) r
         (outputsOf (now (out .exit)) (now (lens .exit)) (now (times .exit))) ⌝ }
@@ -94,7 +94,7 @@ fn take_content(
 ) -> Stepped
     requires { ⌜ (packet .index * 188 + 188 ≤ length (now segment))
         × Fits extraction (roomsIn (now out) (now lens) (now times)) ⌝ }
-    ensures { λ r. ⌜ ((edition : Edition) → ContentTurn edition (now (segment .entry)) packet tables extraction
+    ensures { λ r. ⌜ ((edition : Edition) → ContentRefines edition (now (segment .entry)) packet tables extraction
         (outputsOf (now (out .entry)) (now (lens .entry)) (now (times .entry))) r
         (outputsOf (now (out .exit)) (now (lens .exit)) (now (times .exit)))) ⌝ }
     ensures { λ r. ⌜ r .kind ≡ packet .kind ⌝ }
@@ -157,7 +157,7 @@ fn step_read(
 ) -> Stepped
     requires { ⌜ (packet .index * 188 + 188 ≤ length (now segment))
         × Fits extraction (roomsIn (now out) (now lens) (now times)) ⌝ }
-    ensures { λ r. ⌜ ((edition : Edition) → ReadTurn edition (now (segment .entry)) packet tables extraction
+    ensures { λ r. ⌜ ((edition : Edition) → ReadRefines edition (now (segment .entry)) packet tables extraction
         (outputsOf (now (out .entry)) (now (lens .entry)) (now (times .entry))) r
         (outputsOf (now (out .exit)) (now (lens .exit)) (now (times .exit)))) ⌝ }
     ensures { λ r. ⌜ r .kind ≡ packet .kind ⌝ }
@@ -202,7 +202,7 @@ pub fn step(
     times: &mut [u64],
 ) -> Stepped
     ensures { λ r. ⌜ (index * 188 + 188 ≤ length (now (segment .entry)) → (edition : Edition) →
-        PacketTurn edition (now (segment .entry)) index tables extraction
+        PacketRefines edition (now (segment .entry)) index tables extraction
         (outputsOf (now (out .entry)) (now (lens .entry)) (now (times .entry))) r
         (outputsOf (now (out .exit)) (now (lens .exit)) (now (times .exit)))) ⌝ }
     ensures { λ r. ⌜ StepsOutside (now (segment .entry)) index tables extraction

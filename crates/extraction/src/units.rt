@@ -20,17 +20,17 @@ ghost use Rattle.extraction.specs.Extraction.{
   Fits,
   openPes,
   isBeyond,
-  ClosingTurn,
+  ClosingRefines,
   ClosesBeyond,
 };
 ghost use Rattle.extraction.specs.Parts.{
   roomsSay,
   HasRoom,
   isAbsent,
-  JudgeTurn,
-  MayOpenTurn,
-  OpeningTurn,
-  PayloadTurn,
+  JudgeRefines,
+  MayOpenRefines,
+  OpeningRefines,
+  PayloadRefines,
 };
 use crate::outputs::Rooms;
 use crate::outputs::put_unit;
@@ -71,7 +71,7 @@ pub(crate) struct Arrival {
 }
 
 // The units after a packet, and the verdict on it.
-pub struct ExtractionTurn {
+pub struct ExtractionResult {
     pub extraction: Extraction,
     pub outcome: Outcome,
 }
@@ -88,11 +88,11 @@ pub fn fresh_extraction() -> Extraction
     }
 }
 
-fn refuse(why: Refusal, place: usize, extraction: Extraction) -> ExtractionTurn
+fn refuse(why: Refusal, place: usize, extraction: Extraction) -> ExtractionResult
     ensures { λ r. ⌜ r
         ≡ record { extraction = extraction; outcome = Outcome.Refused (record { why = why; place = place }) } ⌝ }
 {
-    ExtractionTurn {
+    ExtractionResult {
         extraction,
         outcome: Outcome::Refused(Refused { why, place }),
     }
@@ -111,7 +111,7 @@ fn length_wrong(header: Header, bytes: usize) -> bool
 
 // The verdict on the unit of a PES that closes: 32, then the reading of the unit.
 fn judge_unit(found: PesFound, unit: &[u8]) -> Outcome
-    ensures { λ r. ⌜ JudgeTurn (openPes found (now (unit .entry))) r ⌝ }
+    ensures { λ r. ⌜ JudgeRefines (openPes found (now (unit .entry))) r ⌝ }
 {
     let header = found.header;
     let place = found.first;
@@ -137,23 +137,23 @@ fn close_open(
     out: &[u8],
     lens: &mut [usize],
     times: &mut [u64],
-) -> ExtractionTurn
+) -> ExtractionResult
     requires { ⌜ Fits extraction (roomsIn (now out) (now lens) (now times)) ⌝ }
-    ensures { λ r. ⌜ ClosingTurn extraction (outputsOf (now (out .entry)) (now (lens .entry)) (now (times .entry))) r
+    ensures { λ r. ⌜ ClosingRefines extraction (outputsOf (now (out .entry)) (now (lens .entry)) (now (times .entry))) r
         (outputsOf (now (out .entry)) (now (lens .exit)) (now (times .exit))) ⌝ }
     ensures { λ r. ⌜ (r .outcome ≡ Outcome.Passed → r .extraction .pes ≡ PesSeen.Closed)
         × (r .extraction .start + r .extraction .bytes ≡ extraction .start + extraction .bytes) ⌝ }
 {
     let pes = extraction.pes;
     let PesSeen::Open(found) = pes else {
-        return ExtractionTurn {
+        return ExtractionResult {
             extraction,
             outcome: Outcome::Passed,
         };
     };
     let outcome = judge_unit(found, part(out, extraction.start, extraction.bytes));
     let Outcome::Passed = outcome else {
-        return ExtractionTurn {
+        return ExtractionResult {
             extraction,
             outcome,
         };
@@ -168,7 +168,7 @@ fn close_open(
         start: extraction.start + extraction.bytes,
         bytes: 0,
     };
-    ExtractionTurn {
+    ExtractionResult {
         extraction: closed,
         outcome: Outcome::Passed,
     }
@@ -216,8 +216,8 @@ pub fn close(
     out: &[u8],
     lens: &mut [usize],
     times: &mut [u64],
-) -> ExtractionTurn
-    ensures { λ r. ⌜ ClosingTurn extraction (outputsOf (now (out .entry)) (now (lens .entry)) (now (times .entry))) r
+) -> ExtractionResult
+    ensures { λ r. ⌜ ClosingRefines extraction (outputsOf (now (out .entry)) (now (lens .entry)) (now (times .entry))) r
         (outputsOf (now (out .entry)) (now (lens .exit)) (now (times .exit))) ⌝ }
     ensures { λ r. ⌜ (r .outcome ≡ Outcome.Passed → r .extraction .pes ≡ PesSeen.Closed) ⌝ }
     ensures { λ r. ⌜ ClosesBeyond extraction (outputsOf (now (out .entry)) (now (lens .entry)) (now (times .entry))) r
@@ -269,7 +269,7 @@ fn may_open(
     rooms: Rooms,
 ) -> Outcome
     requires { ⌜ extraction .start + extraction .bytes ≤ rooms .bytes ⌝ }
-    ensures { λ r. ⌜ MayOpenTurn index bytes «pcr_seen» extraction rooms r ⌝ }
+    ensures { λ r. ⌜ MayOpenRefines index bytes «pcr_seen» extraction rooms r ⌝ }
     ensures { λ r. ⌜ (r ≡ Outcome.Passed → HasRoom extraction bytes rooms) ⌝ }
 {
     if !pcr_seen {
@@ -311,10 +311,10 @@ fn open_with(
     extraction: Extraction,
     out: &mut [u8],
     rooms: Rooms,
-) -> ExtractionTurn
+) -> ExtractionResult
     requires { ⌜ (extraction .start + extraction .bytes ≤ length (now out)) × (rooms .bytes ≡ length (now out)) ⌝ }
     ensures { λ r. ⌜ ((w : List ℕ) → reading w ≡ passed header → now (bytes .entry) ≡ pesData w →
-        OpeningTurn (editionSays (arrival .edition)) (arrival .index) w (arrival .«pcr_seen») extraction rooms
+        OpeningRefines (editionSays (arrival .edition)) (arrival .index) w (arrival .«pcr_seen») extraction rooms
         (now (out .entry)) r (now (out .exit))) ⌝ }
 {
     let edition = arrival.edition;
@@ -325,7 +325,7 @@ fn open_with(
     }
     let outcome = may_open(index, bytes.len(), arrival.pcr_seen, extraction, rooms);
     let Outcome::Passed = outcome else {
-        return ExtractionTurn {
+        return ExtractionResult {
             extraction,
             outcome,
         };
@@ -342,7 +342,7 @@ fn open_with(
         start: written,
         bytes: bytes.len(),
     };
-    ExtractionTurn {
+    ExtractionResult {
         extraction: opened,
         outcome: Outcome::Passed,
     }
@@ -355,14 +355,14 @@ fn open(
     extraction: Extraction,
     out: &mut [u8],
     rooms: Rooms,
-) -> ExtractionTurn
+) -> ExtractionResult
     requires { ⌜ (extraction .start + extraction .bytes ≤ length (now out)) × (rooms .bytes ≡ length (now out)) ⌝ }
-    ensures { λ r. ⌜ OpeningTurn (editionSays (arrival .edition)) (arrival .index) (now (payload .entry))
+    ensures { λ r. ⌜ OpeningRefines (editionSays (arrival .edition)) (arrival .index) (now (payload .entry))
         (arrival .«pcr_seen») extraction rooms (now (out .entry)) r (now (out .exit)) ⌝ }
 {
     let read = pes::read(payload);
     match read {
-        PesRead::Refused(refused) => ExtractionTurn {
+        PesRead::Refused(refused) => ExtractionResult {
             extraction,
             outcome: at_place(arrival.index, Outcome::Refused(refused)),
         },
@@ -381,9 +381,9 @@ pub(crate) fn start(
     out: &mut [u8],
     lens: &mut [usize],
     times: &mut [u64],
-) -> ExtractionTurn
+) -> ExtractionResult
     requires { ⌜ Fits extraction (roomsIn (now out) (now lens) (now times)) ⌝ }
-    ensures { λ r. ⌜ PayloadTurn (editionSays (arrival .edition)) true (arrival .index) (now (payload .entry))
+    ensures { λ r. ⌜ PayloadRefines (editionSays (arrival .edition)) true (arrival .index) (now (payload .entry))
         (arrival .«pcr_seen») extraction
         (outputsOf (now (out .entry)) (now (lens .entry)) (now (times .entry))) r
         (outputsOf (now (out .exit)) (now (lens .exit)) (now (times .exit))) ⌝ }
@@ -408,10 +408,10 @@ pub(crate) fn add(
     payload: &[u8],
     extraction: Extraction,
     out: &mut [u8],
-) -> ExtractionTurn
+) -> ExtractionResult
     requires { ⌜ extraction .start + extraction .bytes ≤ length (now out) ⌝ }
     ensures { λ r. ⌜ ((edition : Edition·rules) (lens times : List ℕ) →
-        PayloadTurn edition false (arrival .index) (now (payload .entry)) (arrival .«pcr_seen») extraction
+        PayloadRefines edition false (arrival .index) (now (payload .entry)) (arrival .«pcr_seen») extraction
         (outputsOf (now (out .entry)) lens times) r (outputsOf (now (out .exit)) lens times)) ⌝ }
 {
     let pes = extraction.pes;
@@ -432,7 +432,7 @@ pub(crate) fn add(
         start: extraction.start,
         bytes: extraction.bytes + payload.len(),
     };
-    ExtractionTurn {
+    ExtractionResult {
         extraction: longer,
         outcome: Outcome::Passed,
     }

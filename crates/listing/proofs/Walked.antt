@@ -11,7 +11,7 @@ use Rattle.refusal.proofs.Verdicts.{never, passed-then}
 use Rattle.tsobu.specs.StartCodes.{payloads}
 use Rattle.unit.specs.Unit.{readUnit, AcceptsAs}
 use Rattle.unit.specs.Answer.{checking}
-use Rattle.tsobu.specs.Walk.{stepping, payload, goesTo, placeAfter, handedOut, stepSays, HandsOut, none, first, Walks}
+use Rattle.tsobu.specs.Walk.{stepping, payload, placeAfterStep, placeAfter, handedOut, stepSays, HandsOut, none, first, Walks}
 use Rattle.tsobu.specs.declared.walking.Part.{Part}
 use Rattle.tsobu.specs.declared.walking.Step.{Step}
 use Rattle.tsobu.specs.declared.walking.Step.the-variants as step
@@ -37,7 +37,7 @@ module _ (unit : Bytes) (at : ℕ) (p : Part) (e : stepping unit at ≡ passed (
   part-is = ap (handedOut unit) (sym e)
 
   goes-on : placeAfter unit at ≡ p .next
-  goes-on = ap (goesTo at) e
+  goes-on = ap (placeAfterStep at) e
 
   pub part-onward : length unit - placeAfter unit at < length unit - at
   part-onward = let h = gives unit at p e in omega (arith, goes-on, h .before-end, h .next)

@@ -22,7 +22,7 @@ use Rattle.packet.specs.declared.counter.Counter.the-variants.{Right}
 use Rattle.packet.specs.declared.counter.Counter.the-variants as answer
 use Rattle.packet.specs.Counter.{StreamRecord, counterRight, named, updated, follows, rightAfter, check, pidsOf}
 use Rattle.packet.specs.Counter.{recordOf, checkedIn, historyAfter, history, latest, repeatsAfter, latestRepeats, Follows}
-use Rattle.packet.specs.Counter.{copyOf, repeats, due, streamAfter, LastStands, Stands, CountedAs, Checks, copied}
+use Rattle.packet.specs.Counter.{copyOf, repeats, due, streamAfter, LastRepresents, Represents, CountedAs, Checks, copied}
 
 -- ---- the check, from the test
 module _ (r : StreamRecord) (p : Bytes) where
@@ -278,14 +278,14 @@ module _ (c : Counted) where
   pub as-equal : c .payload ≡ true → c .discontinuity ≡ false → c .equal ≡ copied c
   as-equal h k = sym (rw (h, k) refl)
 
-module _ (segment : Bytes) (s : Stream) (c : Counted) (r : StreamRecord) (p : Bytes) (stands : Stands segment s r)
+module _ (segment : Bytes) (s : Stream) (c : Counted) (r : StreamRecord) (p : Bytes) (stands : Represents segment s r)
     (reads : CountedAs segment r p c) where
   -- no packet was seen
   module _ (e : s .last ≡ last.Unseen) where
     none-seen : r .last ≡ none
     none-seen = go (s .last) (r .last) e (stands .1)
       where
-        go : (l : Last) (o : Option Bytes) → l ≡ last.Unseen → LastStands segment l o (r .repeat) → o ≡ none
+        go : (l : Last) (o : Option Bytes) → l ≡ last.Unseen → LastRepresents segment l o (r .repeat) → o ≡ none
         go last.Unseen none k h = refl
         go last.Unseen (some q) k h = absurd h
         go (last.Packet n at repeated) o k h = let z : _≡_ {A = ℕ} 0 1 = cc in absurd (omega arith)
@@ -303,7 +303,7 @@ module _ (segment : Bytes) (s : Stream) (c : Counted) (r : StreamRecord) (p : By
     one-seen : (q : Bytes) × (r .last ≡ some q) × (n ≡ continuityCounter q) × (repeated ≡ r .repeat)
     one-seen = go (s .last) (r .last) e (stands .1)
       where
-        go : (l : Last) (o : Option Bytes) → l ≡ last.Packet n at repeated → LastStands segment l o (r .repeat)
+        go : (l : Last) (o : Option Bytes) → l ≡ last.Packet n at repeated → LastRepresents segment l o (r .repeat)
             → (q : Bytes) × (o ≡ some q) × (n ≡ continuityCounter q) × (repeated ≡ r .repeat)
         go last.Unseen o k h = let z : _≡_ {A = ℕ} 0 1 = cc in absurd (omega arith)
         go (last.Packet m place again) none k h = absurd h
@@ -334,7 +334,7 @@ module _ (segment : Bytes) (s : Stream) (c : Counted) (r : StreamRecord) (p : By
 
   -- ---- the answer
   -- the record after the packet
-  after-stands : (repeat : Bool) → repeat ≡ repeats r p → Stands segment (streamAfter s c repeat) (updated r p)
+  after-stands : (repeat : Bool) → repeat ≡ repeats r p → Represents segment (streamAfter s c repeat) (updated r p)
   after-stands repeat e = (stands .0, (ap (λ (d : Counted). d .counter) (reads .0), reads .1, e))
 
   right-by : (repeat : Bool) → repeat ≡ repeats r p → follows r p ≡ true

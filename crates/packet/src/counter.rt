@@ -2,7 +2,7 @@
 ghost use mathlib.Core.Path.{_≡_};
 ghost use Rattle.lists.specs.Lists.{Bytes};
 ghost use Rattle.packet.specs.Counter.{due, counterRight, sameBytes, named, repeats};
-ghost use Rattle.packet.specs.Counter.{counted, copied, namedStream, streamAfter, Stands, Of, Checks};
+ghost use Rattle.packet.specs.Counter.{counted, copied, namedStream, streamAfter, Represents, Of, Checks};
 use crate::header::Header;
 use crate::header::pcr_flag;
 use lists::part;
@@ -111,7 +111,7 @@ fn next_counter(last: u8, payload: bool) -> u8
 impl Stream {
     // The record of a PID that has just been named.
     pub fn named(pid: u16) -> Stream
-        ensures { λ r. ⌜ (r ≡ namedStream pid) × ((segment : Bytes) → Stands segment r (named pid)) ⌝ }
+        ensures { λ r. ⌜ (r ≡ namedStream pid) × ((segment : Bytes) → Represents segment r (named pid)) ⌝ }
     {
         Stream {
             pid,

@@ -20,9 +20,9 @@ use Rattle.pmt.specs.Answer.{mapOf, mapped, pmtSays, noMap, mapBeside}
 use Rattle.pmt.specs.Parts.{loopFound, listOf, listRead, mapFrom, listedMap, bodyMap}
 use Rattle.pmt.specs.declared.loops.Video.{Video}
 use Rattle.pmt.specs.declared.loops.Found.{Found}
-use Rattle.pmt.specs.declared.listing.Av1.{Av1}
-use Rattle.pmt.specs.declared.listing.Av1.the-variants.{Missing, One, Wrong}
-use Rattle.pmt.specs.declared.listing.Listed.{Listed}
+use Rattle.pmt.specs.declared.entries.Av1.{Av1}
+use Rattle.pmt.specs.declared.entries.Av1.the-variants.{Missing, One, Wrong}
+use Rattle.pmt.specs.declared.entries.Listed.{Listed}
 use Rattle.pmt.specs.declared.section.ProgramMap.{ProgramMap}
 use Rattle.pmt.specs.declared.section.PmtRead.{PmtRead}
 use Rattle.pmt.proofs.Finding.{listed-map}

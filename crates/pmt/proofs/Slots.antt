@@ -13,7 +13,7 @@ use Rattle.lists.specs.Lists.{any}
 use Rattle.pmt.specs.Pmt.{MapEntry, pids}
 use Rattle.pmt.specs.Answer.{listed, noEntries, slots}
 use Rattle.pmt.specs.Parts.{pidsIn}
-use Rattle.pmt.specs.declared.listing.Entry.{Entry}
+use Rattle.pmt.specs.declared.entries.Entry.{Entry}
 
 -- ---- a PID is looked for, from slot i on
 -- it is not in the slots before

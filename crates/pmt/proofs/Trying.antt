@@ -17,8 +17,8 @@ use Rattle.descriptor.specs.Edition.{Edition}
 use Rattle.pmt.specs.Pmt.{descriptors, streamType, elementaryPid, esInfoLength, entrySize, esInfo, pidWrong, entry}
 use Rattle.pmt.specs.Parts.{foundIn, loopFound, kindFrom, triedEntry}
 use Rattle.pmt.specs.declared.loops.Found.{Found}
-use Rattle.pmt.specs.declared.listing.Kind.{Kind}
-use Rattle.pmt.specs.declared.listing.Tried.{Tried}
+use Rattle.pmt.specs.declared.entries.Kind.{Kind}
+use Rattle.pmt.specs.declared.entries.Tried.{Tried}
 
 -- ---- what a loop's reading says of its descriptors
 pub refused-first : {A B : Type 0} (v : Verdict A) (f : A → B) (number place : ℕ) → (v >>= λ a. passed (f a)) ≡ refused number place

@@ -17,12 +17,12 @@ use Rattle.pmt.specs.Pmt.{MapEntry, entrySize, entry, pids, mostEntries,
 use Rattle.pmt.specs.Pmt as pmt
 use Rattle.pmt.specs.Answer.{listed, noEntries, slots}
 use Rattle.pmt.specs.Parts.{kindOf, pidsIn, triedEntry, withKind, withAll, listRead}
-use Rattle.pmt.specs.declared.listing.Entry.{Entry}
-use Rattle.pmt.specs.declared.listing.Av1.{Av1}
-use Rattle.pmt.specs.declared.listing.Av1.the-variants.{Missing}
-use Rattle.pmt.specs.declared.listing.Tried.{Tried}
-use Rattle.pmt.specs.declared.listing.ListAnswer.the-variants.{Passed}
-use Rattle.pmt.specs.declared.listing.Listed.{Listed}
+use Rattle.pmt.specs.declared.entries.Entry.{Entry}
+use Rattle.pmt.specs.declared.entries.Av1.{Av1}
+use Rattle.pmt.specs.declared.entries.Av1.the-variants.{Missing}
+use Rattle.pmt.specs.declared.entries.Tried.{Tried}
+use Rattle.pmt.specs.declared.entries.ListAnswer.the-variants.{Passed}
+use Rattle.pmt.specs.declared.entries.Listed.{Listed}
 use Rattle.pmt.proofs.Slots.{pids-in-slots, slots-set}
 use Rattle.pmt.proofs.Trying.{refused-first}
 
@@ -129,10 +129,10 @@ module _ {edition : Edition} {mapPid : ℕ} {s : Bytes} {entries : List Entry} {
           (ap₂ pidsIn (t .slotted) (t .counted) ∙ pids-in-slots (t .before))
           (to-end s at)
 
-      pub turn-refused : triedEntry edition mapPid (pidsIn entries count) (take (length s - at) (drop at s)) ≡ refused 26 0
+      pub refines-refused : triedEntry edition mapPid (pidsIn entries count) (take (length s - at) (drop at s)) ≡ refused 26 0
           → refused 26 0 ≡ listRead edition mapPid s
       unfolding listRead triedEntry
-      turn-refused e =
+      refines-refused e =
           let r : entry mapPid (pids (t .before)) (drop at s) ≡ refused 26 0 = refused-first _ _ 26 0 (sym lent ∙ e) in
           stop 26 0 _ (turn ∙ sym (stop 26 0 _ r))
 

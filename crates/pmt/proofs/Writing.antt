@@ -18,7 +18,7 @@ use Rattle.descriptor.specs.Edition.{current}
 use Rattle.psi.specs.Section.{upToCrc}
 use Rattle.psi.proofs.Writing.{common-right, up-to-crc}
 use Rattle.pmt.specs.Pmt.{MapEntry, MapContent, readPmt, entries, entriesAfter, entry, descriptors, descriptorsWithin, av1Entry}
-use Rattle.pmt.specs.Pmt.{oneAv1, isAv1, strayRegistration, registrationFirst, registrationLater, videoWrong, pidWrong}
+use Rattle.pmt.specs.Pmt.{oneAv1, isAv1, misplacedRegistration, registrationFirst, registrationLater, videoWrong, pidWrong}
 use Rattle.pmt.specs.Writing.{pmtRest, pmt, mapFor}
 
 -- ---- the PMT
@@ -68,7 +68,7 @@ module _ (program mapPid pid a b c f : ℕ) (p0 : pid ≡ 0 → ⊥) (high : pid
   entries-read = rw entry-read
 
   av1-read : av1Entry current (listed ∷ []) ≡ passed listed
-  unfolding av1Entry any strayRegistration registrationLater registrationFirst same those isAv1 oneAv1 videoWrong given pick _>>_
+  unfolding av1Entry any misplacedRegistration registrationLater registrationFirst same those isAv1 oneAv1 videoWrong given pick _>>_
   av1-read = rw fine
 
   abbrev pub mapped : MapContent

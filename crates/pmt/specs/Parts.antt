@@ -21,17 +21,17 @@ use Rattle.pmt.specs.declared.loops.Videos.{Videos}
 use Rattle.pmt.specs.declared.loops.Found.{Found}
 use Rattle.pmt.specs.declared.loops.Loop.{Loop}
 use Rattle.pmt.specs.declared.loops.Loop.the-variants.{Filled, Unfilled}
-use Rattle.pmt.specs.declared.listing.Entry.{Entry}
-use Rattle.pmt.specs.declared.listing.Kind.{Kind}
-use Rattle.pmt.specs.declared.listing.Kind.the-variants.{Other, Right, Stray}
-use Rattle.pmt.specs.declared.listing.Av1.{Av1}
-use Rattle.pmt.specs.declared.listing.Av1.the-variants.{Missing, One, Wrong}
-use Rattle.pmt.specs.declared.listing.Tried.{Tried}
-use Rattle.pmt.specs.declared.listing.TriedEntry.{TriedEntry}
-use Rattle.pmt.specs.declared.listing.TriedEntry.the-variants as tried
-use Rattle.pmt.specs.declared.listing.Listed.{Listed}
-use Rattle.pmt.specs.declared.listing.ListAnswer.{ListAnswer}
-use Rattle.pmt.specs.declared.listing.ListAnswer.the-variants as list
+use Rattle.pmt.specs.declared.entries.Entry.{Entry}
+use Rattle.pmt.specs.declared.entries.Kind.{Kind}
+use Rattle.pmt.specs.declared.entries.Kind.the-variants.{Other, Right, Misplaced}
+use Rattle.pmt.specs.declared.entries.Av1.{Av1}
+use Rattle.pmt.specs.declared.entries.Av1.the-variants.{Missing, One, Wrong}
+use Rattle.pmt.specs.declared.entries.Tried.{Tried}
+use Rattle.pmt.specs.declared.entries.TriedEntry.{TriedEntry}
+use Rattle.pmt.specs.declared.entries.TriedEntry.the-variants as tried
+use Rattle.pmt.specs.declared.entries.Listed.{Listed}
+use Rattle.pmt.specs.declared.entries.ListAnswer.{ListAnswer}
+use Rattle.pmt.specs.declared.entries.ListAnswer.the-variants as list
 use Rattle.pmt.specs.declared.section.ProgramMap.{ProgramMap}
 
 -- ---- one loop of descriptors
@@ -79,10 +79,10 @@ loopFound edition s = descriptors s >>= λ ds. passed (foundIn edition ds)
 -- what an entry with this stream_type and such descriptors is to 28: an AV1 entry, against the rule, or another
 unfoldable pub kindFrom : ℕ → Found → Kind
 kindFrom streamType f =
-    pick (f .later) Stray
+    pick (f .later) Misplaced
     (pick (not (f .first)) Other
-    (pick (not (eqb streamType 0x06)) Stray
-    (pick (f .videos .wrong) Stray (Right (f .videos .first)))))
+    (pick (not (eqb streamType 0x06)) Misplaced
+    (pick (f .videos .wrong) Misplaced (Right (f .videos .first)))))
 
 abbrev pub kindOf : Edition → MapEntry → Kind
 kindOf edition e = kindFrom (e .streamType) (foundIn edition (e .descriptors))
@@ -107,7 +107,7 @@ withKind Other slot a = a
 withKind (Right v) slot Missing = One slot v
 withKind (Right v) slot (One at w) = Wrong
 withKind (Right v) slot Wrong = Wrong
-withKind Stray slot a = Wrong
+withKind Misplaced slot a = Wrong
 
 -- with all these, of which the first stands in this slot
 unfoldable pub withAll : Edition → List MapEntry → ℕ → Av1 → Av1

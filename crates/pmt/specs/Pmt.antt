@@ -132,8 +132,8 @@ module _ (edition : Edition) where
   isAv1 e = eqb (e .streamType) 0x06 && registrationFirst (e .descriptors)
 
   -- 28 "the registration 'AV01' elsewhere in an entry's loop or with stream_type other than 0x06"
-  unfoldable pub strayRegistration : MapEntry → Bool
-  strayRegistration e =
+  unfoldable pub misplacedRegistration : MapEntry → Bool
+  misplacedRegistration e =
       registrationLater (e .descriptors)
       || (registrationFirst (e .descriptors) && not (eqb (e .streamType) 0x06))
 
@@ -145,7 +145,7 @@ module _ (edition : Edition) where
 
   -- the AV1 entry, or 28
   unfoldable pub av1Entry : List MapEntry → Verdict MapEntry
-  av1Entry es = given 28 (any strayRegistration es) >> oneAv1 (those isAv1 es)
+  av1Entry es = given 28 (any misplacedRegistration es) >> oneAv1 (those isAv1 es)
 
 -- ---- the section
 -- what a PMT says: the PCR PID, the entries in order, and which of them is the AV1 entry

@@ -1,9 +1,9 @@
 // The program map table (document 01, "A segment").
-mod listing;
+mod entries;
 mod loops;
 mod section;
 
-pub use listing::Entry;
+pub use entries::Entry;
 pub use loops::Video;
 pub use section::PmtAnswer;
 pub use section::PmtRead;

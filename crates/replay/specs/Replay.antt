@@ -18,7 +18,7 @@ use Rattle.replay.specs.declared.arrival.Arrived.{Arrived}
 use Rattle.replay.specs.declared.arrival.Arrived.the-variants as arrived
 use Rattle.replay.specs.declared.running.Answer.{Answer}
 use Rattle.replay.specs.declared.running.Answer.the-variants as answer
-use Rattle.replay.specs.declared.running.Ran.{Ran}
+use Rattle.replay.specs.declared.running.RunResult.{RunResult}
 
 -- ---- the figures
 -- "27,000,000": the ticks of 27 MHz in a second
@@ -175,5 +175,5 @@ abbrev pub answerSays : Answer → Verdict NoValue
 answerSays answer.Done = passed tt
 answerSays (answer.Refused r) = refusedBy r
 
-abbrev pub ranSays : Ran → Replayed
+abbrev pub ranSays : RunResult → Replayed
 ranSays r = record { verdict = answerSays (r .answer); state = r .state }

@@ -20,23 +20,23 @@ pub enum Answer {
 }
 
 // The answer, and the state that the run left.
-pub struct Ran {
+pub struct RunResult {
     pub answer: Answer,
     pub state: State,
 }
 
 // A refusal, and the state that it leaves.
-fn refuse(why: Refusal, place: usize, state: State) -> Ran
+fn refuse(why: Refusal, place: usize, state: State) -> RunResult
     ensures { λ r. ⌜ ranSays r ≡ refusedAt (numberOf why) place state ⌝ }
 {
-    Ran {
+    RunResult {
         answer: Answer::Refused(Refused { why, place }),
         state,
     }
 }
 
 // The arrivals in turn.
-fn replay_all(state: State, rate: u64, times: &[u64], counts: &[u64]) -> Ran
+fn replay_all(state: State, rate: u64, times: &[u64], counts: &[u64]) -> RunResult
     requires { ⌜ (rateWrong rate ≡ false) × (valid state ≡ true) × (length (now times) ≡ length (now counts)) ⌝ }
     ensures { λ r. ⌜ ranSays r ≡ replayFrom 0 rate state (trace (now (times .entry)) (now (counts .entry))) ⌝ }
 {
@@ -55,14 +55,14 @@ fn replay_all(state: State, rate: u64, times: &[u64], counts: &[u64]) -> Ran
             }
         }
     }
-    Ran {
+    RunResult {
         answer: Answer::Done,
         state: at,
     }
 }
 
 // A run over a trace from a state: the times and the byte counts of its arrivals; 47, and at each arrival 46, 47.
-pub fn run(state: State, rate: u64, times: &[u64], counts: &[u64]) -> Ran
+pub fn run(state: State, rate: u64, times: &[u64], counts: &[u64]) -> RunResult
     ensures { λ r. ⌜ ranSays r ≡ running state rate (now (times .entry)) (now (counts .entry)) ⌝ }
 {
     if !is_valid(state) {

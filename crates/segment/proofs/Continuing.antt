@@ -28,7 +28,7 @@ use Rattle.packet.specs.declared.streams.Streams.{Streams}
 use Rattle.packet.specs.declared.streams.Slot.the-variants as slots
 use Rattle.packet.specs.Counter as counter
 use Rattle.packet.specs.Counter.{StreamRecord, namedStream, due, counterRight, sameBytes, copyOf, repeats, check, checkedIn, pidsOf}
-use Rattle.packet.specs.Counter.{LastStands, Stands}
+use Rattle.packet.specs.Counter.{LastRepresents, Represents}
 use Rattle.packet.specs.Streams.{listed, lookUp, pidsIn, recordAt, putBack}
 use Rattle.packet.proofs.Copies.{copy-not-due}
 use Rattle.packet.proofs.Counters.{checked-pids}
@@ -56,7 +56,7 @@ use Rattle.tables.specs.declared.state.PmtSeen.the-variants as pmt
 use Rattle.tables.specs.declared.state.Kind.the-variants as slot
 use Rattle.tables.specs.declared.counters.Counters.{Counters}
 use Rattle.tables.specs.declared.tables.Tables.{Tables}
-use Rattle.tables.specs.Tables.{lastRepeated, streamsIn, RecordsStand, packetAt, TablesStand, SlotOf}
+use Rattle.tables.specs.Tables.{lastRepeated, streamsIn, RecordsRepresent, packetAt, TablesRepresent, SlotOf}
 use Rattle.tables.specs.Parts.{withListedRecord}
 use Rattle.tables.proofs.Standing.{pids-stand, stands-at, stands-set}
 use Rattle.tables.proofs.Counting.{within as slot-within, listed-there, listed-put, kind-repeats}
@@ -64,7 +64,7 @@ use Rattle.extraction.specs.declared.state.PesFound.{PesFound}
 use Rattle.extraction.specs.declared.state.PesSeen.{PesSeen}
 use Rattle.extraction.specs.declared.state.PesSeen.the-variants as seen
 use Rattle.extraction.specs.declared.units.Extraction.{Extraction}
-use Rattle.extraction.specs.Extraction.{UnitsStand, StateStands}
+use Rattle.extraction.specs.Extraction.{UnitsRepresent, StateRepresents}
 use Rattle.extraction.specs.Parts.{PayloadOf}
 use Rattle.segment.specs.Parts.{MayGoOn, lastAt, withLast, Pass}
 use Rattle.extraction.proofs.Extracting.{adds-right}
@@ -72,11 +72,11 @@ use Rattle.segment.proofs.Passing.{cons-first, cons-rest}
 
 -- ---- the counter
 -- the definitions' record of a PID whose last packet the code has seen
-last-seen : (segment : Bytes) (s : Stream) (r : StreamRecord) (counter at : ℕ) (repeat : Bool) → Stands segment s r
+last-seen : (segment : Bytes) (s : Stream) (r : StreamRecord) (counter at : ℕ) (repeat : Bool) → Represents segment s r
     → s .last ≡ last.Packet counter at repeat → (q : Bytes) × (r .last ≡ some q) × (continuityCounter q ≡ counter)
 last-seen segment s r counter at repeat h e = go (s .last) (r .last) (r .repeat) (h .1) e
   where
-    go : (l : Last) (o : Option Bytes) (b : Bool) → LastStands segment l o b → l ≡ last.Packet counter at repeat
+    go : (l : Last) (o : Option Bytes) (b : Bool) → LastRepresents segment l o b → l ≡ last.Packet counter at repeat
         → (q : Bytes) × (o ≡ some q) × (continuityCounter q ≡ counter)
     go last.Unseen o b k f = let z : _≡_ {A = ℕ} 0 1 = cc in absurd (omega arith)
     go (last.Packet counter′ at′ repeat′) none b k f = absurd k
@@ -214,7 +214,7 @@ no-unit x x′ (one-more o at e) h = absurd (omega (arith, h, ap length e, lengt
 
 module _ (edition : Edition) (segment : Bytes) (before : Outputs) (lens times : List ℕ) (n i : ℕ) (f : PesFound) where
   module _ (out : List ℕ) (c : Tables) (e : Extraction) (st : State)
-      (s : StateStands edition segment before (outputsOf out lens times) c e st)
+      (s : StateRepresents edition segment before (outputsOf out lens times) c e st)
       (last : ℕ) (r : Ready c e st n i last f) (k : ℕ) (g : goesOn n last (packetAt segment k) ≡ true) where
     abbrev p : Bytes
     p = packetAt segment k
@@ -238,9 +238,9 @@ module _ (edition : Edition) (segment : Bytes) (before : Outputs) (lens times : 
     inside : i < length (listed (c .counters .listed))
     inside = among-listed (c .pat) (c .pmt) (c .counters) n i (r .slot)
 
-    stands : Stands segment stream old
+    stands : Represents segment stream old
     stands =
-        subst (λ (x : Stream). Stands segment x old) (sym (listed-there (c .pat) (c .pmt) (c .counters) i
+        subst (λ (x : Stream). Represents segment x old) (sym (listed-there (c .pat) (c .pmt) (c .counters) i
         (slot-within n (streamsIn (c .pat) (c .pmt) (c .counters)) (suc (suc i)) (r .slot))))
         (stands-at segment streams (st .tables .records) (suc (suc i)) (s .tables .records))
 
@@ -266,9 +266,9 @@ module _ (edition : Edition) (segment : Bytes) (before : Outputs) (lens times : 
         found-at p (st .tables .records) (suc (suc i)) named
         ∙ ap (λ (v : Verdict StreamRecord). v >>= λ x. passed (set (st .tables .records) (suc (suc i)) x)) checked-so
 
-    records-stand : RecordsStand segment (streamsIn (c .pat) (c .pmt) (withListedRecord (c .counters) i next)) after-it
+    records-stand : RecordsRepresent segment (streamsIn (c .pat) (c .pmt) (withListedRecord (c .counters) i next)) after-it
     records-stand =
-        subst (λ (l : List Stream). RecordsStand segment l after-it) (sym (listed-put (c .pat) (c .pmt) (c .counters) i next))
+        subst (λ (l : List Stream). RecordsRepresent segment l after-it) (sym (listed-put (c .pat) (c .pmt) (c .counters) i next))
         (stands-set segment streams (st .tables .records) (suc (suc i)) next new (s .tables .records)
         (stands .0, (sym (counter-next n last p g), refl, refl)))
 
@@ -294,7 +294,7 @@ module _ (edition : Edition) (segment : Bytes) (before : Outputs) (lens times : 
     unfolding onTables checked atPlace _>>=_
     counted-so = rw records
 
-    stand : TablesStand edition segment (withLast c i (nextCounter last) (k * packetLength)) (counts .tables)
+    stand : TablesRepresent edition segment (withLast c i (nextCounter last) (k * packetLength)) (counts .tables)
     stand =
         record {
           follows = s .tables .follows;
@@ -339,7 +339,7 @@ module _ (edition : Edition) (segment : Bytes) (before : Outputs) (lens times : 
       after = withLast c i (nextCounter last) (k * packetLength)
 
       one-goes : (st′ : State) × (packetRules edition (roomsOf before) k p state.Av1 st ≡ passed st′)
-          × StateStands edition segment before (outputsOf (placed out (e .start + e .bytes) (payload p)) lens times) after
+          × StateRepresents edition segment before (outputsOf (placed out (e .start + e .bytes) (payload p)) lens times) after
           (longer e payloadLength) st′
           × (st′ .extraction .units ≡ st .extraction .units)
           × Ready after (longer e payloadLength) st′ n i (nextCounter last) f
@@ -350,16 +350,16 @@ module _ (edition : Edition) (segment : Bytes) (before : Outputs) (lens times : 
           let seen : isPcr (counts .tables .pcr) ≡ true = ap isPcr (sym unclocked) ∙ r .clock in
           let d = adds-right edition k p (payload p) counts is (s .extraction) f (r .opened) seen (omega (arith, long, room)) refl in
           let rule = rules ∙ d .1 in
-          let units : UnitsStand before (outputsOf (placed out (e .start + e .bytes) (payload p)) lens times) (longer e payloadLength)
+          let units : UnitsRepresent before (outputsOf (placed out (e .start + e .bytes) (payload p)) lens times) (longer e payloadLength)
           (d .0 .extraction) =
-          subst (λ (x : Extraction). UnitsStand before (outputsOf (placed out (e .start + e .bytes) (payload p)) lens times) x
+          subst (λ (x : Extraction). UnitsRepresent before (outputsOf (placed out (e .start + e .bytes) (payload p)) lens times) x
           (d .0 .extraction))
           (ap₂ (λ (x : PesSeen) (m : ℕ). record { pes = x; units = e .units; start = e .start; bytes = e .bytes + m })
           (sym (r .opened)) long)
           (d .2 .1) in (
             d .0,
             rule,
-            record { tables = subst (TablesStand edition segment after) (sym (d .2 .0)) stand; extraction = units },
+            record { tables = subst (TablesRepresent edition segment after) (sym (d .2 .0)) stand; extraction = units },
             no-unit (st .extraction) (d .0 .extraction) (packet-grows edition (roomsOf before) k p state.Av1 st (d .0) rule)
                 (sym (units .units) ∙ s .extraction .units),
             record {
@@ -377,11 +377,11 @@ module _ (edition : Edition) (segment : Bytes) (before : Outputs) (lens times : 
     pub enough : k + m ≤ length segment / packetLength
     pub reached : State
     pub passes : Pass edition segment (roomsOf before) state.Av1 m k st reached
-    pub stands : StateStands edition segment before (outputsOf (placed out (e .start + e .bytes) (payloads m l)) lens times)
+    pub stands : StateRepresents edition segment before (outputsOf (placed out (e .start + e .bytes) (payloads m l)) lens times)
         (gone i m c last k) (longer e (m * payloadLength)) reached
 
   module _ (l : List Bytes) (k : ℕ) (out : List ℕ) (c : Tables) (e : Extraction) (st : State)
-      (s : StateStands edition segment before (outputsOf out lens times) c e st) (last : ℕ) where
+      (s : StateRepresents edition segment before (outputsOf out lens times) c e st) (last : ℕ) where
     none-gone : k ≤ length segment / packetLength → Gone 0 k out c e st last l
     unfolding flatten
     none-gone h =
@@ -391,9 +391,9 @@ module _ (edition : Edition) (segment : Bytes) (before : Outputs) (lens times : 
           reached = st;
           passes = refl;
           stands =
-              subst (λ (w : List ℕ). StateStands edition segment before (outputsOf w lens times) c (longer e (0 * payloadLength)) st)
+              subst (λ (w : List ℕ). StateRepresents edition segment before (outputsOf w lens times) c (longer e (0 * payloadLength)) st)
               (sym (take-append-drop (e .start + e .bytes) out))
-              (subst (λ (b : ℕ). StateStands edition segment before (outputsOf out lens times) c
+              (subst (λ (b : ℕ). StateRepresents edition segment before (outputsOf out lens times) c
               (record { pes = e .pes; units = e .units; start = e .start; bytes = b }) st) z s);
         }
 
@@ -401,13 +401,13 @@ module _ (edition : Edition) (segment : Bytes) (before : Outputs) (lens times : 
   abbrev pub Goes : List Bytes → ℕ → Type 0
   Goes l k =
       (out : List ℕ) (c : Tables) (e : Extraction) (st : State)
-      → StateStands edition segment before (outputsOf out lens times) c e st → (last : ℕ) → Ready c e st n i last f
+      → StateRepresents edition segment before (outputsOf out lens times) c e st → (last : ℕ) → Ready c e st n i last f
       → drop k (packets segment) ≡ l → k ≤ length segment / packetLength → e .start + e .bytes ≤ length out
       → Gone (goingOn (length out - (e .start + e .bytes)) n last l) k out c e st last l
 
   module _ (l : List Bytes) (k : ℕ) (h : k < length segment / packetLength) (behind : drop (k + 1) (packets segment) ≡ l) where
     one-gone : Goes l (k + 1) → (out : List ℕ) (c : Tables) (e : Extraction) (st : State)
-        (s : StateStands edition segment before (outputsOf out lens times) c e st) (last : ℕ) (r : Ready c e st n i last f)
+        (s : StateRepresents edition segment before (outputsOf out lens times) c e st) (last : ℕ) (r : Ready c e st n i last f)
         → goesOn n last (packetAt segment k) ≡ true → payloadLength ≤ length out - (e .start + e .bytes) → e .start + e .bytes ≤ length out
         → Gone (suc (goingOn (length out - (e .start + e .bytes) - payloadLength) n (nextCounter last) l)) k out c e st last
         (packetAt segment k ∷ l)
@@ -433,12 +433,12 @@ module _ (edition : Edition) (segment : Bytes) (before : Outputs) (lens times : 
           reached = rest .reached;
           passes = (q .0, ap (kindOf (st .tables)) (of-pid n last p g) ∙ r .kind, q .1, q .3, rest .passes);
           stands =
-              subst (λ (x : ℕ). StateStands edition segment before (outputsOf (placed out at (payload p ++ payloads m l)) lens times)
+              subst (λ (x : ℕ). StateRepresents edition segment before (outputsOf (placed out at (payload p ++ payloads m l)) lens times)
               (gone i (suc m) c last k) (record { pes = e .pes; units = e .units; start = e .start; bytes = x }) (rest .reached)) bytes
-              (subst (λ (x : List ℕ). StateStands edition segment before (outputsOf x lens times)
+              (subst (λ (x : List ℕ). StateRepresents edition segment before (outputsOf x lens times)
               (gone i (suc m) c last k) (longer (longer e payloadLength) (m * payloadLength)) (rest .reached))
               (ap (λ (x : ℕ). placed out1 x (payloads m l)) seam ∙ placed-more out at (payload p) (payloads m l) fits)
-              (subst (λ (x : Tables). StateStands edition segment before
+              (subst (λ (x : Tables). StateRepresents edition segment before
               (outputsOf (placed out1 (e .start + (e .bytes + payloadLength)) (payloads m l)) lens times) x
               (longer (longer e payloadLength) (m * payloadLength)) (rest .reached))
               (gone-one i m c last k (inside out c e st s last r k g)) (rest .stands)));
@@ -535,14 +535,14 @@ module _ (segment : Bytes) (k : ℕ) (c : Tables) (e : Extraction) (n i last : �
       (omega (arith, b .0, size, many, within), omega (arith, b .1, many, fits))
 
   module _ (some : m ≡ 0 → ⊥) (edition : Edition) (lens times : List ℕ) (before : Outputs) (st : State) (named : Named (st .tables))
-      (s : StateStands edition segment before (outputsOf out lens times) c e st) where
+      (s : StateRepresents edition segment before (outputsOf out lens times) c e st) where
     abbrev l : List Bytes
     l = drop k (packets segment)
 
     pub went : (out′ : List ℕ) (c′ : Tables) → out′ ≡ placed out (e .start + e .bytes) (payloads m l)
         → c′ ≡ withLast c i ((last + m) % 16) ((k + m - 1) * packetLength)
         → (st′ : State) × Pass edition segment (roomsOf before) state.Av1 m k st st′
-        × StateStands edition segment before (outputsOf out′ lens times) c′ (longer e (m * payloadLength)) st′
+        × StateRepresents edition segment before (outputsOf out′ lens times) c′ (longer e (m * payloadLength)) st′
     went out′ c′ f g =
         let kind = may .kind edition segment (st .tables) named (s .tables) in
         let r : Ready c e st n i last (may .opened .0) =
@@ -559,9 +559,10 @@ module _ (segment : Bytes) (k : ℕ) (c : Tables) (e : Extraction) (n i last : �
         let x = subst (λ (y : ℕ). Gone edition segment before lens times n i (may .opened .0) y k out c e st last l) (sym many) w in (
           x .reached,
           x .passes,
-          subst (λ (y : List ℕ). StateStands edition segment before (outputsOf y lens times) c′ (longer e (m * payloadLength)) (x .reached))
+          subst (λ (y : List ℕ). StateRepresents edition segment before (outputsOf y lens times) c′ (longer e (m * payloadLength))
+              (x .reached))
               (sym f)
-              (subst (λ (y : Tables). StateStands edition segment before
+              (subst (λ (y : Tables). StateRepresents edition segment before
               (outputsOf (placed out (e .start + e .bytes) (payloads m l)) lens times) y (longer e (m * payloadLength)) (x .reached))
               (gone-some i m c last k some ∙ sym g) (x .stands)),
         )

@@ -27,9 +27,9 @@ use Rattle.segment_rules.specs.Rules.{Rooms, carriedUnits}
 use Rattle.segment_rules.specs.Check.{Accepted, Outputs, checkSegment, checkIn, lengths, outputsAfter}
 use Rattle.segment_rules.proofs.Accepting.{units-accepted}
 use Rattle.segment_rules.specs.Comparison.{Answered, comparedWith, compared, checkCompared}
-use Rattle.segment.specs.declared.whole.Summary.{Summary}
-use Rattle.segment.specs.declared.whole.SegmentCheck.{SegmentCheck}
-use Rattle.segment.specs.declared.whole.SegmentCheck.the-variants as checked
+use Rattle.segment.specs.declared.checking.Summary.{Summary}
+use Rattle.segment.specs.declared.checking.SegmentCheck.{SegmentCheck}
+use Rattle.segment.specs.declared.checking.SegmentCheck.the-variants as checked
 use Rattle.segment.specs.Answer.{summaryOf, summarised, checking, mapAfter, mapIn, mapChecked, disagreementOf, checkSays}
 use Rattle.segment.specs.Parts.{disagreeing, disagreementIn}
 

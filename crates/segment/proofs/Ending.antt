@@ -31,21 +31,21 @@ use Rattle.tables.specs.declared.state.PatSeen.the-variants as pat
 use Rattle.tables.specs.declared.state.PmtFound.{PmtFound}
 use Rattle.tables.specs.declared.state.PmtSeen.the-variants as pmt
 use Rattle.tables.specs.declared.tables.Tables.{Tables}
-use Rattle.tables.specs.Tables.{Turns, TablesStand}
-use Rattle.tables.proofs.Turning.{refused-turn, passed-turn}
+use Rattle.tables.specs.Tables.{Refines, TablesRepresent}
+use Rattle.tables.proofs.Refining.{refused-refines, passed-refines}
 use Rattle.tables.proofs.Standing.{no-pat-yet, pat-yet, no-pmt-yet, pmt-yet}
 use Rattle.tables.proofs.Mapping.{av1-slot}
 use Rattle.extraction.specs.declared.state.PesSeen.the-variants as seen
 use Rattle.extraction.specs.declared.units.Extraction.{Extraction}
-use Rattle.extraction.specs.declared.units.ExtractionTurn.{ExtractionTurn}
-use Rattle.segment.specs.declared.whole.Summary.{Summary}
-use Rattle.segment.specs.declared.whole.Ran.{Ran}
-use Rattle.segment.specs.declared.whole.SegmentCheck.{SegmentCheck}
-use Rattle.segment.specs.declared.whole.SegmentCheck.the-variants as checked
-use Rattle.segment.specs.declared.whole.Checked.{Checked}
+use Rattle.extraction.specs.declared.units.ExtractionResult.{ExtractionResult}
+use Rattle.segment.specs.declared.checking.Summary.{Summary}
+use Rattle.segment.specs.declared.checking.RunResult.{RunResult}
+use Rattle.segment.specs.declared.checking.SegmentCheck.{SegmentCheck}
+use Rattle.segment.specs.declared.checking.SegmentCheck.the-variants as checked
+use Rattle.segment.specs.declared.checking.Checked.{Checked}
 use Rattle.segment.specs.Answer.{summaryOf, summarised, mapAfter, checkSays}
-use Rattle.extraction.specs.Extraction.{UnitsStand, StateStands, firstNoted}
-use Rattle.segment.specs.Parts.{RunTurn, AnswerTurn, CheckedTurn, WholeTurn, AcceptedFirsts}
+use Rattle.extraction.specs.Extraction.{UnitsRepresent, StateRepresents, firstNoted}
+use Rattle.segment.specs.Parts.{RunRefines, AnswerRefines, CheckedRefines, WholeRefines, AcceptedFirsts}
 use Rattle.extraction.proofs.Holding.{closed-outputs}
 use Rattle.extraction.proofs.Firsts.{notes}
 
@@ -63,7 +63,7 @@ unfolding segmentLengthWrong
 by-count s h k = rw (ne-eqb (length s) 0 h, eq-eqb (length s % packetLength) 0 k)
 
 -- ---- 33, or the summary
-module _ {edition : Edition} {segment : Bytes} {c : Tables} {t : state.Tables} (s : TablesStand edition segment c t) (n : ℕ)
+module _ {edition : Edition} {segment : Bytes} {c : Tables} {t : state.Tables} (s : TablesRepresent edition segment c t) (n : ℕ)
     (us : List AccessUnit) (totals : Totals) where
   abbrev last : Verdict Summary
   last = summarised (accepted n (t .pat) (t .pmt) us totals)
@@ -127,7 +127,7 @@ accepted-units n (some p) (some q) us t a e = ap (λ (x : Accepted). x .units) (
 
 judges : (r : SegmentCheck) (v : Verdict Accepted) (before now : Outputs) → checkSays r ≡ summarised v
     → ((a : Accepted) → v ≡ passed a → now ≡ holding (a .units) before)
-    → AnswerTurn before v r now
+    → AnswerRefines before v r now
 unfolding summarised _>>=_
 judges (checked.Accepted s) (passed a) before now e o = (a, refl, (passed-same s (summaryOf a) e, o a refl))
 judges (checked.Accepted s) (refused number place) before now e o = never (sym e)
@@ -140,35 +140,35 @@ judges (checked.Refused q) (refused number place) before now e o = same-refusal 
 
 -- no map beside a refusal
 pub refused-beside : (edition : Edition) (before : Outputs) (v : Verdict Accepted) (q : Refused) (after : Outputs) (a : Checked)
-    → a ≡ record { answer = checked.Refused q; map = noMap } → v ≡ refusedBy q → CheckedTurn edition before v a after
+    → a ≡ record { answer = checked.Refused q; map = noMap } → v ≡ refusedBy q → CheckedRefines edition before v a after
 unfolding mapAfter
 refused-beside edition before v q after a f e =
-    subst (λ (x : Checked). CheckedTurn edition before v x after) (sym f) (e, sym (ap (mapAfter edition) e))
+    subst (λ (x : Checked). CheckedRefines edition before v x after) (sym f) (e, sym (ap (mapAfter edition) e))
 
 -- ---- the end
-module _ (edition : Edition) (before after : Outputs) (g : Progress) (r : ExtractionTurn)
-    (turn : Turns (r .outcome) (closePes (g .state .extraction)) (UnitsStand before after (r .extraction))) where
+module _ (edition : Edition) (before after : Outputs) (g : Progress) (r : ExtractionResult)
+    (turn : Refines (r .outcome) (closePes (g .state .extraction)) (UnitsRepresent before after (r .extraction))) where
   -- the open PES was refused
   pub end-refused : (q : Refused) → r .outcome ≡ outcome.Refused q
-      → (a : Checked) → a ≡ record { answer = checked.Refused q; map = noMap } → CheckedTurn edition before (ending g) a after
+      → (a : Checked) → a ≡ record { answer = checked.Refused q; map = noMap } → CheckedRefines edition before (ending g) a after
   unfolding ending _>>=_
   end-refused q e a f =
       refused-beside edition before (ending g) q after a f
       (ap (λ (v : Verdict state.Extraction). v >>= λ x. accepted (g .index) (g .state .tables .pat) (g .state .tables .pmt) (x .units)
       (g .totals))
-      (refused-turn (closePes (g .state .extraction)) (UnitsStand before after (r .extraction)) (r .outcome) q e turn))
+      (refused-refines (closePes (g .state .extraction)) (UnitsRepresent before after (r .extraction)) (r .outcome) q e turn))
 
   -- it closed
   pub end-closed : (a : Checked) → r .outcome ≡ outcome.Passed → r .extraction .pes ≡ seen.Closed
       → ((us : List AccessUnit) → r .extraction .units ≡ length us
       → (checkSays (a .answer) ≡ summarised (accepted (g .index) (g .state .tables .pat) (g .state .tables .pmt) us (g .totals)))
       × (a .map ≡ mapAfter edition (accepted (g .index) (g .state .tables .pat) (g .state .tables .pmt) us (g .totals))))
-      → CheckedTurn edition before (ending g) a after
+      → CheckedRefines edition before (ending g) a after
   unfolding ending _>>=_
   end-closed a e closed says =
-      let t = passed-turn (closePes (g .state .extraction)) (UnitsStand before after (r .extraction)) (r .outcome) e turn in
+      let t = passed-refines (closePes (g .state .extraction)) (UnitsRepresent before after (r .extraction)) (r .outcome) e turn in
       let us = t .0 .units in
-      subst (λ (v : Verdict Accepted). CheckedTurn edition before v a after)
+      subst (λ (v : Verdict Accepted). CheckedRefines edition before v a after)
       (sym (ap (λ (v : Verdict state.Extraction). v >>= λ x. accepted (g .index) (g .state .tables .pat) (g .state .tables .pmt) (x .units)
       (g .totals)) (t .1))) (
         judges (a .answer) _ before after (says us (t .2 .units) .0)
@@ -178,8 +178,8 @@ module _ (edition : Edition) (before after : Outputs) (g : Progress) (r : Extrac
       )
 
 -- the list of first packets
-module _ (before after : Outputs) (g : Progress) (r : ExtractionTurn)
-    (turn : Turns (r .outcome) (closePes (g .state .extraction)) (UnitsStand before after (r .extraction))) where
+module _ (before after : Outputs) (g : Progress) (r : ExtractionResult)
+    (turn : Refines (r .outcome) (closePes (g .state .extraction)) (UnitsRepresent before after (r .extraction))) where
   -- nothing is accepted
   pub end-refused-firsts : (q : Refused) → r .outcome ≡ outcome.Refused q → (old last : List ℕ) → AcceptedFirsts old (ending g) last
   unfolding ending _>>=_
@@ -187,15 +187,16 @@ module _ (before after : Outputs) (g : Progress) (r : ExtractionTurn)
       never
       (sym (ap (λ (v : Verdict state.Extraction). v >>= λ x. accepted (g .index) (g .state .tables .pat) (g .state .tables .pmt) (x .units)
       (g .totals))
-      (refused-turn (closePes (g .state .extraction)) (UnitsStand before after (r .extraction)) (r .outcome) q e turn)) ∙ p)
+      (refused-refines (closePes (g .state .extraction)) (UnitsRepresent before after (r .extraction)) (r .outcome) q e turn)) ∙ p)
 
   -- the first packet of the PES that closed was put behind the others
-  pub end-closed-firsts : {now : Outputs} {c : Extraction} → UnitsStand before now c (g .state .extraction) → r .outcome ≡ outcome.Passed
+  pub end-closed-firsts : {now : Outputs} {c : Extraction} → UnitsRepresent before now c (g .state .extraction)
+      → r .outcome ≡ outcome.Passed
       → (old firsts last : List ℕ) → firsts ≡ holdingFirsts (g .state .extraction .units) old → last ≡ firstNoted c (r .extraction) firsts
       → AcceptedFirsts old (ending g) last
   unfolding ending _>>=_
   end-closed-firsts s e old firsts last h note a p =
-      let t = passed-turn (closePes (g .state .extraction)) (UnitsStand before after (r .extraction)) (r .outcome) e turn in
+      let t = passed-refines (closePes (g .state .extraction)) (UnitsRepresent before after (r .extraction)) (r .outcome) e turn in
       note ∙ notes s (t .2) old firsts h (close-grows (g .state .extraction) (t .0) (t .1))
       ∙ ap (λ (l : List AccessUnit). holdingFirsts l old)
       (sym (accepted-units _ _ _ (t .0 .units) (g .totals) a
@@ -205,7 +206,7 @@ module _ (before after : Outputs) (g : Progress) (r : ExtractionTurn)
 -- ---- the whole
 module _ (edition : Edition) (segment : Bytes) (before now : Outputs) where
   pub length-refused : (q : Refused) → q ≡ record { why = record { number = 20 }; place = 0 } → segmentLengthWrong segment ≡ true
-      → (a : Checked) → a ≡ record { answer = checked.Refused q; map = noMap } → WholeTurn edition segment before a now
+      → (a : Checked) → a ≡ record { answer = checked.Refused q; map = noMap } → WholeRefines edition segment before a now
   unfolding checkSegment
   length-refused q e h a f =
       refused-beside edition before _ q now a f (sym (refuse 20 _ h) ∙ ap (λ (x : Refused). refusedBy x) (sym e))
@@ -215,40 +216,41 @@ module _ (edition : Edition) (segment : Bytes) (before now : Outputs) where
   unfolding checkSegment
   length-refused-firsts h old last a p = never (refuse 20 _ h ∙ p)
 
-  module _ (h : segmentLengthWrong segment ≡ false) (r : Ran) (turn : RunTurn edition segment before r now) where
+  module _ (h : segmentLengthWrong segment ≡ false) (r : RunResult) (turn : RunRefines edition segment before r now) where
     whole : (v : Verdict Progress) → run edition (roomsOf before) start (packets segment) ≡ v → checkSegment edition (roomsOf before)
         segment ≡ (v >>= ending)
     unfolding checkSegment
     whole v e = sym (pass-on 20 h refl) ∙ ap (λ (w : Verdict Progress). w >>= ending) e
 
     pub run-refused : (q : Refused) (last : Outputs) → r .outcome ≡ outcome.Refused q
-        → (a : Checked) → a ≡ record { answer = checked.Refused q; map = noMap } → WholeTurn edition segment before a last
+        → (a : Checked) → a ≡ record { answer = checked.Refused q; map = noMap } → WholeRefines edition segment before a last
     unfolding _>>=_
     run-refused q last e a f =
         refused-beside edition before _ q last a f
-        (whole (refusedBy q) (refused-turn (run edition (roomsOf before) start (packets segment)) _ (r .outcome) q e turn))
+        (whole (refusedBy q) (refused-refines (run edition (roomsOf before) start (packets segment)) _ (r .outcome) q e turn))
 
     pub run-refused-firsts : (q : Refused) → r .outcome ≡ outcome.Refused q → (old last : List ℕ)
         → AcceptedFirsts old (checkSegment edition (roomsOf before) segment) last
     unfolding _>>=_
     run-refused-firsts q e old last a p =
         never
-        (sym (whole (refusedBy q) (refused-turn (run edition (roomsOf before) start (packets segment)) _ (r .outcome) q e turn)) ∙ p)
+        (sym (whole (refusedBy q) (refused-refines (run edition (roomsOf before) start (packets segment)) _ (r .outcome) q e turn)) ∙ p)
 
     module _ (e : r .outcome ≡ outcome.Passed) where
       pub ran : (g : Progress) × (run edition (roomsOf before) start (packets segment) ≡ passed g)
-          × (StateStands edition segment before now (r .tables) (r .extraction) (g .state) × (r .totals ≡ g .totals))
-      ran = passed-turn (run edition (roomsOf before) start (packets segment)) _ (r .outcome) e turn
+          × (StateRepresents edition segment before now (r .tables) (r .extraction) (g .state) × (r .totals ≡ g .totals))
+      ran = passed-refines (run edition (roomsOf before) start (packets segment)) _ (r .outcome) e turn
 
       pub all-packets : length segment / packetLength ≡ ran .0 .index
       all-packets =
           sym (index-totals edition (roomsOf before) (packets segment) (ran .0) (ran .1) .0 ∙ length-packets (length segment / packetLength)
           segment)
 
-      pub run-ended : (a : Checked) (last : Outputs) → CheckedTurn edition before (ending (ran .0)) a last
-          → WholeTurn edition segment before a last
+      pub run-ended : (a : Checked) (last : Outputs) → CheckedRefines edition before (ending (ran .0)) a last
+          → WholeRefines edition segment before a last
       unfolding _>>=_
-      run-ended a last j = subst (λ (v : Verdict Accepted). CheckedTurn edition before v a last) (sym (whole (passed (ran .0)) (ran .1))) j
+      run-ended a last j = subst (λ (v : Verdict Accepted). CheckedRefines edition before v a last) (sym (whole (passed (ran .0))
+          (ran .1))) j
 
       pub run-ended-firsts : (old last : List ℕ) → AcceptedFirsts old (ending (ran .0)) last
           → AcceptedFirsts old (checkSegment edition (roomsOf before) segment) last
@@ -256,29 +258,30 @@ module _ (edition : Edition) (segment : Bytes) (before now : Outputs) where
       run-ended-firsts old last j a p = j a (sym (whole (passed (ran .0)) (ran .1)) ∙ p)
 
 -- ---- the answer says the check's verdict, and the outputs are what it leaves
-pub answers : (r : SegmentCheck) (before : Outputs) (v : Verdict Accepted) (now : Outputs) → AnswerTurn before v r now → checkSays r ≡
+pub answers : (r : SegmentCheck) (before : Outputs) (v : Verdict Accepted) (now : Outputs) → AnswerRefines before v r now → checkSays r ≡
     summarised v
 unfolding summarised _>>=_
 answers (checked.Accepted s) before v now j = ap passed (j .2 .0) ∙ sym (ap (λ (w : Verdict Accepted). summarised w) (j .1))
 answers (checked.Refused q) before v now j = sym (ap (λ (w : Verdict Accepted). summarised w) j)
 
-accepted-by : (s : Summary) (before : Outputs) (v : Verdict Accepted) (now : Outputs) → AnswerTurn before v (checked.Accepted s) now → now ≡
+accepted-by : (s : Summary) (before : Outputs) (v : Verdict Accepted) (now : Outputs) → AnswerRefines before v (checked.Accepted s) now
+    → now ≡
     outputsAfter v before
 unfolding outputsAfter
 accepted-by s before v now j = j .2 .1 ∙ sym (ap (λ (w : Verdict Accepted). outputsAfter w before) (j .1))
 
 pub accepted-leaves : (r : SegmentCheck) (s : Summary) → r ≡ checked.Accepted s → (before : Outputs) (v : Verdict Accepted) (now : Outputs)
-    → AnswerTurn before v r now → now ≡ outputsAfter v before
-accepted-leaves r s e before v now j = accepted-by s before v now (subst (λ (y : SegmentCheck). AnswerTurn before v y now) e j)
+    → AnswerRefines before v r now → now ≡ outputsAfter v before
+accepted-leaves r s e before v now j = accepted-by s before v now (subst (λ (y : SegmentCheck). AnswerRefines before v y now) e j)
 
-firsts-by : (s : Summary) (before : Outputs) (v : Verdict Accepted) (now : Outputs) → AnswerTurn before v (checked.Accepted s) now
+firsts-by : (s : Summary) (before : Outputs) (v : Verdict Accepted) (now : Outputs) → AnswerRefines before v (checked.Accepted s) now
     → (old firsts : List ℕ) → AcceptedFirsts old v firsts → firsts ≡ firstsAfter v old
 unfolding firstsAfter
 firsts-by s before v now j old firsts k = k (j .0) (j .1) ∙ sym (ap (λ (w : Verdict Accepted). firstsAfter w old) (j .1))
 
 pub accepted-firsts : (r : SegmentCheck) (s : Summary) → r ≡ checked.Accepted s → (before : Outputs) (v : Verdict Accepted) (now : Outputs)
-    → AnswerTurn before v r now → (old firsts : List ℕ) → AcceptedFirsts old v firsts → firsts ≡ firstsAfter v old
-accepted-firsts r s e before v now j = firsts-by s before v now (subst (λ (y : SegmentCheck). AnswerTurn before v y now) e j)
+    → AnswerRefines before v r now → (old firsts : List ℕ) → AcceptedFirsts old v firsts → firsts ≡ firstsAfter v old
+accepted-firsts r s e before v now j = firsts-by s before v now (subst (λ (y : SegmentCheck). AnswerRefines before v y now) e j)
 
 -- zeros in an output that is as long as before
 zeros-as : {out : List ℕ} (o b : List ℕ) → out ≡ zeros o → length o ≡ length b → out ≡ zeros b
@@ -286,19 +289,20 @@ zeros-as o b e h = e ∙ ap (λ (n : ℕ). replicate n 0) h
 
 pub refused-leaves : (r : SegmentCheck) (q : Refused) → r ≡ checked.Refused q → (before : Outputs) (v : Verdict Accepted)
     (o l t out lens times : List ℕ)
-    → AnswerTurn before v r (outputsOf o l t) → out ≡ zeros o → lens ≡ zeros l → times ≡ zeros t → length o ≡ length (before .bytes)
+    → AnswerRefines before v r (outputsOf o l t) → out ≡ zeros o → lens ≡ zeros l → times ≡ zeros t → length o ≡ length (before .bytes)
     → length l ≡ length (before .lens)
     → length t ≡ length (before .times) → outputsOf out lens times ≡ outputsAfter v before
 unfolding outputsAfter
 refused-leaves r q e before v o l t out lens times j a b c la lb lc =
     ap (λ (x : List ℕ). outputsOf x lens times) (zeros-as o (before .bytes) a la)
     ∙ ap₂ (λ (x y : List ℕ). outputsOf (zeros (before .bytes)) x y) (zeros-as l (before .lens) b lb) (zeros-as t (before .times) c lc)
-    ∙ sym (ap (λ (w : Verdict Accepted). outputsAfter w before) (subst (λ (y : SegmentCheck). AnswerTurn before v y (outputsOf o l t)) e j))
+    ∙ sym (ap (λ (w : Verdict Accepted). outputsAfter w before) (subst (λ (y : SegmentCheck). AnswerRefines before v y
+    (outputsOf o l t)) e j))
 
 pub refused-firsts : (r : SegmentCheck) (q : Refused) → r ≡ checked.Refused q → (before : Outputs) (v : Verdict Accepted) (now : Outputs)
-    → AnswerTurn before v r now → (old firsts last : List ℕ) → last ≡ zeros firsts → length firsts ≡ length old
+    → AnswerRefines before v r now → (old firsts last : List ℕ) → last ≡ zeros firsts → length firsts ≡ length old
     → last ≡ firstsAfter v old
 unfolding firstsAfter
 refused-firsts r q e before v now j old firsts last z h =
     zeros-as firsts old z h
-    ∙ sym (ap (λ (w : Verdict Accepted). firstsAfter w old) (subst (λ (y : SegmentCheck). AnswerTurn before v y now) e j))
+    ∙ sym (ap (λ (w : Verdict Accepted). firstsAfter w old) (subst (λ (y : SegmentCheck). AnswerRefines before v y now) e j))

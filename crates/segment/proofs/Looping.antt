@@ -30,16 +30,16 @@ use Rattle.plain.proofs.Places as places
 use Rattle.segment_rules.proofs.Running.{counting-one}
 use Rattle.tables.specs.declared.state.Outcome.the-variants as outcome
 use Rattle.tables.specs.declared.tables.Tables.{Tables}
-use Rattle.tables.specs.Tables.{Turns, freshTables, kindSays, packetAt}
-use Rattle.tables.proofs.Turning.{turn-refused, refused-turn, passed-turn}
+use Rattle.tables.specs.Tables.{Refines, freshTables, kindSays, packetAt}
+use Rattle.tables.proofs.Refining.{refines-refused, refused-refines, passed-refines}
 use Rattle.tables.proofs.Standing.{tables-start}
 use Rattle.extraction.specs.declared.units.Extraction.{Extraction}
 use Rattle.extraction.specs.declared.packets.Stepped.{Stepped}
-use Rattle.segment.specs.declared.whole.Ran.{Ran}
+use Rattle.segment.specs.declared.checking.RunResult.{RunResult}
 use Rattle.descriptor.specs.Naming.{editionSays}
 use Rattle.descriptor.specs.declared.edition.Edition.{Edition as EditionName}
-use Rattle.extraction.specs.Extraction.{freshExtraction, StateStands, PacketTurn, firstNoted}
-use Rattle.segment.specs.Parts.{RunTurn, RunFirsts}
+use Rattle.extraction.specs.Extraction.{freshExtraction, StateRepresents, PacketRefines, firstNoted}
+use Rattle.segment.specs.Parts.{RunRefines, RunFirsts}
 use Rattle.extraction.proofs.Holding.{units-start}
 use Rattle.extraction.proofs.Firsts.{none-held, notes}
 
@@ -53,7 +53,7 @@ count-within s e =
 pub record Running (edition : Edition) (segment : Bytes) (before now : Outputs) (old firsts : List ℕ) (c : Tables) (e : Extraction)
     (totals : Totals) (k : ℕ) : Type 0 where
   pub state : State
-  pub stands : StateStands edition segment before now c e state
+  pub stands : StateRepresents edition segment before now c e state
   pub noted : firsts ≡ holdingFirsts (state .extraction .units) old
   pub named : Named (state .tables)
   pub counts : packetCount totals ≡ k
@@ -104,8 +104,8 @@ module _ (edition : Edition) (segment : Bytes) (before now : Outputs) (old first
       inv .rest
       ∙ ap (run edition (roomsOf before) (record { index = k; state = here; totals = totals })) (places.next-packet segment k h)
 
-  module _ (r : Stepped) (after : Outputs) (turn : PacketTurn edition segment k c e now r after) where
-    turned : Turns (r .outcome) stepped (λ st′. StateStands edition segment before after (r .tables) (r .extraction) st′ ×
+  module _ (r : Stepped) (after : Outputs) (turn : PacketRefines edition segment k c e now r after) where
+    turned : Refines (r .outcome) stepped (λ st′. StateRepresents edition segment before after (r .tables) (r .extraction) st′ ×
         (kindSays (r .kind) ≡ kind))
     turned = turn before here (inv .named) (inv .stands)
 
@@ -114,7 +114,7 @@ module _ (edition : Edition) (segment : Bytes) (before now : Outputs) (old first
         → Running edition segment before after old firsts′ (r .tables) (r .extraction) n (k + 1)
     unfolding _>>=_
     goes-on w n m firsts′ note =
-        let t = passed-turn stepped _ (r .outcome) w turned in
+        let t = passed-refines stepped _ (r .outcome) w turned in
         let all : n ≡ counting kind totals = m ∙ ap (λ (x : state.Kind). counting x totals) (t .2 .1) in
         record {
           state = t .0;
@@ -137,12 +137,13 @@ module _ (edition : Edition) (segment : Bytes) (before now : Outputs) (old first
 
     refused-there : (q : Refused) → r .outcome ≡ outcome.Refused q → run edition (roomsOf before) start (packets segment) ≡ refusedBy q
     unfolding _>>=_
-    refused-there q w = next-packet ∙ ap then-on (refused-turn stepped _ (r .outcome) q w turned)
+    refused-there q w = next-packet ∙ ap then-on (refused-refines stepped _ (r .outcome) q w turned)
 
-    pub stops-there : (q : Refused) → r .outcome ≡ outcome.Refused q → (ran : Ran) (last : Outputs) → ran .outcome ≡ r .outcome → RunTurn
+    pub stops-there : (q : Refused) → r .outcome ≡ outcome.Refused q → (ran : RunResult) (last : Outputs) → ran .outcome ≡ r .outcome
+        → RunRefines
         edition segment before ran last
     stops-there q w ran last f =
-        turn-refused (run edition (roomsOf before) start (packets segment)) _ (ran .outcome) q (f ∙ w) (sym (refused-there q w))
+        refines-refused (run edition (roomsOf before) start (packets segment)) _ (ran .outcome) q (f ∙ w) (sym (refused-there q w))
 
     pub none-noted : (q : Refused) → r .outcome ≡ outcome.Refused q → (last : List ℕ) → RunFirsts edition segment (roomsOf before) old last
     none-noted q w last g p = never (sym (refused-there q w) ∙ p)
@@ -158,7 +159,8 @@ module _ (edition : Edition) (segment : Bytes) (before now : Outputs) (old first
       inv .rest
       ∙ ap (run edition (roomsOf before) last) (places.no-packet segment k h)
 
-  pub comes-to-end : RunTurn edition segment before (record { tables = c; extraction = e; totals = totals; outcome = outcome.Passed }) now
+  pub comes-to-end : RunRefines edition segment before
+      (record { tables = c; extraction = e; totals = totals; outcome = outcome.Passed }) now
   comes-to-end = (last, all-passed, (inv .stands, refl))
 
   pub all-noted : RunFirsts edition segment (roomsOf before) old firsts

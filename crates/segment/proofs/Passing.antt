@@ -30,9 +30,9 @@ use Rattle.segment_rules.proofs.Running.{counting-one}
 use Rattle.tables.specs.declared.tables.Tables.{Tables}
 use Rattle.tables.specs.Tables.{packetAt}
 use Rattle.extraction.specs.declared.units.Extraction.{Extraction}
-use Rattle.segment.specs.declared.going.Went.{Went}
-use Rattle.extraction.specs.Extraction.{StateStands}
-use Rattle.segment.specs.Parts.{Pass, GoOnTurn}
+use Rattle.segment.specs.declared.going.Continued.{Continued}
+use Rattle.extraction.specs.Extraction.{StateRepresents}
+use Rattle.segment.specs.Parts.{Pass, GoOnRefines}
 use Rattle.segment.proofs.Looping.{Running}
 
 -- ---- so many packets of a kind more
@@ -119,7 +119,7 @@ module _ {edition : Edition} {segment : Bytes} {before now : Outputs} {old first
 
   behind : (kind : state.Kind) (n : ℕ) (st′ : State) → k + n ≤ length segment / packetLength
       → Pass edition segment (roomsOf before) kind n k (inv .state) st′
-      → (after : Outputs) (c′ : Tables) (e′ : Extraction) → StateStands edition segment before after c′ e′ st′
+      → (after : Outputs) (c′ : Tables) (e′ : Extraction) → StateRepresents edition segment before after c′ e′ st′
       → (t : Totals) → t ≡ many kind n totals
       → Running edition segment before after old firsts c′ e′ t (k + n)
   behind kind n st′ h p after c′ e′ s t same =
@@ -130,7 +130,7 @@ module _ {edition : Edition} {segment : Bytes} {before now : Outputs} {old first
   -- packets of the AV1 PID that go on
   pub passes-on : (n : ℕ) (st′ : State) → k + n ≤ length segment / packetLength
       → Pass edition segment (roomsOf before) state.Av1 n k (inv .state) st′
-      → (after : Outputs) (c′ : Tables) (e′ : Extraction) → StateStands edition segment before after c′ e′ st′
+      → (after : Outputs) (c′ : Tables) (e′ : Extraction) → StateRepresents edition segment before after c′ e′ st′
       → Running edition segment before after old firsts c′ e′ (moreAv1 n totals) (k + n)
   passes-on n st′ h p after c′ e′ s = behind state.Av1 n st′ h p after c′ e′ s (moreAv1 n totals) (sym (many-av1 n totals))
 
@@ -203,7 +203,7 @@ module _ {edition : Edition} {segment : Bytes} {before now : Outputs} {old first
   pub nulls-within : k + n ≤ length segment / packetLength
   nulls-within = passes-nulls inv (omega (arith, h)) n same .0
 
-  pub turn-begins : (r : Went) (after : Outputs) → GoOnTurn edition segment (k + n) c e now r after
+  pub turn-begins : (r : Continued) (after : Outputs) → GoOnRefines edition segment (k + n) c e now r after
       → k + n + r .packets ≤ length segment / packetLength
       → Running edition segment before after old firsts (r .tables) (r .extraction) (moreAv1 (r .packets) (moreNulls n totals))
       (k + n + r .packets)

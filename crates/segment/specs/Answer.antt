@@ -12,9 +12,9 @@ use Rattle.pmt.specs.declared.section.ProgramMap.{ProgramMap}
 use Rattle.segment_rules.specs.Rules.{Rooms}
 use Rattle.segment_rules.specs.Check.{Accepted, checkSegment, checkIn}
 use Rattle.segment_rules.specs.Comparison.{Answered}
-use Rattle.segment.specs.declared.whole.Summary.{Summary}
-use Rattle.segment.specs.declared.whole.SegmentCheck.{SegmentCheck}
-use Rattle.segment.specs.declared.whole.SegmentCheck.the-variants as checked
+use Rattle.segment.specs.declared.checking.Summary.{Summary}
+use Rattle.segment.specs.declared.checking.SegmentCheck.{SegmentCheck}
+use Rattle.segment.specs.declared.checking.SegmentCheck.the-variants as checked
 
 -- "Acceptance gives program number, AV1 PID, unit count and packet totals in five classes"
 abbrev pub summaryOf : Accepted → Summary

@@ -32,19 +32,19 @@ use Rattle.segment_rules.specs.Named.{Named}
 use Rattle.tables.specs.declared.state.Outcome.the-variants.{Passed, Refused}
 use Rattle.tables.specs.declared.tables.Tables.{Tables}
 use Rattle.tables.specs.declared.state.Kind.the-variants as kinds
-use Rattle.tables.specs.Tables.{Turns, packetAt, TablesStand, KindTurn}
+use Rattle.tables.specs.Tables.{Refines, packetAt, TablesRepresent, KindRefines}
 use Rattle.tables.specs.Parts.{withListedRecord}
 use Rattle.extraction.specs.declared.state.PesFound.{PesFound}
 use Rattle.extraction.specs.declared.state.PesSeen.the-variants as seen
 use Rattle.extraction.specs.declared.units.Extraction.{Extraction}
-use Rattle.extraction.specs.Extraction.{UnitsStand, StateStands}
+use Rattle.extraction.specs.Extraction.{UnitsRepresent, StateRepresents}
 use Rattle.segment.specs.declared.going.Due.{Due}
 use Rattle.segment.specs.declared.going.Due.the-variants as due
-use Rattle.segment.specs.declared.going.Went.{Went}
-use Rattle.segment.specs.declared.whole.Ran.{Ran}
-use Rattle.segment.specs.declared.whole.SegmentCheck.{SegmentCheck}
-use Rattle.segment.specs.declared.whole.SegmentCheck.the-variants as checked
-use Rattle.segment.specs.declared.whole.Checked.{Checked}
+use Rattle.segment.specs.declared.going.Continued.{Continued}
+use Rattle.segment.specs.declared.checking.RunResult.{RunResult}
+use Rattle.segment.specs.declared.checking.SegmentCheck.{SegmentCheck}
+use Rattle.segment.specs.declared.checking.SegmentCheck.the-variants as checked
+use Rattle.segment.specs.declared.checking.Checked.{Checked}
 use Rattle.segment.specs.Answer.{summaryOf, summarised, mapAfter, checkSays}
 
 -- ---- packets that go on with the open PES
@@ -52,12 +52,12 @@ use Rattle.segment.specs.Answer.{summaryOf, summarised, mapAfter, checkS
 pub record MayGoOn (c : Tables) (e : Extraction) (n slot counter : ℕ) : Type 0 where
   pub opened : (f : PesFound) × (e .pes ≡ seen.Open f)
   pub clocked : isPcr (c .pcr) ≡ true
-  pub kind : (edition : Edition) → KindTurn edition c n (kinds.Av1 slot)
+  pub kind : (edition : Edition) → KindRefines edition c n (kinds.Av1 slot)
   pub seen : (at : ℕ) × (repeat : Bool) × (recordAt (c .counters .listed) slot .last ≡ last.Packet counter at repeat)
 
-abbrev pub DueTurn : Tables → Extraction → ℕ → Due → Type 0
-DueTurn c e n due.None = Unit {0}
-DueTurn c e n (due.After slot counter) = MayGoOn c e n slot counter
+abbrev pub DueRefines : Tables → Extraction → ℕ → Due → Type 0
+DueRefines c e n due.None = Unit {0}
+DueRefines c e n (due.After slot counter) = MayGoOn c e n slot counter
 
 -- the record of a packet that is no repeat, after the one in this slot
 abbrev pub lastAt : Tables → ℕ → ℕ → ℕ → Stream
@@ -88,17 +88,17 @@ module _ (edition : Edition) (segment : Bytes) where
       × Pass rooms kind n (i + 1) next st′
 
   -- packets that go on with the open PES
-  abbrev pub GoOnTurn : ℕ → Tables → Extraction → Outputs → Went → Outputs → Type 0
-  GoOnTurn i c e now r after =
-      (before : Outputs) (st : State) → Named (st .tables) → StateStands edition segment before now c e st
+  abbrev pub GoOnRefines : ℕ → Tables → Extraction → Outputs → Continued → Outputs → Type 0
+  GoOnRefines i c e now r after =
+      (before : Outputs) (st : State) → Named (st .tables) → StateRepresents edition segment before now c e st
       → (st′ : State) × Pass (roomsOf before) state.Av1 (r .packets) i st st′
-      × StateStands edition segment before after (r .tables) (r .extraction) st′
+      × StateRepresents edition segment before after (r .tables) (r .extraction) st′
 
   -- all packets
-  abbrev pub RunTurn : Outputs → Ran → Outputs → Type 0
-  RunTurn before r now =
-      Turns (r .outcome) (run edition (roomsOf before) start (packets segment))
-      (λ g. StateStands edition segment before now (r .tables) (r .extraction) (g .state) × (r .totals ≡ g .totals))
+  abbrev pub RunRefines : Outputs → RunResult → Outputs → Type 0
+  RunRefines before r now =
+      Refines (r .outcome) (run edition (roomsOf before) start (packets segment))
+      (λ g. StateRepresents edition segment before now (r .tables) (r .extraction) (g .state) × (r .totals ≡ g .totals))
 
   -- where they passed, the list that was `old` at first holds the first packets of the units so far
   abbrev pub RunFirsts : Rooms → List ℕ → List ℕ → Type 0
@@ -112,42 +112,44 @@ CountsUpTo t = packetCount t < mostPackets
 
 -- ---- the end
 -- 33, or the summary of these units
-abbrev pub AcceptTurn : Edition → Tables → ℕ → ℕ → Totals → Checked → Type 0
-AcceptTurn edition c units count totals r =
-    (segment : Bytes) (t : state.Tables) (us : List AccessUnit) → units ≡ length us → TablesStand edition segment c t
+abbrev pub AcceptRefines : Edition → Tables → ℕ → ℕ → Totals → Checked → Type 0
+AcceptRefines edition c units count totals r =
+    (segment : Bytes) (t : state.Tables) (us : List AccessUnit) → units ≡ length us
+    → TablesRepresent edition segment c t
     → (checkSays (r .answer) ≡ summarised (accepted count (t .pat) (t .pmt) us totals))
     × (r .map ≡ mapAfter edition (accepted count (t .pat) (t .pmt) us totals))
 
 -- an answer is the verdict on the whole; where it accepts, the outputs hold the units
-abbrev pub AnswerTurn : Outputs → Verdict Accepted → SegmentCheck → Outputs → Type 0
-AnswerTurn before v (checked.Accepted s) now =
-    Turns Passed v (λ a. (s ≡ summaryOf a) × (now ≡ holding (a .units) before))
-AnswerTurn before v (checked.Refused r) now = Turns (Refused r) v (λ a. ⊥)
+abbrev pub AnswerRefines : Outputs → Verdict Accepted → SegmentCheck → Outputs → Type 0
+AnswerRefines before v (checked.Accepted s) now =
+    Refines Passed v (λ a. (s ≡ summaryOf a) × (now ≡ holding (a .units) before))
+AnswerRefines before v (checked.Refused r) now = Refines (Refused r) v (λ a. ⊥)
 
 -- with the map beside it
-abbrev pub CheckedTurn : Edition → Outputs → Verdict Accepted → Checked → Outputs → Type 0
-CheckedTurn edition before v r now = AnswerTurn before v (r .answer) now × (r .map ≡ mapAfter edition v)
+abbrev pub CheckedRefines : Edition → Outputs → Verdict Accepted → Checked → Outputs → Type 0
+CheckedRefines edition before v r now = AnswerRefines before v (r .answer) now × (r .map ≡ mapAfter edition v)
 
 -- where it accepts, the list that was `old` at first holds the first packets of the units
 abbrev pub AcceptedFirsts : List ℕ → Verdict Accepted → List ℕ → Type 0
 AcceptedFirsts old v firsts = (a : Accepted) → v ≡ verdict.passed a → firsts ≡ holdingFirsts (a .units) old
 
 -- after so many packets
-abbrev pub EndTurn : Edition → Ran → ℕ → Outputs → Checked → Outputs → Type 0
-EndTurn edition ran count now r after =
+abbrev pub EndRefines : Edition → RunResult → ℕ → Outputs → Checked → Outputs → Type 0
+EndRefines edition ran count now r after =
     (segment : Bytes) (before : Outputs) (g : Progress) → count ≡ g .index → ran .totals ≡ g .totals
-    → StateStands edition segment before now (ran .tables) (ran .extraction) (g .state)
-    → CheckedTurn edition before (ending g) r after
+    → StateRepresents edition segment before now (ran .tables) (ran .extraction) (g .state)
+    → CheckedRefines edition before (ending g) r after
 
-abbrev pub EndFirsts : Ran → Outputs → List ℕ → List ℕ → Type 0
+abbrev pub EndFirsts : RunResult → Outputs → List ℕ → List ℕ → Type 0
 EndFirsts ran now firsts after =
-    (before : Outputs) (g : Progress) (old : List ℕ) → UnitsStand before now (ran .extraction) (g .state .extraction)
+    (before : Outputs) (g : Progress) (old : List ℕ)
+    → UnitsRepresent before now (ran .extraction) (g .state .extraction)
     → firsts ≡ holdingFirsts (g .state .extraction .units) old → AcceptedFirsts old (ending g) after
 
 -- the whole segment
-abbrev pub WholeTurn : Edition → Bytes → Outputs → Checked → Outputs → Type 0
-WholeTurn edition segment before r now =
-    CheckedTurn edition before (checkSegment edition (roomsOf before) segment) r now
+abbrev pub WholeRefines : Edition → Bytes → Outputs → Checked → Outputs → Type 0
+WholeRefines edition segment before r now =
+    CheckedRefines edition before (checkSegment edition (roomsOf before) segment) r now
 
 -- ---- the comparison
 -- these carried units, by their sequence headers before the frame, beside a video descriptor, of which the code has the

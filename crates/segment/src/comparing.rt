@@ -7,8 +7,8 @@ ghost use Rattle.segment_rules.specs.Check.{outputsOf, roomsOf, outputsAfter, c
 ghost use Rattle.segment_rules.specs.Comparison.{checkCompared};
 ghost use Rattle.segment.specs.Answer.{checking, mapChecked, disagreementOf, checkSays};
 ghost use Rattle.segment.specs.Parts.{disagreeing, disagreementIn};
-use crate::whole::SegmentCheck;
-use crate::whole::check;
+use crate::checking::SegmentCheck;
+use crate::checking::check;
 use comparison::Disagreed;
 use comparison::compare_units;
 use descriptor::fields_of;

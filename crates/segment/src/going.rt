@@ -5,7 +5,7 @@ ghost use Prim.Native.Nat.{ℕ, _+_, _/_, _≤_};
 ghost use lib.ListN.{length};
 ghost use Rattle.descriptor.specs.Edition.{Edition};
 ghost use Rattle.segment_rules.specs.Check.{outputsOf};
-ghost use Rattle.segment.specs.Parts.{withLast, DueTurn, GoOnTurn};
+ghost use Rattle.segment.specs.Parts.{withLast, DueRefines, GoOnRefines};
 use extraction::Extraction;
 use extraction::PesSeen;
 use lists::part;
@@ -30,7 +30,7 @@ enum Due {
 }
 
 // The tables and the units after so many packets.
-pub(crate) struct Went {
+pub(crate) struct Continued {
     pub tables: Tables,
     pub extraction: Extraction,
     pub packets: usize,
@@ -38,7 +38,7 @@ pub(crate) struct Went {
 
 // A PES is open, a PCR has counted, and this is the AV1 PID, of which a packet was seen.
 fn due_after(pid: u16, tables: Tables, extraction: Extraction) -> Due
-    ensures { λ r. ⌜ DueTurn tables extraction pid r ⌝ }
+    ensures { λ r. ⌜ DueRefines tables extraction pid r ⌝ }
 {
     let pes = extraction.pes;
     let PesSeen::Open(_) = pes else {
@@ -99,16 +99,17 @@ pub(crate) fn go_on(
     tables: Tables,
     extraction: Extraction,
     out: &mut [u8],
-) -> Went
+) -> Continued
     requires { ⌜ (index ≤ length (now segment) / 188) × (extraction .start + extraction .bytes ≤ length (now out)) ⌝ }
-    ensures { λ r. ⌜ ((edition : Edition) (lens times : List ℕ) → GoOnTurn edition (now (segment .entry)) index tables
+    ensures { λ r. ⌜ ((edition : Edition) (lens times : List ℕ)
+        → GoOnRefines edition (now (segment .entry)) index tables
         extraction (outputsOf (now (out .entry)) lens times) r (outputsOf (now (out .exit)) lens times)) ⌝ }
     ensures { λ r. ⌜ index + r .packets ≤ length (now (segment .entry)) / 188 ⌝ }
 {
     let pid = pid_of(part(segment, index * PACKET_LENGTH, PACKET_LENGTH));
     let may = due_after(pid, tables, extraction);
     let Due::After { slot, counter } = may else {
-        return Went {
+        return Continued {
             tables,
             extraction,
             packets: 0,
@@ -117,7 +118,7 @@ pub(crate) fn go_on(
     let written = extraction.start + extraction.bytes;
     let packets = follow(segment, index, pid, counter, &mut out[written..]);
     if packets == 0 {
-        return Went {
+        return Continued {
             tables,
             extraction,
             packets: 0,
@@ -132,7 +133,7 @@ pub(crate) fn go_on(
         start: extraction.start,
         bytes: extraction.bytes + packets * PAYLOAD_LENGTH,
     };
-    Went {
+    Continued {
         tables: with_last(tables, slot, last, at),
         extraction: longer,
         packets,

@@ -1,12 +1,12 @@
 // The check of a segment (document 01, "A segment").
+mod checking;
 mod comparing;
 mod going;
 mod totals;
-mod whole;
 
+pub use checking::Checked;
+pub use checking::SegmentCheck;
+pub use checking::Summary;
+pub use checking::check;
 pub use comparing::Answered;
 pub use comparing::check_compared;
-pub use whole::Checked;
-pub use whole::SegmentCheck;
-pub use whole::Summary;
-pub use whole::check;

@@ -26,8 +26,8 @@ use Rattle.descriptor.specs.declared.fields.Fields.{Fields}
 use Rattle.descriptor.specs.Edition.{Edition, draft, editionOf}
 use Rattle.pmt.specs.Pmt.{MapContent, isVideo, videoDescriptors}
 use Rattle.sequence.specs.declared.fields.Sequence.{Sequence}
-use Rattle.sequence.specs.declared.comparison.Difference.{Difference}
-use Rattle.sequence.specs.declared.comparison.Difference.the-variants as difference
+use Rattle.sequence.specs.declared.comparing.Difference.{Difference}
+use Rattle.sequence.specs.declared.comparing.Difference.the-variants as difference
 use Rattle.sequence.specs.Bits.{Outcome, read, cutShort}
 use Rattle.sequence.specs.Header as sequence
 use Rattle.sequence.specs.Comparison.{ofHeader, ofDescriptor, firstDiffering, orCutShort, reading, comparing}

@@ -23,7 +23,7 @@ use Rattle.pes.specs.declared.header.Times.{Times}
 use Rattle.pes.specs.Pes.{noTimes, timesOf}
 use Rattle.psi.specs.Section.{sectionOf, commonWrong, upToCrc, tableIdExtension}
 use Rattle.pmt.specs.Pmt.{MapEntry, MapContent, pcrPid, pids, descriptors, programInfo, programInfoLength, entries, entryBytes}
-use Rattle.pmt.specs.Pmt.{isRegistration, registrationFirst, registrationLater, isAv1, strayRegistration, oneAv1, av1Entry, readPmt}
+use Rattle.pmt.specs.Pmt.{isRegistration, registrationFirst, registrationLater, isAv1, misplacedRegistration, oneAv1, av1Entry, readPmt}
 use Rattle.pmt.proofs.Passed.{Octets}
 use Rattle.segment_rules.specs.State as state
 use Rattle.segment_rules.specs.State.{FirstPat, FirstPmt, Tables, State, Kind, kindOf, listedAs, isMapPid, withTables, withPmt}
@@ -145,10 +145,10 @@ module _ (edition : Edition) where
   later-not [] h = refl
   later-not (d ∷ l) h = or-neither (isRegistration edition d) (any (isRegistration edition) l) h .1
 
-  no-stray : (es : List MapEntry) → All (NoneIn edition) es → any (strayRegistration edition) es ≡ false
-  unfolding any strayRegistration
-  no-stray [] h = refl
-  no-stray (e ∷ es) h = rw (first-not (e .descriptors) (h .0), later-not (e .descriptors) (h .0)) (no-stray es (h .1))
+  none-misplaced : (es : List MapEntry) → All (NoneIn edition) es → any (misplacedRegistration edition) es ≡ false
+  unfolding any misplacedRegistration
+  none-misplaced [] h = refl
+  none-misplaced (e ∷ es) h = rw (first-not (e .descriptors) (h .0), later-not (e .descriptors) (h .0)) (none-misplaced es (h .1))
 
   not-av1-entry : (e : MapEntry) → NoneIn edition e → isAv1 edition e ≡ false
   unfolding isAv1
@@ -161,7 +161,7 @@ module _ (edition : Edition) where
 
   refused-28 : (es : List MapEntry) → All (NoneIn edition) es → av1Entry edition es ≡ refused 28 0
   unfolding av1Entry oneAv1 given pick _>>_
-  refused-28 es h = rw (no-stray es h, no-av1 es h)
+  refused-28 es h = rw (none-misplaced es h, no-av1 es h)
 
   -- so its reading ends in 28, where the section is right up to there
   pmt-not : (program mapPid : ℕ) (section : Bytes) → Unregistered edition section

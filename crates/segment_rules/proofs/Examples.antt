@@ -216,7 +216,7 @@ unfolding bytesBefore patPacket pmtPacket draftPacket longPacket clockPacket pes
     counter.counterRight counter.withoutPcr counter.copyOf counter.check counter.recordOf counter.checkedIn crc.bitStep crc.bitsStep
     crc.byteStep crc.crcFrom section.misplaced section.fieldsWrong section.crcWrong section.commonWrong pat.programs pat.mapPidInRange
     pat.oneProgram pat.readPat pmt.descriptorsWithin pmt.pidWrong pmt.entry pmt.entriesAfter pmt.videoWrong pmt.registrationFirst
-    pmt.registrationLater pmt.isAv1 pmt.strayRegistration pmt.oneAv1 pmt.av1Entry pmt.readPmt pes.leastLengthByte pes.timeStampWrong
+    pmt.registrationLater pmt.isAv1 pmt.misplacedRegistration pmt.oneAv1 pmt.av1Entry pmt.readPmt pes.leastLengthByte pes.timeStampWrong
     pes.timesWrong pes.headerWrong pes.dts pes.timesOf check.segmentLengthWrong check.accepted check.ending check.step check.run
     check.checkSegment edition.editionOf check.ptsAndDts rules.inSequence rules.onTables rules.onUnits rules.countingPcr
     rules.laterSection rules.patSection rules.pmtSection rules.sectionRead rules.lengthDiffers rules.closeOpen rules.closeIfOpen

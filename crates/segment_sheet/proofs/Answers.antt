@@ -22,7 +22,7 @@ use Rattle.segment_rules.specs.Check.{Accepted, Outputs, roomsOf, checkIn, chec
 use Rattle.segment_rules.specs.Check.{firstPackets, firstsAfter}
 use Rattle.segment_rules.proofs.Fitting.{accepted-fits}
 use Rattle.segment.specs.Answer.{summaryOf, summarised, checking, mapAfter, mapIn, mapChecked}
-use Rattle.segment.specs.declared.whole.Summary.{Summary}
+use Rattle.segment.specs.declared.checking.Summary.{Summary}
 use Rattle.sheet.specs.Sheet.{Content, sheetOf}
 use Rattle.segment_sheet.specs.Content.{contentOf, sheetWriting, sheetAfter}
 use Rattle.segment_sheet.specs.Parts.{contentIn, HandedOut, putting}

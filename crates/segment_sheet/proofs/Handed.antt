@@ -20,7 +20,7 @@ use Rattle.pes.specs.declared.header.Times.{Times}
 use Rattle.pes.specs.declared.header.Times.the-variants.{Absent, Stamps}
 use Rattle.pmt.specs.Pmt.{MapEntry}
 use Rattle.pmt.specs.Answer.{listed, noEntry, noEntries, slots, mapOf}
-use Rattle.pmt.specs.declared.listing.Entry.{Entry}
+use Rattle.pmt.specs.declared.entries.Entry.{Entry}
 use Rattle.pmt.specs.declared.section.ProgramMap.{ProgramMap}
 use Rattle.segment_rules.specs.State.{AccessUnit}
 use Rattle.segment_rules.specs.Rules.{Rooms, carriedUnits}

@@ -10,7 +10,7 @@ use Rattle.lists.specs.Lists.{Bytes}
 use Rattle.refusal.specs.Verdict.{Verdict, passed, _>>_, given, leaves}
 use Rattle.tsobu.specs.StartCodes.{atStartCode}
 use Rattle.pmt.specs.Answer.{noEntry}
-use Rattle.pmt.specs.declared.listing.Entry.{Entry}
+use Rattle.pmt.specs.declared.entries.Entry.{Entry}
 use Rattle.pmt.specs.declared.section.ProgramMap.{ProgramMap}
 use Rattle.segment_rules.specs.Content.{placesIn}
 use Rattle.sheet.specs.declared.rows.StreamRow.{StreamRow}

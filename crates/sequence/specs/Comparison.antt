@@ -13,10 +13,10 @@ use Rattle.sequence.specs.Header.{headerOf}
 use Rattle.sequence.specs.declared.fields.Sequence.{Sequence}
 use Rattle.sequence.specs.declared.header.SequenceRead.{SequenceRead}
 use Rattle.sequence.specs.declared.header.SequenceRead.the-variants as sequenceRead
-use Rattle.sequence.specs.declared.comparison.Difference.{Difference}
-use Rattle.sequence.specs.declared.comparison.Difference.the-variants as difference
-use Rattle.sequence.specs.declared.comparison.Compared.{Compared}
-use Rattle.sequence.specs.declared.comparison.Compared.the-variants as compared
+use Rattle.sequence.specs.declared.comparing.Difference.{Difference}
+use Rattle.sequence.specs.declared.comparing.Difference.the-variants as difference
+use Rattle.sequence.specs.declared.comparing.Compared.{Compared}
+use Rattle.sequence.specs.declared.comparing.Compared.the-variants as compared
 
 -- "the nine fields from seq_profile to chroma_sample_position", of a header and of a descriptor
 unfoldable pub ofHeader : Sequence → List ℕ

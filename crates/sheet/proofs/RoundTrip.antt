@@ -34,18 +34,18 @@ use Rattle.sheet.proofs.Conditions.{content-passes}
 use Rattle.sheet.proofs.BigEndian.{bytesOf, bytes-long, Small, number-at}
 
 -- ---- numbers that stand in a sheet from number i on
-pub record Stands (s : Bytes) (i : ℕ) (ns : List ℕ) : Type 0 where
+pub record Represents (s : Bytes) (i : ℕ) (ns : List ℕ) : Type 0 where
   pub at : (j k : ℕ) → j < length ns → k ≡ i + j → number s k ≡ getD ns j 0
 
-stands-all : (ns : List ℕ) → Small ns → Stands (bytesOf ns) 0 ns
+stands-all : (ns : List ℕ) → Small ns → Represents (bytesOf ns) 0 ns
 stands-all ns a = record { at = λ j k h e. let f : k ≡ j = omega arith in ap (number (bytesOf ns)) f ∙ number-at ns j a h }
 
 module _ {s : Bytes} {i : ℕ} where
-  stands-left : (xs ys : List ℕ) → Stands s i (xs ++ ys) → Stands s i xs
+  stands-left : (xs ys : List ℕ) → Represents s i (xs ++ ys) → Represents s i xs
   stands-left xs ys h =
       record { at = λ j k l e. h .at j k (omega (arith, length-append xs ys)) e ∙ List·getD-append xs ys 0 j l }
 
-  stands-right : (xs ys : List ℕ) (m : ℕ) → m ≡ i + length xs → Stands s i (xs ++ ys) → Stands s m ys
+  stands-right : (xs ys : List ℕ) (m : ℕ) → m ≡ i + length xs → Represents s i (xs ++ ys) → Represents s m ys
   stands-right xs ys m n h =
       record {
         at = λ j k l e.
@@ -59,8 +59,8 @@ module _ {A : Type 0} (numbers : A → List ℕ) (width : ℕ) (wide : (a : A) �
   numbers-long [] = omega arith
   numbers-long (a ∷ l) = omega (arith, length-append (numbers a) (numbersOf numbers l), wide a, numbers-long l)
 
-  rows-back : (s : Bytes) (row : ℕ → A) → ((a : A) (i : ℕ) → Stands s i (numbers a) → row i ≡ a)
-      → (l : List A) (i : ℕ) → Stands s i (numbersOf numbers l) → rows row width (length l) i ≡ l
+  rows-back : (s : Bytes) (row : ℕ → A) → ((a : A) (i : ℕ) → Represents s i (numbers a) → row i ≡ a)
+      → (l : List A) (i : ℕ) → Represents s i (numbersOf numbers l) → rows row width (length l) i ≡ l
   unfolding rows numbersOf flatten
   rows-back s row one [] i h = refl
   rows-back s row one (a ∷ l) i h =
@@ -69,10 +69,10 @@ module _ {A : Type 0} (numbers : A → List ℕ) (width : ℕ) (wide : (a : A) �
       ap (λ (x : A). x ∷ rows row width (length l) (i + width)) e ∙ ap (λ (t : List A). a ∷ t) f
 
 module _ (s : Bytes) where
-  stream-back : (r : StreamRow) (i : ℕ) → Stands s i (streamNumbers r) → streamRow s i ≡ r
+  stream-back : (r : StreamRow) (i : ℕ) → Represents s i (streamNumbers r) → streamRow s i ≡ r
   stream-back r i h = rw (h .at 0 i (omega arith) (omega arith), h .at 1 (i + 1) (omega arith) refl)
 
-  unit-back : (r : UnitRow) (i : ℕ) → Stands s i (unitNumbers r) → unitRow s i ≡ r
+  unit-back : (r : UnitRow) (i : ℕ) → Represents s i (unitNumbers r) → unitRow s i ≡ r
   unit-back r i h =
       rw (
         h .at 0 i (omega arith) (omega arith),
@@ -81,7 +81,7 @@ module _ (s : Bytes) where
         h .at 3 (i + 3) (omega arith) refl,
       )
 
-  obu-back : (r : ObuRow) (i : ℕ) → Stands s i (obuNumbers r) → obuRow s i ≡ r
+  obu-back : (r : ObuRow) (i : ℕ) → Represents s i (obuNumbers r) → obuRow s i ≡ r
   obu-back r i h =
       rw (
         h .at 0 i (omega arith) (omega arith),
@@ -124,17 +124,17 @@ module _ (c : Content) where
       )
 
   module _ (small : Small (sheetNumbers c)) where
-    whole : Stands (sheetOf c) 0 (Streams ++ (Units ++ Obus))
+    whole : Represents (sheetOf c) 0 (Streams ++ (Units ++ Obus))
     unfolding sheetOf sheetNumbers
     whole = stands-all (sheetNumbers c) small
 
-    stream-section : Stands (sheetOf c) 0 Streams
+    stream-section : Represents (sheetOf c) 0 Streams
     stream-section = stands-left Streams (Units ++ Obus) whole
 
     streams-counted : streamCount (sheetOf c) ≡ length (c .streams)
     streams-counted = stream-section .at 0 0 (omega arith) refl
 
-    unit-section : Stands (sheetOf c) (unitSection (sheetOf c)) Units
+    unit-section : Represents (sheetOf c) (unitSection (sheetOf c)) Units
     unit-section =
         stands-left Units Obus
         (stands-right Streams (Units ++ Obus) (unitSection (sheetOf c)) (omega (arith, streams-counted, streams-long)) whole)
@@ -142,7 +142,7 @@ module _ (c : Content) where
     units-counted : unitCount (sheetOf c) ≡ length (c .units)
     units-counted = unit-section .at 0 (unitSection (sheetOf c)) (omega arith) (omega arith)
 
-    obu-section : Stands (sheetOf c) (obuSection (sheetOf c)) Obus
+    obu-section : Represents (sheetOf c) (obuSection (sheetOf c)) Obus
     obu-section =
         stands-right Units Obus (obuSection (sheetOf c)) (omega (arith, units-counted, units-long))
         (stands-right Streams (Units ++ Obus) (unitSection (sheetOf c)) (omega (arith, streams-counted, streams-long)) whole)
@@ -151,7 +151,7 @@ module _ (c : Content) where
     obus-counted = obu-section .at 0 (obuSection (sheetOf c)) (omega arith) (omega arith)
 
     -- the rows behind a count
-    behind : {t : Bytes} {i n : ℕ} (ns : List ℕ) → Stands t i (n ∷ ns) → Stands t (i + 1) ns
+    behind : {t : Bytes} {i n : ℕ} (ns : List ℕ) → Represents t i (n ∷ ns) → Represents t (i + 1) ns
     behind {n = n} ns h = stands-right (n ∷ []) ns _ refl h
 
     streams-back : rows (streamRow (sheetOf c)) 2 (streamCount (sheetOf c)) 1 ≡ c .streams

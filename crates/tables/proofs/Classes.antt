@@ -38,7 +38,7 @@ use Rattle.tables.specs.declared.state.PmtFound.{PmtFound}
 use Rattle.tables.specs.declared.state.PmtSeen.{PmtSeen}
 use Rattle.tables.specs.declared.state.PmtSeen.the-variants as pmt
 use Rattle.tables.specs.declared.tables.Tables.{Tables}
-use Rattle.tables.specs.Tables.{streamsIn, sectionAt, patOf, TablesStand, kindSays, SlotOf}
+use Rattle.tables.specs.Tables.{streamsIn, sectionAt, patOf, TablesRepresent, kindSays, SlotOf}
 use Rattle.tables.proofs.Standing.{pids-stand, no-pat-yet, pat-yet, no-pmt-yet, pmt-yet, neither, named-stand}
 use Rattle.tables.proofs.Mapping.{av1-slot}
 
@@ -53,7 +53,8 @@ map-second : (n : ℕ) (q : FirstPat) (m : Option FirstPmt) → (n ≡ 0 → ⊥
 map-second n q none z e = look-past n 0 _ z ∙ ap nextSlot (look-first n (q .says .«map_pid») _ e)
 map-second n q (some m) z e = look-past n 0 _ z ∙ ap nextSlot (look-first n (q .says .«map_pid») _ e)
 
-module _ {edition : Edition} {segment : Bytes} {c : Tables} {t : state.Tables} (h : Named t) (s : TablesStand edition segment c t) (n : ℕ)
+module _ {edition : Edition} {segment : Bytes} {c : Tables} {t : state.Tables} (h : Named t) (s : TablesRepresent edition segment c t)
+    (n : ℕ)
   where
     abbrev Is : Kind → Type 0
     Is k = (kindSays k ≡ kindOf t n) × SlotOf c n k
@@ -186,7 +187,7 @@ module _ {edition : Edition} {segment : Bytes} {c : Tables} {t : state.Tables} (
 
 -- ---- the last PCR that counted
 module _ {edition : Edition} {segment : Bytes} {c : Tables} {t : state.Tables} (p : Bytes) (h : Header) (e : h ≡ fields p)
-    (s : TablesStand edition segment c t) where
+    (s : TablesRepresent edition segment c t) where
   abbrev last : Clock
   last = lastPcr (t .pcr) (countingPcr (t .pmt) p)
 

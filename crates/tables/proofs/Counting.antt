@@ -24,7 +24,7 @@ use Rattle.packet.specs.declared.counter.Counted.{Counted}
 use Rattle.packet.specs.declared.counter.Checked.{Checked}
 use Rattle.packet.specs.declared.streams.Slot.the-variants as slots
 use Rattle.packet.specs.Counter.{StreamRecord, named, namedStream, check, checkedIn, givenBack, counterSays, pidsOf, recordOf}
-use Rattle.packet.specs.Counter.{sameBytes, equalsLast, counted, LiesAt, LastStands, Stands, CountedAs, Checks}
+use Rattle.packet.specs.Counter.{sameBytes, equalsLast, counted, LiesAt, LastRepresents, Represents, CountedAs, Checks}
 use Rattle.packet.specs.Streams.{lookUp, pidsIn, recordAt}
 use Rattle.packet.proofs.Counters.{checked-pids}
 use Rattle.packet.proofs.Slots.{put-listed, look-up-at, look-up-none}
@@ -42,59 +42,60 @@ use Rattle.tables.specs.declared.state.PmtSeen.the-variants as pmt
 use Rattle.tables.specs.declared.state.Outcome.{Outcome}
 use Rattle.tables.specs.declared.state.Outcome.the-variants as outcome
 use Rattle.tables.specs.declared.counters.Counters.{Counters}
-use Rattle.tables.specs.declared.counters.CountersTurn.{CountersTurn}
+use Rattle.tables.specs.declared.counters.CountersResult.{CountersResult}
 use Rattle.tables.specs.declared.tables.Tables.{Tables}
-use Rattle.tables.specs.Tables.{Turns, placedAt}
+use Rattle.tables.specs.Tables.{Refines, placedAt}
 use Rattle.tables.specs.Parts.{outcomeOf, withPatRecord, withMapRecord, withListedRecord, RecordChecked}
-use Rattle.tables.specs.Tables.{recordIn, lastRepeated, streamsIn, RecordsStand, TablesStand, slotIn}
+use Rattle.tables.specs.Tables.{recordIn, lastRepeated, streamsIn, RecordsRepresent, TablesRepresent, slotIn}
 use Rattle.tables.specs.Parts.{CountersChecked}
-use Rattle.tables.proofs.Turning.{turn-at, turn-then}
+use Rattle.tables.proofs.Refining.{refines-at, refines-then}
 use Rattle.tables.proofs.Standing.{stands-set, stands-at, pids-stand}
 
 -- ---- one record
 pub record-by : (segment : Bytes) (put : Stream → Counters) (c : Checked) (r : StreamRecord) (p : Bytes) (o : Outcome) (k : Counters)
     → o ≡ outcomeOf (c .verdict) → k ≡ put (c .stream)
-    → Checks segment r p c → Turns o (check r p) (λ r′. (s : Stream) × (k ≡ put s) × Stands segment s r′)
+    → Checks segment r p c → Refines o (check r p) (λ r′. (s : Stream) × (k ≡ put s) × Represents segment s r′)
 record-by segment put c r p o k e f h =
-    subst (λ (x : Outcome). Turns x (check r p) (λ r′. (s : Stream) × (k ≡ put s) × Stands segment s r′)) (sym e)
+    subst (λ (x : Outcome). Refines x (check r p) (λ r′. (s : Stream) × (k ≡ put s) × Represents segment s r′)) (sym e)
     (go (c .verdict) (check r p) (h .0) (h .1))
   where
-    go : (v : Counter) (w : Verdict StreamRecord) → counterSays v (givenBack r w) ≡ w → Stands segment (c .stream) (givenBack r w)
-        → Turns (outcomeOf v) w (λ r′. (s : Stream) × (k ≡ put s) × Stands segment s r′)
+    go : (v : Counter) (w : Verdict StreamRecord) → counterSays v (givenBack r w) ≡ w → Represents segment (c .stream) (givenBack r w)
+        → Refines (outcomeOf v) w (λ r′. (s : Stream) × (k ≡ put s) × Represents segment s r′)
     go counter.Right (passed t) g s = (t, refl, (c .stream, f, s))
     go counter.Right (refused number place) g s = never (sym g)
     go (counter.Refused q) w g s = sym g
 
 -- ---- the records of a packet's kind
 module _ (segment : Bytes) (q : PatSeen) (m : PmtSeen) (c : Counters) (records : List StreamRecord)
-    (stands : RecordsStand segment (streamsIn q m c) records) (packet : Counted) (p : Bytes) (t : CountersTurn) where
+    (stands : RecordsRepresent segment (streamsIn q m c) records) (packet : Counted) (p : Bytes) (t : CountersResult) where
   abbrev Counts : Type 0
-  Counts = Turns (t .outcome) (checkedIn records p) (RecordsStand segment (streamsIn q m (t .counters)))
+  Counts = Refines (t .outcome) (checkedIn records p) (RecordsRepresent segment (streamsIn q m (t .counters)))
 
   -- a kind that has no record
   unfound : lookUp (pid p) (pidsIn (streamsIn q m c)) ≡ slots.None → t ≡ record { counters = c; outcome = outcome.Passed } → Counts
   unfound l e =
-      subst (λ (x : CountersTurn). Turns (x .outcome) (checkedIn records p) (RecordsStand segment (streamsIn q m (x .counters)))) (sym e)
+      subst (λ (x : CountersResult). Refines (x .outcome) (checkedIn records p) (RecordsRepresent segment (streamsIn q m (x .counters))))
+      (sym e)
       (records, found-none p records (ap (lookUp (pid p)) (sym (pids-stand segment (streamsIn q m c) records stands)) ∙ l), stands)
 
   -- the record in slot j, which is put back there
   found : (j : ℕ) (s : Stream) (put : Stream → Counters) → lookUp (pid p) (pidsIn (streamsIn q m c)) ≡ slots.At j
       → s ≡ getD (streamsIn q m c) j (namedStream 0) → ((s′ : Stream) → streamsIn q m (put s′) ≡ set (streamsIn q m c) j s′)
-      → ((r : StreamRecord) → Stands segment s r → CountedAs segment r p packet) → RecordChecked s put packet t → Counts
+      → ((r : StreamRecord) → Represents segment s r → CountedAs segment r p packet) → RecordChecked s put packet t → Counts
   unfolding _>>=_
   found j s put l e puts reads checks =
       let r = getD records j (named 0) in
-      let there = subst (λ (x : Stream). Stands segment x r) (sym e) (stands-at segment (streamsIn q m c) records j stands) in
+      let there = subst (λ (x : Stream). Represents segment x r) (sym e) (stands-at segment (streamsIn q m c) records j stands) in
       go r (t .outcome) (found-at p records j (ap (lookUp (pid p)) (sym (pids-stand segment (streamsIn q m c) records stands)) ∙ l))
       (checks segment r p there (reads r there))
     where
       go : (r : StreamRecord) (o : Outcome) → checkedIn records p ≡ (check r p >>= λ r′. passed (set records j r′))
-          → Turns o (check r p) (λ r′. (s′ : Stream) × (t .counters ≡ put s′) × Stands segment s′ r′)
-          → Turns o (checkedIn records p) (RecordsStand segment (streamsIn q m (t .counters)))
+          → Refines o (check r p) (λ r′. (s′ : Stream) × (t .counters ≡ put s′) × Represents segment s′ r′)
+          → Refines o (checkedIn records p) (RecordsRepresent segment (streamsIn q m (t .counters)))
       go r outcome.Passed v (r′, w, (s′, k, st)) = (
         set records j r′,
         v ∙ ap (λ (x : Verdict StreamRecord). x >>= λ y. passed (set records j y)) w,
-        subst (λ (x : List Stream). RecordsStand segment x (set records j r′)) (sym (ap (streamsIn q m) k ∙ puts s′))
+        subst (λ (x : List Stream). RecordsRepresent segment x (set records j r′)) (sym (ap (streamsIn q m) k ∙ puts s′))
             (stands-set segment (streamsIn q m c) records j s′ r′ stands st),
       )
       go r (outcome.Refused z) v w = v ∙ ap (λ (x : Verdict StreamRecord). x >>= λ y. passed (set records j y)) w
@@ -137,10 +138,10 @@ within n l j e = omega (arith, look-up-at n (pidsIn l) j e .within, length-map l
 
 module _ (segment : Bytes) where
   pub counted-turn : (k : Kind) (q : PatSeen) (m : PmtSeen) (c : Counters) (records : List StreamRecord)
-      → RecordsStand segment (streamsIn q m c) records → (packet : Counted) (p : Bytes)
-      → ((r : StreamRecord) → Stands segment (recordIn k c) r → CountedAs segment r p packet) → (t : CountersTurn)
+      → RecordsRepresent segment (streamsIn q m c) records → (packet : Counted) (p : Bytes)
+      → ((r : StreamRecord) → Represents segment (recordIn k c) r → CountedAs segment r p packet) → (t : CountersResult)
       → lookUp (pid p) (pidsIn (streamsIn q m c)) ≡ slotIn k → CountersChecked k c packet t
-      → Turns (t .outcome) (checkedIn records p) (RecordsStand segment (streamsIn q m (t .counters)))
+      → Refines (t .outcome) (checkedIn records p) (RecordsRepresent segment (streamsIn q m (t .counters)))
   counted-turn slot.Null q m c records stands packet p e t l h = unfound segment q m c records stands packet p t l h
   counted-turn slot.Pat q m c records stands packet p e t l h =
       found segment q m c records stands packet p t 0 (c .pat) (withPatRecord c) l (pat-there q m c) (pat-put q m c) e h
@@ -157,11 +158,11 @@ module _ (segment : Bytes) where
 
 -- ---- what is looked at in a packet
 -- its bytes and those of the last packet, as the code's record knows it
-module _ (segment : Bytes) (s : Stream) (r : StreamRecord) (stands : Stands segment s r) (p : Bytes) where
+module _ (segment : Bytes) (s : Stream) (r : StreamRecord) (stands : Represents segment s r) (p : Bytes) where
   pub equals-none : s .last ≡ last.Unseen → false ≡ equalsLast (r .last) p
   equals-none e = sym (ap (λ (o : Option Bytes). equalsLast o p) (go (s .last) (r .last) (r .repeat) (stands .1) e))
     where
-      go : (l : Last) (o : Option Bytes) (b : Bool) → LastStands segment l o b → l ≡ last.Unseen → o ≡ none
+      go : (l : Last) (o : Option Bytes) (b : Bool) → LastRepresents segment l o b → l ≡ last.Unseen → o ≡ none
       go last.Unseen none b k f = refl
       go last.Unseen (some q) b k f = absurd k
       go (last.Packet counter at repeat) o b k f = let z : _≡_ {A = ℕ} 0 1 = cc in absurd (omega arith)
@@ -172,7 +173,7 @@ module _ (segment : Bytes) (s : Stream) (r : StreamRecord) (stands : Stands segm
       f ∙ ap (λ (x : Bytes). sameBytes x p) lent
       ∙ sym (ap (λ (o : Option Bytes). equalsLast o p) (go (s .last) (r .last) (r .repeat) (stands .1) e))
     where
-      go : (l : Last) (o : Option Bytes) (b : Bool) → LastStands segment l o b → l ≡ last.Packet counter at repeat
+      go : (l : Last) (o : Option Bytes) (b : Bool) → LastRepresents segment l o b → l ≡ last.Packet counter at repeat
           → o ≡ some (take packetLength (drop at segment))
       go last.Unseen o b k f = let z : _≡_ {A = ℕ} 0 1 = cc in absurd (omega arith)
       go (last.Packet counter′ at′ repeat′) none b k f = absurd k
@@ -191,10 +192,10 @@ counted-as segment p t h at equal r e f g lies =
     )
 
 -- ---- whether the last packet of a PID was a repeat
-last-repeated : (segment : Bytes) (s : Stream) (r : StreamRecord) → Stands segment s r → lastRepeated (s .last) ≡ r .repeat
+last-repeated : (segment : Bytes) (s : Stream) (r : StreamRecord) → Represents segment s r → lastRepeated (s .last) ≡ r .repeat
 last-repeated segment s r h = go (s .last) (r .last) (r .repeat) (h .1)
   where
-    go : (l : Last) (o : Option Bytes) (b : Bool) → LastStands segment l o b → lastRepeated l ≡ b
+    go : (l : Last) (o : Option Bytes) (b : Bool) → LastRepresents segment l o b → lastRepeated l ≡ b
     go last.Unseen none b k = sym k
     go last.Unseen (some p) b k = absurd k
     go (last.Packet counter at repeat) none b k = absurd k
@@ -216,7 +217,7 @@ record-none n [] f = refl
 record-none n (r ∷ records) f =
     rw (ne-eqb (r .pid) n (f 0 (omega arith))) (record-none n records (λ j i. f (suc j) (omega arith)))
 
-module _ (segment : Bytes) (streams : List Stream) (records : List StreamRecord) (stands : RecordsStand segment streams records)
+module _ (segment : Bytes) (streams : List Stream) (records : List StreamRecord) (stands : RecordsRepresent segment streams records)
     (n : ℕ) where
   pid-at : (j : ℕ) → getD (pidsIn streams) j 0 ≡ getD records j (named 0) .pid
   pid-at j = ap (λ (l : List ℕ). getD l j 0) (pids-stand segment streams records stands)
@@ -242,7 +243,7 @@ module _ (segment : Bytes) (streams : List Stream) (records : List StreamRecord)
 
 module _ (segment : Bytes) where
   pub kind-repeats : (k : Kind) (q : PatSeen) (m : PmtSeen) (c : Counters) (records : List StreamRecord)
-      → RecordsStand segment (streamsIn q m c) records → (n : ℕ) → lookUp n (pidsIn (streamsIn q m c)) ≡ slotIn k
+      → RecordsRepresent segment (streamsIn q m c) records → (n : ℕ) → lookUp n (pidsIn (streamsIn q m c)) ≡ slotIn k
       → lastRepeated (recordIn k c .last) ≡ lastRepeats (recordOf n records)
   kind-repeats slot.Null q m c records stands n l = repeat-none segment (streamsIn q m c) records stands n l
   kind-repeats slot.Pat q m c records stands n l = repeat-at segment (streamsIn q m c) records stands n 0 (c .pat) l (pat-there q m c)
@@ -265,17 +266,18 @@ kept-pids i p t u e =
     ∙ checked-pids p (t .records) (k .0) (passed-at i (checkedIn (t .records) p) (k .0) (k .1))
 
 -- ---- the tables with the packet's PCR, and the records after its check
-pub counter-turn : (edition : Edition) (segment : Bytes) (i : ℕ) (p : Bytes) (c : Tables) (t : state.Tables) → TablesStand edition segment c
+pub counter-turn : (edition : Edition) (segment : Bytes) (i : ℕ) (p : Bytes) (c : Tables) (t : state.Tables)
+    → TablesRepresent edition segment c
     t
     → (clock : Clock) → clock ≡ lastPcr (t .pcr) (countingPcr (t .pmt) p) → (o o′ : Outcome) (k : Counters) → o′ ≡ placedAt i o
-    → Turns o (checkedIn (t .records) p) (RecordsStand segment (streamsIn (c .pat) (c .pmt) k))
-    → Turns o′ (checked i p (clocked i p t)) (TablesStand edition segment
+    → Refines o (checkedIn (t .records) p) (RecordsRepresent segment (streamsIn (c .pat) (c .pmt) k))
+    → Refines o′ (checked i p (clocked i p t)) (TablesRepresent edition segment
     (record { edition = c .edition; pat = c .pat; pmt = c .pmt; map = c .map; counters = k; pcr = clock }))
 unfolding checked
 counter-turn edition segment i p c t s clock e o o′ k f h =
     let c′ : Tables = record { edition = c .edition; pat = c .pat; pmt = c .pmt; map = c .map; counters = k; pcr = clock } in
-    subst (λ (x : Outcome). Turns x (checked i p (clocked i p t)) (TablesStand edition segment c′)) (sym f)
-    (turn-then (atPlace i (checkedIn (t .records) p)) (RecordsStand segment (streamsIn (c .pat) (c .pmt) k))
-    (TablesStand edition segment c′) _ (placedAt i o)
-    (turn-at (checkedIn (t .records) p) (RecordsStand segment (streamsIn (c .pat) (c .pmt) k)) i o h)
+    subst (λ (x : Outcome). Refines x (checked i p (clocked i p t)) (TablesRepresent edition segment c′)) (sym f)
+    (refines-then (atPlace i (checkedIn (t .records) p)) (RecordsRepresent segment (streamsIn (c .pat) (c .pmt) k))
+    (TablesRepresent edition segment c′) _ (placedAt i o)
+    (refines-at (checkedIn (t .records) p) (RecordsRepresent segment (streamsIn (c .pat) (c .pmt) k)) i o h)
     (λ records _ stands. record { follows = s .follows; pat = s .pat; pmt = s .pmt; records = stands; pcr = e }))

@@ -3,4 +3,4 @@ pub mod Counting
 pub mod Mapping
 pub mod Reading
 pub mod Standing
-pub mod Turning
+pub mod Refining

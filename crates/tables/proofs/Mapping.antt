@@ -20,7 +20,7 @@ use Rattle.packet.specs.Counter.{named, namedStream}
 use Rattle.packet.specs.Streams as streams
 use Rattle.packet.specs.Streams.{streamsOf}
 use Rattle.packet.proofs.Slots.{of-listed}
-use Rattle.pmt.specs.declared.listing.Entry.{Entry}
+use Rattle.pmt.specs.declared.entries.Entry.{Entry}
 use Rattle.pmt.specs.declared.section.ProgramMap.{ProgramMap}
 use Rattle.pmt.specs.declared.section.PmtAnswer.{PmtAnswer}
 use Rattle.pmt.specs.declared.section.PmtAnswer.the-variants as answer
@@ -38,7 +38,7 @@ use Rattle.tables.specs.declared.state.PmtSeen.{PmtSeen}
 use Rattle.tables.specs.declared.state.PmtSeen.the-variants as pmt
 use Rattle.tables.specs.declared.state.Outcome.the-variants as outcome
 use Rattle.tables.specs.declared.tables.Tables.{Tables}
-use Rattle.tables.specs.Tables.{Turns, streamsIn, RecordsStand, patOf, LiesAt, TablesStand}
+use Rattle.tables.specs.Tables.{Refines, streamsIn, RecordsRepresent, patOf, LiesAt, TablesRepresent}
 use Rattle.tables.proofs.Standing.{stands-append, stands-named, pat-yet, no-pmt-yet}
 
 abbrev pidOf : Entry → ℕ
@@ -81,7 +81,7 @@ unfolding mapped _>>=_
 not-mapped edition (passed m) number place e = never (sym e)
 not-mapped edition (refused n i) number place e = let h : n ≡ number = cc in let k : i ≡ place = cc in ap₂ refused h k
 
-module _ {edition : Edition} {segment : Bytes} {c : Tables} {t : state.Tables} (s : TablesStand edition segment c t) (section : Bytes)
+module _ {edition : Edition} {segment : Bytes} {c : Tables} {t : state.Tables} (s : TablesRepresent edition segment c t) (section : Bytes)
     (f : PatFound)
     (e : c .pat ≡ pat.First f) (k : c .pmt ≡ pmt.None) (a : PmtAnswer) (p : ProgramMap)
     (read : answerSays a p ≡ mapped (editionSays (c .edition)) (readPmt (editionSays (c .edition)) (f .says .number) (f .says .«map_pid»)
@@ -104,8 +104,8 @@ module _ {edition : Edition} {segment : Bytes} {c : Tables} {t : state.Tables} (
   -- the map is kept, and the place of its section; the listed PIDs are those of the map's slots
   pub pmt-read : (at : ℕ) (numbers : List ℕ) (l : Streams) → LiesAt segment at section → a ≡ answer.Map → numbers ≡ map pidOf (p .entries)
       → l ≡ streamsOf numbers (p .count)
-      → Turns outcome.Passed rule
-      (TablesStand edition segment
+      → Refines outcome.Passed rule
+      (TablesRepresent edition segment
       (record {
         edition = c .edition;
         pat = c .pat;
@@ -122,11 +122,11 @@ module _ {edition : Edition} {segment : Bytes} {c : Tables} {t : state.Tables} (
       ap streams.listed (j ∙ ap (λ (x : List ℕ). streamsOf x (p .count)) i ∙ ap
       (λ (x : ProgramMap). streamsOf (map pidOf (x .entries)) (x .count)) (sym (q .2)))
       ∙ streams-named (m .entries) in
-      let two : RecordsStand segment (c .counters .pat ∷ c .counters .map ∷ []) (t .records) =
-      subst (λ (x : PmtSeen). RecordsStand segment (streamsIn (pat.First f) x (c .counters)) (t .records)) k
-      (subst (λ (x : PatSeen). RecordsStand segment (streamsIn x (c .pmt) (c .counters)) (t .records)) e (s .records)) in
-      let more : RecordsStand segment (streams.listed l) (map named (pids (m .entries))) =
-      subst (λ (x : List Stream). RecordsStand segment x (map named (pids (m .entries)))) (sym all)
+      let two : RecordsRepresent segment (c .counters .pat ∷ c .counters .map ∷ []) (t .records) =
+      subst (λ (x : PmtSeen). RecordsRepresent segment (streamsIn (pat.First f) x (c .counters)) (t .records)) k
+      (subst (λ (x : PatSeen). RecordsRepresent segment (streamsIn x (c .pmt) (c .counters)) (t .records)) e (s .records)) in
+      let more : RecordsRepresent segment (streams.listed l) (map named (pids (m .entries))) =
+      subst (λ (x : List Stream). RecordsRepresent segment x (map named (pids (m .entries)))) (sym all)
       (stands-named segment (pids (m .entries))) in (
         withPmt (record { section = section; says = m }) (map named (pids (m .entries))) t,
         sym (first (go-on m _ (q .1) refl)),
@@ -135,7 +135,7 @@ module _ {edition : Edition} {segment : Bytes} {c : Tables} {t : state.Tables} (
           pat = s .pat;
           pmt = record { section = lies; says = sym (q .2); one = says _ _ _ _ m (q .1) .one };
           records =
-              subst (λ (x : PatSeen). RecordsStand segment (streamsIn x (pmt.First (record { at = at; size = length section }))
+              subst (λ (x : PatSeen). RecordsRepresent segment (streamsIn x (pmt.First (record { at = at; size = length section }))
               (record { pat = c .counters .pat; map = c .counters .map; listed = l })) (t .records ++ map named (pids (m .entries))))
               (sym e)
               (stands-append segment (c .counters .pat ∷ c .counters .map ∷ []) (streams.listed l) (t .records)

@@ -15,7 +15,7 @@ use Rattle.refusal.specs.declared.Refused.{Refused}
 use Rattle.refusal.proofs.Verdicts.{refuse, pass-on, go-on, stop}
 use Rattle.descriptor.specs.Edition.{Edition}
 use Rattle.packet.specs.declared.counter.Stream.{Stream}
-use Rattle.packet.specs.Counter.{named, Stands}
+use Rattle.packet.specs.Counter.{named, Represents}
 use Rattle.psi.specs.Section.{foundIn}
 use Rattle.psi.specs.Pat.{readPat, patSays}
 use Rattle.psi.specs.declared.pat.Program.{Program}
@@ -37,9 +37,9 @@ use Rattle.tables.specs.declared.state.PmtSeen.the-variants as pmt
 use Rattle.tables.specs.declared.state.Outcome.{Outcome}
 use Rattle.tables.specs.declared.state.Outcome.the-variants as outcome
 use Rattle.tables.specs.declared.tables.Tables.{Tables}
-use Rattle.tables.specs.declared.tables.TablesTurn.{TablesTurn}
-use Rattle.tables.specs.Tables.{Turns, streamsIn, RecordsStand, sectionAt, LiesAt, TablesStand, kindSays, CarriesOut}
-use Rattle.tables.proofs.Turning.{turn-also, turn-as}
+use Rattle.tables.specs.declared.tables.TablesResult.{TablesResult}
+use Rattle.tables.specs.Tables.{Refines, streamsIn, RecordsRepresent, sectionAt, LiesAt, TablesRepresent, kindSays, CarriesOut}
+use Rattle.tables.proofs.Refining.{refines-also, refines-as}
 use Rattle.tables.proofs.Standing.{stands-append, no-pat-yet, pat-yet, pmt-yet, neither}
 
 -- ---- places of the segment
@@ -69,7 +69,7 @@ section-lies segment payload at n start section e f g =
 
 -- ---- a later section
 module _ (number : ℕ) (first section : Bytes) (t : state.Tables) where
-  pub later-same : same section first ≡ true → Turns outcome.Passed (laterSection number first section t) (λ u. u ≡ t)
+  pub later-same : same section first ≡ true → Refines outcome.Passed (laterSection number first section t) (λ u. u ≡ t)
   unfolding laterSection
   later-same e = (t, sym (pass-on number (ap not e) refl), refl)
 
@@ -78,7 +78,7 @@ module _ (number : ℕ) (first section : Bytes) (t : state.Tables) where
   later-other e = sym (refuse number (passed t) (ap not e))
 
 -- ---- the PAT
-module _ {edition : Edition} {segment : Bytes} {c : Tables} {t : state.Tables} (h : Named t) (s : TablesStand edition segment c t)
+module _ {edition : Edition} {segment : Bytes} {c : Tables} {t : state.Tables} (h : Named t) (s : TablesRepresent edition segment c t)
     (section : Bytes) where
   abbrev rule : Verdict state.Tables
   rule = patSection (t .pat) section t
@@ -94,9 +94,9 @@ module _ {edition : Edition} {segment : Bytes} {c : Tables} {t : state.Tables} (
 
     pub pat-read : (at : ℕ) (a : PatRead) (p : Program) (m : Stream) → LiesAt segment at section → a ≡ answer.Program p → patSays a ≡
         readPat section
-        → Stands segment m (named (p .«map_pid»))
-        → Turns outcome.Passed rule
-        (TablesStand edition segment
+        → Represents segment m (named (p .«map_pid»))
+        → Refines outcome.Passed rule
+        (TablesRepresent edition segment
         (record {
           edition = c .edition;
           pat = pat.First (record { says = p; at = at; size = length section });
@@ -108,8 +108,8 @@ module _ {edition : Edition} {segment : Bytes} {c : Tables} {t : state.Tables} (
     unfolding patSection
     pat-read at a p m lies f g st =
         let none-yet = neither s h e .1 in
-        let one : RecordsStand segment (c .counters .pat ∷ []) (t .records) =
-        subst (λ (x : PatSeen). RecordsStand segment (streamsIn x (c .pmt) (c .counters)) (t .records)) e (s .records) in (
+        let one : RecordsRepresent segment (c .counters .pat ∷ []) (t .records) =
+        subst (λ (x : PatSeen). RecordsRepresent segment (streamsIn x (c .pmt) (c .counters)) (t .records)) e (s .records) in (
           withPat (record { section = section; says = p }) (named (p .«map_pid») ∷ []) t,
           sym (first (go-on p _ (sym g ∙ ap patSays f) refl)),
           record {
@@ -117,7 +117,8 @@ module _ {edition : Edition} {segment : Bytes} {c : Tables} {t : state.Tables} (
             pat = ap (λ (x : Bytes). some (record { section = x; says = p })) lies;
             pmt = s .pmt;
             records =
-                subst (λ (x : PmtSeen). RecordsStand segment (streamsIn (pat.First (record { says = p; at = at; size = length section })) x
+                subst (λ (x : PmtSeen). RecordsRepresent segment (streamsIn (pat.First
+                (record { says = p; at = at; size = length section })) x
                 (record { pat = c .counters .pat; map = m; listed = c .counters .listed })) (t .records ++ (named (p .«map_pid») ∷ [])))
                 (sym none-yet)
                 (stands-append segment (c .counters .pat ∷ []) (m ∷ []) (t .records) (named (p .«map_pid») ∷ []) one (st, tt));
@@ -127,15 +128,16 @@ module _ {edition : Edition} {segment : Bytes} {c : Tables} {t : state.Tables} (
 
   -- a later one
   pub pat-later : (f : PatFound) (earlier : Bytes) (o : Outcome) → c .pat ≡ pat.First f → earlier ≡ sectionAt segment (f .at) (f .size)
-      → Turns o (laterSection 25 earlier section t) (λ u. u ≡ t) → Turns o rule (TablesStand edition segment c)
+      → Refines o (laterSection 25 earlier section t) (λ u. u ≡ t) → Refines o rule (TablesRepresent edition segment c)
   unfolding patSection
   pat-later f earlier o e k l =
-      turn-as _ (TablesStand edition segment c) rule o
+      refines-as _ (TablesRepresent edition segment c) rule o
       (ap (λ (x : Bytes). laterSection 25 x section t) k ∙ ap (λ (x : Option FirstPat). patSection x section t) (sym (pat-yet s f e)))
-      (turn-also _ (λ u. u ≡ t) (TablesStand edition segment c) o l (λ u _ z. subst (TablesStand edition segment c) (sym z) s))
+      (refines-also _ (λ u. u ≡ t) (TablesRepresent edition segment c) o l (λ u _ z. subst (TablesRepresent edition segment c) (sym z) s))
 
 -- ---- the PMT
-module _ {edition : Edition} {segment : Bytes} {c : Tables} {t : state.Tables} (s : TablesStand edition segment c t) (section : Bytes) where
+module _ {edition : Edition} {segment : Bytes} {c : Tables} {t : state.Tables} (s : TablesRepresent edition segment c t)
+    (section : Bytes) where
   -- before the PAT
   pub pmt-skipped : c .pat ≡ pat.None → pmtSection edition (t .pat) (t .pmt) section t ≡ passed t
   unfolding pmtSection
@@ -143,15 +145,15 @@ module _ {edition : Edition} {segment : Bytes} {c : Tables} {t : state.Tables} (
 
   -- a later one
   pub pmt-later : (f : PatFound) (g : PmtFound) (earlier : Bytes) (o : Outcome) → c .pat ≡ pat.First f → c .pmt ≡ pmt.First g
-      → earlier ≡ sectionAt segment (g .at) (g .size) → Turns o (laterSection 26 earlier section t) (λ u. u ≡ t)
-      → Turns o (pmtSection edition (t .pat) (t .pmt) section t) (TablesStand edition segment c)
+      → earlier ≡ sectionAt segment (g .at) (g .size) → Refines o (laterSection 26 earlier section t) (λ u. u ≡ t)
+      → Refines o (pmtSection edition (t .pat) (t .pmt) section t) (TablesRepresent edition segment c)
   unfolding pmtSection
   pmt-later f g earlier o e k i l =
       let m = pmt-yet s g k in
-      turn-as _ (TablesStand edition segment c) _ o
+      refines-as _ (TablesRepresent edition segment c) _ o
       (ap (λ (x : Bytes). laterSection 26 x section t) (i ∙ sym (m .2 .section))
       ∙ ap₂ (λ (x : Option FirstPat) (y : Option FirstPmt). pmtSection edition x y section t) (sym (pat-yet s f e)) (sym (m .1)))
-      (turn-also _ (λ u. u ≡ t) (TablesStand edition segment c) o l (λ u _ z. subst (TablesStand edition segment c) (sym z) s))
+      (refines-also _ (λ u. u ≡ t) (TablesRepresent edition segment c) o l (λ u _ z. subst (TablesRepresent edition segment c) (sym z) s))
 
 -- ---- the payload of a packet
 module _ (edition : Edition) (start : Bool) (payload : Bytes) (t : state.Tables) where
@@ -178,25 +180,25 @@ module _ (edition : Edition) (start : Bool) (payload : Bytes) (t : state.Tables)
       pass-on 26 (l .placed) (ap (λ (x : Bytes). pmtSection edition (t .pat) (t .pmt) x t) (g ∙ l .part))
 
 -- ---- a turn that passes, or refuses, at once
-module _ {edition : Edition} {segment : Bytes} {c : Tables} (step : state.Tables → Verdict state.Tables) (r : TablesTurn) where
+module _ {edition : Edition} {segment : Bytes} {c : Tables} (step : state.Tables → Verdict state.Tables) (r : TablesResult) where
   pub passes : r ≡ record { tables = c; outcome = outcome.Passed }
-      → ((t : state.Tables) → TablesStand edition segment c t → step t ≡ passed t) → CarriesOut edition segment c r step
+      → ((t : state.Tables) → TablesRepresent edition segment c t → step t ≡ passed t) → CarriesOut edition segment c r step
   passes e f t h s =
-      subst (λ (x : TablesTurn). Turns (x .outcome) (step t) (TablesStand edition segment (x .tables))) (sym e) (t, f t s, s)
+      subst (λ (x : TablesResult). Refines (x .outcome) (step t) (TablesRepresent edition segment (x .tables))) (sym e) (t, f t s, s)
 
   pub refuses : (q : Refused) → r ≡ record { tables = c; outcome = outcome.Refused q }
-      → ((t : state.Tables) → TablesStand edition segment c t → step t ≡ refusedBy q)
+      → ((t : state.Tables) → TablesRepresent edition segment c t → step t ≡ refusedBy q)
       → CarriesOut edition segment c r step
   refuses q e f t h s =
-      subst (λ (x : TablesTurn). Turns (x .outcome) (step t) (TablesStand edition segment (x .tables))) (sym e) (f t s)
+      subst (λ (x : TablesResult). Refines (x .outcome) (step t) (TablesRepresent edition segment (x .tables))) (sym e) (f t s)
 
   -- the same of another step that says the same
   pub carries-as : (other : state.Tables → Verdict state.Tables) → ((t : state.Tables) → other t ≡ step t) → CarriesOut edition segment c r
       other → CarriesOut edition segment c r step
-  carries-as other e k t h s = turn-as (other t) (TablesStand edition segment (r .tables)) (step t) (r .outcome) (e t) (k t h s)
+  carries-as other e k t h s = refines-as (other t) (TablesRepresent edition segment (r .tables)) (step t) (r .outcome) (e t) (k t h s)
 
 -- the payload of a packet, by the kind of its PID
-pub by-kind : {edition : Edition} {segment : Bytes} {c : Tables} (k j : Kind) (start : Bool) (payload : Bytes) (r : TablesTurn) → k ≡ j
+pub by-kind : {edition : Edition} {segment : Bytes} {c : Tables} (k j : Kind) (start : Bool) (payload : Bytes) (r : TablesResult) → k ≡ j
     → CarriesOut edition segment c r (sectionRead edition (kindSays j) start payload) → CarriesOut edition segment c r
     (sectionRead edition (kindSays k) start payload)
 by-kind {edition} {segment} {c} k j start payload r e h =

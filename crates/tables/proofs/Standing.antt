@@ -10,7 +10,7 @@ use lib.ListN.{getD, set}
 use Rattle.lists.specs.Lists.{Bytes}
 use Rattle.descriptor.specs.Edition.{Edition}
 use Rattle.packet.specs.declared.counter.Stream.{Stream}
-use Rattle.packet.specs.Counter.{StreamRecord, named, namedStream, Stands, pidsOf}
+use Rattle.packet.specs.Counter.{StreamRecord, named, namedStream, Represents, pidsOf}
 use Rattle.packet.specs.Streams.{pidsIn}
 use Rattle.pmt.specs.declared.section.ProgramMap.{ProgramMap}
 use Rattle.segment_rules.specs.State as state
@@ -24,45 +24,45 @@ use Rattle.tables.specs.declared.state.PmtFound.{PmtFound}
 use Rattle.tables.specs.declared.state.PmtSeen.{PmtSeen}
 use Rattle.tables.specs.declared.state.PmtSeen.the-variants as pmt
 use Rattle.tables.specs.declared.tables.Tables.{Tables}
-use Rattle.tables.specs.Tables.{streamsIn, RecordsStand, patOf, PmtStands, PmtSeenStands, TablesStand, freshTables}
+use Rattle.tables.specs.Tables.{streamsIn, RecordsRepresent, patOf, PmtRepresents, PmtSeenRepresents, TablesRepresent, freshTables}
 
 -- ---- before the first packet
-pub tables-start : (edition : EditionName) (segment : Bytes) → TablesStand (editionSays edition) segment (freshTables edition) noTables
+pub tables-start : (edition : EditionName) (segment : Bytes) → TablesRepresent (editionSays edition) segment (freshTables edition) noTables
 tables-start edition segment = record { follows = refl; pat = refl; pmt = tt; records = ((refl, refl), tt); pcr = refl }
 
 -- ---- records
 module _ (segment : Bytes) where
   pub stands-set : (streams : List Stream) (records : List StreamRecord) (k : ℕ) (s : Stream) (r : StreamRecord)
-      → RecordsStand segment streams records → Stands segment s r
-      → RecordsStand segment (set streams k s) (set records k r)
+      → RecordsRepresent segment streams records → Represents segment s r
+      → RecordsRepresent segment (set streams k s) (set records k r)
   stands-set [] [] k s r h e = tt
   stands-set [] (q ∷ records) k s r h e = absurd h
   stands-set (t ∷ streams) [] k s r h e = absurd h
   stands-set (t ∷ streams) (q ∷ records) zero s r h e = (e, h .1)
   stands-set (t ∷ streams) (q ∷ records) (suc k) s r h e = (h .0, stands-set streams records k s r (h .1) e)
 
-  pub stands-at : (streams : List Stream) (records : List StreamRecord) (k : ℕ) → RecordsStand segment streams records
-      → Stands segment (getD streams k (namedStream 0)) (getD records k (named 0))
+  pub stands-at : (streams : List Stream) (records : List StreamRecord) (k : ℕ) → RecordsRepresent segment streams records
+      → Represents segment (getD streams k (namedStream 0)) (getD records k (named 0))
   stands-at [] [] k h = (refl, refl)
   stands-at [] (q ∷ records) k h = absurd h
   stands-at (t ∷ streams) [] k h = absurd h
   stands-at (t ∷ streams) (q ∷ records) zero h = h .0
   stands-at (t ∷ streams) (q ∷ records) (suc k) h = stands-at streams records k (h .1)
 
-  pub stands-append : (a b : List Stream) (x y : List StreamRecord) → RecordsStand segment a x → RecordsStand segment b y
-      → RecordsStand segment (a ++ b) (x ++ y)
+  pub stands-append : (a b : List Stream) (x y : List StreamRecord) → RecordsRepresent segment a x → RecordsRepresent segment b y
+      → RecordsRepresent segment (a ++ b) (x ++ y)
   stands-append [] b [] y h k = k
   stands-append [] b (r ∷ x) y h k = absurd h
   stands-append (s ∷ a) b [] y h k = absurd h
   stands-append (s ∷ a) b (r ∷ x) y h k = (h .0, stands-append a b x y (h .1) k)
 
   -- those of PIDs that have just been named
-  pub stands-named : (pids : List ℕ) → RecordsStand segment (map namedStream pids) (map named pids)
+  pub stands-named : (pids : List ℕ) → RecordsRepresent segment (map namedStream pids) (map named pids)
   stands-named [] = tt
   stands-named (n ∷ pids) = ((refl, refl), stands-named pids)
 
   -- the PIDs
-  pub pids-stand : (streams : List Stream) (records : List StreamRecord) → RecordsStand segment streams records
+  pub pids-stand : (streams : List Stream) (records : List StreamRecord) → RecordsRepresent segment streams records
       → pidsIn streams ≡ pidsOf records
   pids-stand [] [] h = refl
   pids-stand [] (q ∷ records) h = absurd h
@@ -72,18 +72,19 @@ module _ (segment : Bytes) where
 
 -- ---- which sections were seen
 module _ (edition : Edition) (segment : Bytes) where
-  no-map-seen : (q : PmtSeen) (map : ProgramMap) (m : Option FirstPmt) → q ≡ pmt.None → PmtSeenStands edition segment q map m → m ≡ none
+  no-map-seen : (q : PmtSeen) (map : ProgramMap) (m : Option FirstPmt) → q ≡ pmt.None → PmtSeenRepresents edition segment q map m → m ≡ none
   no-map-seen pmt.None map none e h = refl
   no-map-seen pmt.None map (some m) e h = absurd h
   no-map-seen (pmt.First f) map m e h = let z : _≡_ {A = ℕ} 0 1 = cc in absurd (omega arith)
 
-  map-seen : (q : PmtSeen) (map : ProgramMap) (m : Option FirstPmt) (f : PmtFound) → q ≡ pmt.First f → PmtSeenStands edition segment q map m
-      → (first : FirstPmt) × (m ≡ some first) × PmtStands edition segment f map first
+  map-seen : (q : PmtSeen) (map : ProgramMap) (m : Option FirstPmt) (f : PmtFound) → q ≡ pmt.First f
+      → PmtSeenRepresents edition segment q map m
+      → (first : FirstPmt) × (m ≡ some first) × PmtRepresents edition segment f map first
   map-seen pmt.None map m f e h = let z : _≡_ {A = ℕ} 0 1 = cc in absurd (omega arith)
   map-seen (pmt.First g) map none f e h = absurd h
   map-seen (pmt.First g) map (some first) f e h = let k : g ≡ f = cc in (first, refl, rw (sym k) h)
 
-  none-seen : (q : PmtSeen) (map : ProgramMap) (m : Option FirstPmt) → m ≡ none → PmtSeenStands edition segment q map m → q ≡ pmt.None
+  none-seen : (q : PmtSeen) (map : ProgramMap) (m : Option FirstPmt) → m ≡ none → PmtSeenRepresents edition segment q map m → q ≡ pmt.None
   none-seen pmt.None map m e h = refl
   none-seen (pmt.First f) map none e h = absurd h
   none-seen (pmt.First f) map (some m) e h = let z : _≡_ {A = ℕ} 0 1 = cc in absurd (omega arith)
@@ -94,7 +95,7 @@ pat-before none none e f = refl
 pat-before none (some m) e f = absurd f
 pat-before (some q) m e f = let z : _≡_ {A = ℕ} 0 1 = cc in absurd (omega arith)
 
-module _ {edition : Edition} {segment : Bytes} {c : Tables} {t : state.Tables} (s : TablesStand edition segment c t) where
+module _ {edition : Edition} {segment : Bytes} {c : Tables} {t : state.Tables} (s : TablesRepresent edition segment c t) where
   pub no-pat-yet : c .pat ≡ pat.None → t .pat ≡ none
   no-pat-yet e = s .pat ∙ ap (patOf segment) e
 
@@ -104,7 +105,7 @@ module _ {edition : Edition} {segment : Bytes} {c : Tables} {t : state.Tables} (
   pub no-pmt-yet : c .pmt ≡ pmt.None → t .pmt ≡ none
   no-pmt-yet e = no-map-seen edition segment (c .pmt) (c .map) (t .pmt) e (s .pmt)
 
-  pub pmt-yet : (f : PmtFound) → c .pmt ≡ pmt.First f → (m : FirstPmt) × (t .pmt ≡ some m) × PmtStands edition segment f (c .map) m
+  pub pmt-yet : (f : PmtFound) → c .pmt ≡ pmt.First f → (m : FirstPmt) × (t .pmt ≡ some m) × PmtRepresents edition segment f (c .map) m
   pmt-yet f e = map-seen edition segment (c .pmt) (c .map) (t .pmt) f e (s .pmt)
 
   module _ (h : Named t) where

@@ -10,7 +10,7 @@ use Rattle.packet.specs.declared.counter.Stream.{Stream}
 use Rattle.packet.specs.declared.counter.Counted.{Counted}
 use Rattle.packet.specs.declared.counter.Counter.{Counter}
 use Rattle.packet.specs.declared.counter.Counter.the-variants as counter
-use Rattle.packet.specs.Counter.{StreamRecord, check, Stands, CountedAs}
+use Rattle.packet.specs.Counter.{StreamRecord, check, Represents, CountedAs}
 use Rattle.packet.specs.Streams.{recordAt, putBack}
 use Rattle.segment_rules.specs.State as state
 use Rattle.segment_rules.specs.State.{listedAs}
@@ -24,9 +24,9 @@ use Rattle.tables.specs.declared.state.PatSeen.the-variants as pat
 use Rattle.tables.specs.declared.state.Outcome.{Outcome}
 use Rattle.tables.specs.declared.state.Outcome.the-variants.{Passed, Refused}
 use Rattle.tables.specs.declared.counters.Counters.{Counters}
-use Rattle.tables.specs.declared.counters.CountersTurn.{CountersTurn}
+use Rattle.tables.specs.declared.counters.CountersResult.{CountersResult}
 use Rattle.tables.specs.declared.tables.Tables.{Tables}
-use Rattle.tables.specs.Tables.{Turns, recordIn, packetAt, TablesStand, kindSays, SlotOf}
+use Rattle.tables.specs.Tables.{Refines, recordIn, packetAt, TablesRepresent, kindSays, SlotOf}
 
 -- ---- the records of the counters
 -- the outcome of a counter's check
@@ -45,13 +45,13 @@ abbrev pub withListedRecord : Counters → ℕ → Stream → Counters
 withListedRecord c i s = record { pat = c .pat; map = c .map; listed = putBack (c .listed) i s }
 
 -- a turn is the check of a packet by this record, which is put back
-abbrev pub RecordChecked : Stream → (Stream → Counters) → Counted → CountersTurn → Type 0
+abbrev pub RecordChecked : Stream → (Stream → Counters) → Counted → CountersResult → Type 0
 RecordChecked s put packet t =
-    (segment : Bytes) (r : StreamRecord) (p : Bytes) → Stands segment s r → CountedAs segment r p packet
-    → Turns (t .outcome) (check r p) (λ r′. (s′ : Stream) × (t .counters ≡ put s′) × Stands segment s′ r′)
+    (segment : Bytes) (r : StreamRecord) (p : Bytes) → Represents segment s r → CountedAs segment r p packet
+    → Refines (t .outcome) (check r p) (λ r′. (s′ : Stream) × (t .counters ≡ put s′) × Represents segment s′ r′)
 
 -- by the record of the kind's slot, if it has one
-abbrev pub CountersChecked : Kind → Counters → Counted → CountersTurn → Type 0
+abbrev pub CountersChecked : Kind → Counters → Counted → CountersResult → Type 0
 CountersChecked slot.Null c packet t = t ≡ record { counters = c; outcome = Passed }
 CountersChecked slot.Pat c packet t = RecordChecked (c .pat) (withPatRecord c) packet t
 CountersChecked slot.Map c packet t = RecordChecked (c .map) (withMapRecord c) packet t
@@ -60,21 +60,21 @@ CountersChecked (slot.Listed i) c packet t = RecordChecked (recordAt (c .listed)
 CountersChecked slot.Unlisted c packet t = t ≡ record { counters = c; outcome = Passed }
 
 -- what the rule of the counter looks at in a packet of the segment, whose PID has this record
-abbrev pub CountedTurn : Bytes → Packet → Counters → Counted → Type 0
-CountedTurn segment k c r =
+abbrev pub CountedRefines : Bytes → Packet → Counters → Counted → Type 0
+CountedRefines segment k c r =
     (p : Bytes) (t : StreamRecord) → p ≡ packetAt segment (k .index) → k .header ≡ fields p
-    → Stands segment (recordIn (k .kind) c) t → CountedAs segment t p r
+    → Represents segment (recordIn (k .kind) c) t → CountedAs segment t p r
 
 -- ---- the tables
 -- what a PID is that is none of 0x1FFF, 0 and the map PID
-abbrev pub ListedTurn : Edition → Tables → ℕ → Kind → Type 0
-ListedTurn edition c n k =
+abbrev pub ListedRefines : Edition → Tables → ℕ → Kind → Type 0
+ListedRefines edition c n k =
     (segment : Bytes) (t : state.Tables) (f : PatFound) → c .pat ≡ pat.First f → Named t
-    → TablesStand edition segment c t → (n ≡ 0 → ⊥) → (n ≡ f .says .«map_pid» → ⊥)
+    → TablesRepresent edition segment c t → (n ≡ 0 → ⊥) → (n ≡ f .says .«map_pid» → ⊥)
     → (kindSays k ≡ listedAs (t .pmt) n) × SlotOf c n k
 
 -- the last PCR that counted up to a packet with this header
-abbrev pub PcrTurn : Edition → Tables → Header → Clock → Type 0
-PcrTurn edition c h r =
-    (segment p : Bytes) (t : state.Tables) → h ≡ fields p → TablesStand edition segment c t
+abbrev pub PcrRefines : Edition → Tables → Header → Clock → Type 0
+PcrRefines edition c h r =
+    (segment p : Bytes) (t : state.Tables) → h ≡ fields p → TablesRepresent edition segment c t
     → r ≡ lastPcr (t .pcr) (countingPcr (t .pmt) p)

@@ -21,7 +21,7 @@ use Rattle.packet.specs.declared.counter.Last.{Last}
 use Rattle.packet.specs.declared.counter.Last.the-variants as last
 use Rattle.packet.specs.declared.streams.Slot.{Slot}
 use Rattle.packet.specs.declared.streams.Slot.the-variants as slots
-use Rattle.packet.specs.Counter.{StreamRecord, namedStream, Stands}
+use Rattle.packet.specs.Counter.{StreamRecord, namedStream, Represents}
 use Rattle.packet.specs.Streams.{listed, lookUp, pidsIn, noStreams, recordAt}
 use Rattle.pmt.specs.Pmt.{av1Entry}
 use Rattle.pmt.specs.Answer.{mapOf, noMap}
@@ -43,14 +43,15 @@ use Rattle.tables.specs.declared.state.Outcome.{Outcome}
 use Rattle.tables.specs.declared.state.Outcome.the-variants.{Passed, Refused}
 use Rattle.tables.specs.declared.counters.Counters.{Counters}
 use Rattle.tables.specs.declared.tables.Tables.{Tables}
-use Rattle.tables.specs.declared.tables.TablesTurn.{TablesTurn}
+use Rattle.tables.specs.declared.tables.TablesResult.{TablesResult}
 
 -- ---- the verdict of a function that may refuse
--- it carries out a step of the definitions: its outcome is the step's verdict, and where it passed, `Stands` says what
+-- it carries out a step of the definitions: its outcome is the step's verdict, and where it passed, `Represents` says
+-- what
 -- it gave back
-abbrev pub Turns : {A : Type 0} → Outcome → Verdict A → (A → Type 0) → Type 0
-Turns {A} Passed v Stands = (a : A) × (v ≡ verdict.passed a) × Stands a
-Turns {A} (Refused r) v Stands = v ≡ refusedBy r
+abbrev pub Refines : {A : Type 0} → Outcome → Verdict A → (A → Type 0) → Type 0
+Refines {A} Passed v Represents = (a : A) × (v ≡ verdict.passed a) × Represents a
+Refines {A} (Refused r) v Represents = v ≡ refusedBy r
 
 -- the same outcome, a refusal having another place
 abbrev pub placedAt : ℕ → Outcome → Outcome
@@ -99,11 +100,11 @@ streamsIn (pat.First f) pmt.None c = c .pat ∷ c .map ∷ []
 streamsIn (pat.First f) (pmt.First g) c = c .pat ∷ c .map ∷ listed (c .listed)
 
 -- they stand for the definitions' in a segment, one by one
-abbrev pub RecordsStand : Bytes → List Stream → List StreamRecord → Type 0
-RecordsStand segment [] [] = Unit {0}
-RecordsStand segment [] (r ∷ records) = ⊥
-RecordsStand segment (s ∷ streams) [] = ⊥
-RecordsStand segment (s ∷ streams) (r ∷ records) = Stands segment s r × RecordsStand segment streams records
+abbrev pub RecordsRepresent : Bytes → List Stream → List StreamRecord → Type 0
+RecordsRepresent segment [] [] = Unit {0}
+RecordsRepresent segment [] (r ∷ records) = ⊥
+RecordsRepresent segment (s ∷ streams) [] = ⊥
+RecordsRepresent segment (s ∷ streams) (r ∷ records) = Represents segment s r × RecordsRepresent segment streams records
 
 -- ---- the tables
 -- the section of so many bytes at a place of the segment
@@ -125,24 +126,24 @@ patOf segment (pat.First f) = some (record { section = sectionAt segment (f .at)
 
 -- the first PMT by where its section lies, and by what the code keeps of its map; the map's AV1 entry is the one of its
 -- entries
-pub record PmtStands (edition : Edition) (segment : Bytes) (f : PmtFound) (map : ProgramMap) (m : FirstPmt)
+pub record PmtRepresents (edition : Edition) (segment : Bytes) (f : PmtFound) (map : ProgramMap) (m : FirstPmt)
     : Type 0 where
   pub section : m .section ≡ sectionAt segment (f .at) (f .size)
   pub says : map ≡ mapOf edition (m .says)
   pub one : av1Entry edition (m .says .entries) ≡ verdict.passed (m .says .av1)
 
-abbrev pub PmtSeenStands : Edition → Bytes → PmtSeen → ProgramMap → Option FirstPmt → Type 0
-PmtSeenStands edition segment pmt.None map none = Unit {0}
-PmtSeenStands edition segment pmt.None map (some m) = ⊥
-PmtSeenStands edition segment (pmt.First f) map none = ⊥
-PmtSeenStands edition segment (pmt.First f) map (some m) = PmtStands edition segment f map m
+abbrev pub PmtSeenRepresents : Edition → Bytes → PmtSeen → ProgramMap → Option FirstPmt → Type 0
+PmtSeenRepresents edition segment pmt.None map none = Unit {0}
+PmtSeenRepresents edition segment pmt.None map (some m) = ⊥
+PmtSeenRepresents edition segment (pmt.First f) map none = ⊥
+PmtSeenRepresents edition segment (pmt.First f) map (some m) = PmtRepresents edition segment f map m
 
 -- the code's tables stand for the definitions', of a segment that is checked in this edition
-pub record TablesStand (edition : Edition) (segment : Bytes) (c : Tables) (t : state.Tables) : Type 0 where
+pub record TablesRepresent (edition : Edition) (segment : Bytes) (c : Tables) (t : state.Tables) : Type 0 where
   pub follows : editionSays (c .edition) ≡ edition
   pub pat : t .pat ≡ patOf segment (c .pat)
-  pub pmt : PmtSeenStands edition segment (c .pmt) (c .map) (t .pmt)
-  pub records : RecordsStand segment (streamsIn (c .pat) (c .pmt) (c .counters)) (t .records)
+  pub pmt : PmtSeenRepresents edition segment (c .pmt) (c .map) (t .pmt)
+  pub records : RecordsRepresent segment (streamsIn (c .pat) (c .pmt) (c .counters)) (t .records)
   pub pcr : c .pcr ≡ t .pcr
 
 -- before the first packet; these tables stand for those that the definitions begin with (proofs/Standing.antt,
@@ -163,24 +164,24 @@ freshTables edition =
 
 -- ---- what the functions do
 -- a turn of the tables carries out a step of the definitions'
-abbrev pub CarriesOut : Edition → Bytes → Tables → TablesTurn → (state.Tables → Verdict state.Tables) → Type 0
+abbrev pub CarriesOut : Edition → Bytes → Tables → TablesResult → (state.Tables → Verdict state.Tables) → Type 0
 CarriesOut edition segment c r step =
-    (t : state.Tables) → Named t → TablesStand edition segment c t
-    → Turns (r .outcome) (step t) (TablesStand edition segment (r .tables))
+    (t : state.Tables) → Named t → TablesRepresent edition segment c t
+    → Refines (r .outcome) (step t) (TablesRepresent edition segment (r .tables))
 
 -- the kind's slot is where the lookup finds the PID among the records
 abbrev pub SlotOf : Tables → ℕ → Kind → Type 0
 SlotOf c n k = lookUp n (pidsIn (streamsIn (c .pat) (c .pmt) (c .counters))) ≡ slotIn k
 
 -- what a PID is: that of the definitions, and its slot
-abbrev pub KindTurn : Edition → Tables → ℕ → Kind → Type 0
-KindTurn edition c n k =
-    (segment : Bytes) (t : state.Tables) → Named t → TablesStand edition segment c t
+abbrev pub KindRefines : Edition → Tables → ℕ → Kind → Type 0
+KindRefines edition c n k =
+    (segment : Bytes) (t : state.Tables) → Named t → TablesRepresent edition segment c t
     → (kindSays k ≡ kindOf t n) × SlotOf c n k
 
 -- a packet's PCR counts, and its counter is checked; 24: of the packet with this index, where the header and the kind
 -- beside it are its own
-abbrev pub CounterTurn : Edition → Bytes → Packet → Tables → TablesTurn → Type 0
-CounterTurn edition segment k c r =
+abbrev pub CounterRefines : Edition → Bytes → Packet → Tables → TablesResult → Type 0
+CounterRefines edition segment k c r =
     (p : Bytes) → p ≡ packetAt segment (k .index) → k .header ≡ fields p → SlotOf c (k .header .pid) (k .kind)
     → CarriesOut edition segment c r (λ t. counterChecked (k .index) p (clocked (k .index) p t))

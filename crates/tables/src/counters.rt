@@ -3,7 +3,7 @@ ghost use mathlib.Core.Path.{_≡_};
 ghost use Prim.Native.Nat.{_*_};
 ghost use lib.ListN.{drop};
 ghost use Rattle.packet.specs.Header.{packetLength};
-ghost use Rattle.packet.specs.Counter.{StreamRecord, equalsLast, Stands};
+ghost use Rattle.packet.specs.Counter.{StreamRecord, equalsLast, Represents};
 ghost use Rattle.packet.specs.Streams.{recordAt};
 ghost use Rattle.tables.specs.Tables.{freshCounters, recordIn, lastRepeated};
 ghost use Rattle.tables.specs.Parts.{
@@ -13,7 +13,7 @@ ghost use Rattle.tables.specs.Parts.{
   withListedRecord,
   RecordChecked,
   CountersChecked,
-  CountedTurn,
+  CountedRefines,
 };
 use crate::state::Kind;
 use crate::state::Outcome;
@@ -35,7 +35,7 @@ pub struct Counters {
 }
 
 // The counters after a packet, and the verdict on it.
-pub(crate) struct CountersTurn {
+pub(crate) struct CountersResult {
     pub counters: Counters,
     pub outcome: Outcome,
 }
@@ -65,7 +65,7 @@ fn outcome_of(verdict: Counter) -> Outcome
 // All bytes of a packet but those of the PCR equal those of its PID's last packet. Where a packet with payload follows
 // the last one, its counter is another, and the comparison ends at the fourth byte.
 fn equals_last(segment: &[u8], stream: Stream, packet: &[u8]) -> bool
-    ensures { λ r. ⌜ ((t : StreamRecord) → Stands (now (segment .entry)) stream t →
+    ensures { λ r. ⌜ ((t : StreamRecord) → Represents (now (segment .entry)) stream t →
         r ≡ equalsLast (t .last) (now (packet .entry))) ⌝ }
 {
     let last = stream.last;
@@ -127,7 +127,7 @@ impl Counters {
 
     // What the rule of the counter looks at in a packet of the segment.
     pub(crate) fn counted(self, segment: &[u8], packet: Packet) -> Counted
-        ensures { λ r. ⌜ CountedTurn (now (segment .entry)) packet self r ⌝ }
+        ensures { λ r. ⌜ CountedRefines (now (segment .entry)) packet self r ⌝ }
     {
         let header = packet.header;
         let kind = packet.kind;
@@ -137,7 +137,7 @@ impl Counters {
         header.counted(at, equal)
     }
 
-    fn check_pat(self, packet: Counted) -> CountersTurn
+    fn check_pat(self, packet: Counted) -> CountersResult
         ensures { λ r. ⌜ RecordChecked (self .pat) (withPatRecord self) packet r ⌝ }
     {
         let stream = self.pat;
@@ -146,13 +146,13 @@ impl Counters {
         let map = self.map;
         let listed = self.listed;
         let verdict = checked.verdict;
-        CountersTurn {
+        CountersResult {
             counters: Counters { pat, map, listed },
             outcome: outcome_of(verdict),
         }
     }
 
-    fn check_map(self, packet: Counted) -> CountersTurn
+    fn check_map(self, packet: Counted) -> CountersResult
         ensures { λ r. ⌜ RecordChecked (self .map) (withMapRecord self) packet r ⌝ }
     {
         let stream = self.map;
@@ -161,13 +161,13 @@ impl Counters {
         let map = checked.stream;
         let listed = self.listed;
         let verdict = checked.verdict;
-        CountersTurn {
+        CountersResult {
             counters: Counters { pat, map, listed },
             outcome: outcome_of(verdict),
         }
     }
 
-    fn check_listed(self, slot: usize, packet: Counted) -> CountersTurn
+    fn check_listed(self, slot: usize, packet: Counted) -> CountersResult
         ensures { λ r. ⌜ RecordChecked (recordAt (self .listed) slot) (withListedRecord self slot) packet r ⌝ }
     {
         let streams = self.listed;
@@ -177,18 +177,18 @@ impl Counters {
         let map = self.map;
         let listed = streams.put_back(slot, checked.stream);
         let verdict = checked.verdict;
-        CountersTurn {
+        CountersResult {
             counters: Counters { pat, map, listed },
             outcome: outcome_of(verdict),
         }
     }
 
     // The counter of a packet whose PID is of this kind; 24.
-    pub(crate) fn check(self, kind: Kind, packet: Counted) -> CountersTurn
+    pub(crate) fn check(self, kind: Kind, packet: Counted) -> CountersResult
         ensures { λ r. ⌜ CountersChecked kind self packet r ⌝ }
     {
         match kind {
-            Kind::Null => CountersTurn {
+            Kind::Null => CountersResult {
                 counters: self,
                 outcome: Outcome::Passed,
             },
@@ -196,7 +196,7 @@ impl Counters {
             Kind::Map => self.check_map(packet),
             Kind::Av1(slot) => self.check_listed(slot, packet),
             Kind::Listed(slot) => self.check_listed(slot, packet),
-            Kind::Unlisted => CountersTurn {
+            Kind::Unlisted => CountersResult {
                 counters: self,
                 outcome: Outcome::Passed,
             },

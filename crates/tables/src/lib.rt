@@ -16,7 +16,7 @@ pub use state::PmtFound;
 pub use state::PmtSeen;
 pub use state::at_place;
 pub use tables::Tables;
-pub use tables::TablesTurn;
+pub use tables::TablesResult;
 pub use tables::check_counter;
 pub use tables::fresh_tables;
 pub use tables::is_pcr;

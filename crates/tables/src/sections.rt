@@ -8,7 +8,7 @@ ghost use Rattle.refusal.specs.Number.{numberOf};
 ghost use Rattle.descriptor.specs.Edition.{Edition};
 ghost use Rattle.segment_rules.specs.State as state;
 ghost use Rattle.segment_rules.specs.Rules.{laterSection, patSection, pmtSection, sectionRead};
-ghost use Rattle.tables.specs.Tables.{Turns, LiesAt, CarriesOut, kindSays};
+ghost use Rattle.tables.specs.Tables.{Refines, LiesAt, CarriesOut, kindSays};
 use crate::counters::Counters;
 use crate::state::Kind;
 use crate::state::Outcome;
@@ -17,7 +17,7 @@ use crate::state::PatSeen;
 use crate::state::PmtFound;
 use crate::state::PmtSeen;
 use crate::tables::Tables;
-use crate::tables::TablesTurn;
+use crate::tables::TablesResult;
 use lists::part;
 use packet::Stream;
 use packet::Streams;
@@ -32,19 +32,19 @@ use refusal::Refusal;
 use refusal::Refused;
 
 // The tables as they were.
-fn pass(tables: Tables) -> TablesTurn
+fn pass(tables: Tables) -> TablesResult
     ensures { λ r. ⌜ r ≡ record { tables = tables; outcome = Outcome.Passed } ⌝ }
 {
-    TablesTurn {
+    TablesResult {
         tables,
         outcome: Outcome::Passed,
     }
 }
 
-fn refuse(why: Refusal, tables: Tables) -> TablesTurn
+fn refuse(why: Refusal, tables: Tables) -> TablesResult
     ensures { λ r. ⌜ r ≡ record { tables = tables; outcome = Outcome.Refused (record { why = why; place = 0 }) } ⌝ }
 {
-    TablesTurn {
+    TablesResult {
         tables,
         outcome: Outcome::Refused(Refused { why, place: 0 }),
     }
@@ -53,7 +53,7 @@ fn refuse(why: Refusal, tables: Tables) -> TablesTurn
 // A later section is equal to the first, or the refusal.
 fn later_section(section: &[u8], first: &[u8], why: Refusal) -> Outcome
     ensures { λ r. ⌜ ((t : state.Tables) →
-        Turns r (laterSection (numberOf why) (now (first .entry)) (now (section .entry)) t) (λ u. u ≡ t)) ⌝ }
+        Refines r (laterSection (numberOf why) (now (first .entry)) (now (section .entry)) t) (λ u. u ≡ t)) ⌝ }
 {
     if lists::same(section, first) {
         return Outcome::Passed;
@@ -62,14 +62,14 @@ fn later_section(section: &[u8], first: &[u8], why: Refusal) -> Outcome
 }
 
 // The first PAT, whose section lies at this place of the segment; 25.
-fn first_pat(section: &[u8], at: usize, tables: Tables) -> TablesTurn
+fn first_pat(section: &[u8], at: usize, tables: Tables) -> TablesResult
     ensures { λ r. ⌜ ((segment : Bytes) → LiesAt segment at (now (section .entry)) → tables .pat ≡ PatSeen.None →
         (edition : Edition) →
         CarriesOut edition segment tables r (λ t. patSection (t .pat) (now (section .entry)) t)) ⌝ }
 {
     let read = read_pat(section);
     match read {
-        PatRead::Refused(refused) => TablesTurn {
+        PatRead::Refused(refused) => TablesResult {
             tables,
             outcome: Outcome::Refused(refused),
         },
@@ -98,7 +98,7 @@ fn first_pat(section: &[u8], at: usize, tables: Tables) -> TablesTurn
 }
 
 // The PAT section, which lies at this place of the segment; 25.
-fn pat_section(segment: &[u8], at: usize, section: &[u8], tables: Tables) -> TablesTurn
+fn pat_section(segment: &[u8], at: usize, section: &[u8], tables: Tables) -> TablesResult
     ensures { λ r. ⌜ (LiesAt (now (segment .entry)) at (now (section .entry)) → (edition : Edition) →
         CarriesOut edition (now (segment .entry)) tables r (λ t. patSection (t .pat) (now (section .entry)) t)) ⌝ }
 {
@@ -108,7 +108,7 @@ fn pat_section(segment: &[u8], at: usize, section: &[u8], tables: Tables) -> Tab
         PatSeen::First(first) => {
             let earlier = part(segment, first.at, first.size);
             let outcome = later_section(section, earlier, Refusal::PAT);
-            TablesTurn { tables, outcome }
+            TablesResult { tables, outcome }
         }
     }
 }
@@ -127,7 +127,7 @@ fn pids_of(entries: [Entry; 12]) -> [u16; 12]
 }
 
 // The first PMT of the PAT's program, whose section lies at this place of the segment; 26, 27, 28.
-fn first_pmt(section: &[u8], at: usize, pat: PatFound, tables: Tables) -> TablesTurn
+fn first_pmt(section: &[u8], at: usize, pat: PatFound, tables: Tables) -> TablesResult
     ensures { λ r. ⌜ ((segment : Bytes) → LiesAt segment at (now (section .entry)) → tables .pmt ≡ PmtSeen.None →
         tables .pat ≡ PatSeen.First pat → (edition : Edition) →
         CarriesOut edition segment tables r (λ t. pmtSection edition (t .pat) (t .pmt) (now (section .entry)) t)) ⌝ }
@@ -138,7 +138,7 @@ fn first_pmt(section: &[u8], at: usize, pat: PatFound, tables: Tables) -> Tables
     let map = read.map;
     let answer = read.answer;
     match answer {
-        PmtAnswer::Refused(refused) => TablesTurn {
+        PmtAnswer::Refused(refused) => TablesResult {
             tables,
             outcome: Outcome::Refused(refused),
         },
@@ -171,7 +171,7 @@ fn first_pmt(section: &[u8], at: usize, pat: PatFound, tables: Tables) -> Tables
 }
 
 // The PMT section, which lies at this place of the segment; 26, 27, 28. Before the PAT it is passed over.
-fn pmt_section(segment: &[u8], at: usize, section: &[u8], tables: Tables) -> TablesTurn
+fn pmt_section(segment: &[u8], at: usize, section: &[u8], tables: Tables) -> TablesResult
     ensures { λ r. ⌜ (LiesAt (now (segment .entry)) at (now (section .entry)) → (edition : Edition) →
         CarriesOut edition (now (segment .entry)) tables r
         (λ t. pmtSection edition (t .pat) (t .pmt) (now (section .entry)) t)) ⌝ }
@@ -186,13 +186,19 @@ fn pmt_section(segment: &[u8], at: usize, section: &[u8], tables: Tables) -> Tab
         PmtSeen::First(first) => {
             let earlier = part(segment, first.at, first.size);
             let outcome = later_section(section, earlier, Refusal::PMT);
-            TablesTurn { tables, outcome }
+            TablesResult { tables, outcome }
         }
     }
 }
 
 // The payload on PID 0 that lies at this place of the segment; 25.
-fn pat_payload(segment: &[u8], at: usize, payload: &[u8], start: bool, tables: Tables) -> TablesTurn
+fn pat_payload(
+    segment: &[u8],
+    at: usize,
+    payload: &[u8],
+    start: bool,
+    tables: Tables,
+) -> TablesResult
     requires { ⌜ at ≤ length (now segment) ⌝ }
     ensures { λ r. ⌜ (LiesAt (now (segment .entry)) at (now (payload .entry)) → (edition : Edition) →
         CarriesOut edition (now (segment .entry)) tables r
@@ -206,7 +212,13 @@ fn pat_payload(segment: &[u8], at: usize, payload: &[u8], start: bool, tables: T
 }
 
 // The payload on the map PID that lies at this place of the segment; 26, 27, 28.
-fn pmt_payload(segment: &[u8], at: usize, payload: &[u8], start: bool, tables: Tables) -> TablesTurn
+fn pmt_payload(
+    segment: &[u8],
+    at: usize,
+    payload: &[u8],
+    start: bool,
+    tables: Tables,
+) -> TablesResult
     requires { ⌜ at ≤ length (now segment) ⌝ }
     ensures { λ r. ⌜ (LiesAt (now (segment .entry)) at (now (payload .entry)) → (edition : Edition) →
         CarriesOut edition (now (segment .entry)) tables r
@@ -238,7 +250,7 @@ pub fn read_section(
     start: bool,
     kind: Kind,
     tables: Tables,
-) -> TablesTurn
+) -> TablesResult
     ensures { λ r. ⌜ (LiesAt (now (segment .entry)) at (now (payload .entry)) → (edition : Edition) →
         CarriesOut edition (now (segment .entry)) tables r
         (sectionRead edition (kindSays kind) start (now (payload .entry)))) ⌝ }

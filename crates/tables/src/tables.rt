@@ -3,8 +3,8 @@ ghost use mathlib.Core.Path.{_≡_};
 ghost use Rattle.pmt.specs.Answer.{noEntry};
 ghost use lib.ListN.{getD};
 ghost use Rattle.descriptor.specs.Edition.{Edition as Edition·rules};
-ghost use Rattle.tables.specs.Tables.{freshTables, KindTurn, CounterTurn};
-ghost use Rattle.tables.specs.Parts.{ListedTurn, PcrTurn};
+ghost use Rattle.tables.specs.Tables.{freshTables, KindRefines, CounterRefines};
+ghost use Rattle.tables.specs.Parts.{ListedRefines, PcrRefines};
 ghost use Rattle.segment_rules.specs.Rules.{isPcr};
 use crate::counters::Counters;
 use crate::counters::fresh_counters;
@@ -34,7 +34,7 @@ pub struct Tables {
 }
 
 // The tables after a packet, and the verdict on it.
-pub struct TablesTurn {
+pub struct TablesResult {
     pub tables: Tables,
     pub outcome: Outcome,
 }
@@ -67,7 +67,7 @@ pub fn pid_in(entries: [Entry; 12], slot: usize) -> u16
 
 // What a listed PID is, or that it is not listed; the PAT was seen.
 fn listed_as(tables: Tables, pid: u16) -> Kind
-    ensures { λ r. ⌜ ((edition : Edition·rules) → ListedTurn edition tables pid r) ⌝ }
+    ensures { λ r. ⌜ ((edition : Edition·rules) → ListedRefines edition tables pid r) ⌝ }
 {
     let pmt = tables.pmt;
     let PmtSeen::First(_) = pmt else {
@@ -91,7 +91,7 @@ fn listed_as(tables: Tables, pid: u16) -> Kind
 
 // What a PID is at that moment.
 pub fn kind_of(tables: Tables, pid: u16) -> Kind
-    ensures { λ r. ⌜ ((edition : Edition·rules) → KindTurn edition tables pid r) ⌝ }
+    ensures { λ r. ⌜ ((edition : Edition·rules) → KindRefines edition tables pid r) ⌝ }
 {
     if pid == NULL_PID {
         return Kind::Null;
@@ -122,7 +122,7 @@ pub fn is_pcr(pcr: Clock) -> bool
 
 // The last PCR that counted up to this packet.
 fn last_pcr(tables: Tables, header: Header) -> Clock
-    ensures { λ r. ⌜ ((edition : Edition·rules) → PcrTurn edition tables header r) ⌝ }
+    ensures { λ r. ⌜ ((edition : Edition·rules) → PcrRefines edition tables header r) ⌝ }
 {
     let earlier = tables.pcr;
     let pmt = tables.pmt;
@@ -141,8 +141,8 @@ fn last_pcr(tables: Tables, header: Header) -> Clock
 }
 
 // The packet's PCR counts, and its counter is checked; 24.
-pub fn check_counter(segment: &[u8], packet: Packet, tables: Tables) -> TablesTurn
-    ensures { λ r. ⌜ ((edition : Edition·rules) → CounterTurn edition (now (segment .entry)) packet tables r) ⌝ }
+pub fn check_counter(segment: &[u8], packet: Packet, tables: Tables) -> TablesResult
+    ensures { λ r. ⌜ ((edition : Edition·rules) → CounterRefines edition (now (segment .entry)) packet tables r) ⌝ }
 {
     let header = packet.header;
     let pcr = last_pcr(tables, header);
@@ -163,7 +163,7 @@ pub fn check_counter(segment: &[u8], packet: Packet, tables: Tables) -> TablesTu
         counters,
         pcr,
     };
-    TablesTurn {
+    TablesResult {
         tables: counted,
         outcome: at_place(packet.index, outcome),
     }

@@ -8,7 +8,7 @@ use denote.Ref.{RefT, now}
 use Rattle.lists.specs.Lists.{Bytes}
 use Rattle.refusal.specs.Verdict.{Verdict, passed, refused}
 use Rattle.tsobu.specs.StartCodes.{payloads}
-use Rattle.tsobu.specs.Walk.{Found, payload, end, stepping, goesTo, handedOut, fresh, stepOf, handedBy, behind, ValidWalk}
+use Rattle.tsobu.specs.Walk.{Found, payload, end, stepping, placeAfterStep, handedOut, fresh, stepOf, handedBy, behind, ValidWalk}
 use Rattle.tsobu.specs.Walk.{HandsOut, none, first, WalkSays, ReaderHandsOut, reader-none, reader-first, ReaderSays, ReaderWalks}
 use Rattle.tsobu.specs.declared.reader.Walk.{Walk}
 use Rattle.tsobu.specs.declared.walking.Part.{Part}
@@ -24,8 +24,8 @@ behind-valid walk v = step-valid (now (walk .src)) (walk .at) v
 
 -- ---- where a reader stands behind its step
 stands : (walk : Walk) (found : Verdict Found) → stepOf walk ≡ found
-    → behind walk ≡ record { src = walk .src; at = goesTo (walk .at) found }
-stands walk found e = ap (λ (v : Verdict Found). record { src = walk .src; at = goesTo (walk .at) v }) e
+    → behind walk ≡ record { src = walk .src; at = placeAfterStep (walk .at) found }
+stands walk found e = ap (λ (v : Verdict Found). record { src = walk .src; at = placeAfterStep (walk .at) v }) e
 
 -- "and stays at a step that refused"
 pub refused-stays : (walk : Walk) (number place : ℕ) → stepOf walk ≡ refused number place → behind walk ≡ walk

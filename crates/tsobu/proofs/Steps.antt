@@ -15,7 +15,8 @@ use Rattle.refusal.proofs.Verdicts.{refuse, pass-on, refuse-at, pass-at, never,
 use Rattle.refusal.proofs.Turns.{same-number, same-place}
 use Rattle.emulation.specs.Payload.{legal}
 use Rattle.tsobu.specs.StartCodes.{atStartCode}
-use Rattle.tsobu.specs.Walk.{WalkPlace, payloadFrom, obuIndex, Found, payload, end, partAt, payloadStep, atEnd, stepping, goesTo}
+use Rattle.tsobu.specs.Walk.{WalkPlace, payloadFrom, obuIndex, Found, payload, end, partAt, payloadStep, atEnd, stepping}
+use Rattle.tsobu.specs.Walk.{placeAfterStep}
 use Rattle.tsobu.specs.Walk.{placeAfter}
 use Rattle.tsobu.specs.declared.walking.Part.{Part}
 use Rattle.tsobu.proofs.Places.{nextCode, payloadAt, code-fits, next-place}
@@ -190,7 +191,7 @@ pub start-valid : (unit : Bytes) → WalkPlace unit 0
 start-valid unit = inl refl
 
 goes-valid : (unit : Bytes) (at : ℕ) (found : Verdict Found) → stepping unit at ≡ found → WalkPlace unit at
-    → WalkPlace unit (goesTo at found)
+    → WalkPlace unit (placeAfterStep at found)
 goes-valid unit at (passed (payload p)) e v =
     let h = gives unit at p e in
     subst (WalkPlace unit) (sym (h .next)) (inr (next-place unit at (h .code)))

@@ -10,7 +10,7 @@ use Rattle.emulation.specs.Payload.{legal, unescape, dropped}
 use Rattle.emulation.specs.Parts.{freeOf}
 use Rattle.obu.specs.Header.{judged}
 use Rattle.tsobu.specs.StartCodes.{atStartCode, split, codeFrom}
-use Rattle.tsobu.specs.declared.codes.Scanned.{Scanned}
+use Rattle.tsobu.specs.declared.start_codes.Scanned.{Scanned}
 use Rattle.tsobu.specs.declared.judging.Figures.{Figures}
 
 -- a start code stands at one of the places of a block, or two bytes do not come after it

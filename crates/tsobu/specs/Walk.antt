@@ -76,13 +76,13 @@ stepping unit at =
     ]
 
 -- the place after a step at a place: "and stays at a step that refused"; it stays at the end too
-abbrev pub goesTo : ℕ → Verdict Found → ℕ
-goesTo at (passed (payload p)) = p .next
-goesTo at (passed end) = at
-goesTo at (refused number place) = at
+abbrev pub placeAfterStep : ℕ → Verdict Found → ℕ
+placeAfterStep at (passed (payload p)) = p .next
+placeAfterStep at (passed end) = at
+placeAfterStep at (refused number place) = at
 
 abbrev pub placeAfter : Bytes → ℕ → ℕ
-placeAfter unit at = goesTo at (stepping unit at)
+placeAfter unit at = placeAfterStep at (stepping unit at)
 
 -- the bytes of the part that a step hands out: none where it hands out no payload
 abbrev pub handedOut : Bytes → Verdict Found → Bytes

@@ -7,7 +7,7 @@ ghost use Rattle.emulation.specs.Payload.{dropped as Payload·dropped};
 ghost use Rattle.tsobu.specs.StartCodes.{split, codeFrom};
 ghost use Rattle.tsobu.specs.TsObu.{tsobuFigures, tsobuSays};
 ghost use Rattle.tsobu.specs.Parts.{firstFigures, legalFigures};
-use crate::codes::scan;
+use crate::start_codes::scan;
 use emulation::unescape_prefix;
 use lists::part;
 use obu::Header;

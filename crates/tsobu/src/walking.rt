@@ -5,9 +5,9 @@ ghost use Prim.Native.Nat.{_≤_};
 ghost use lib.ListN.{length, drop};
 ghost use Rattle.tsobu.specs.StartCodes.{atStartCode};
 ghost use Rattle.tsobu.specs.Walk.{starting, startedSays, obuIndex, payloadStep, atEnd, stepping};
-ghost use Rattle.tsobu.specs.Walk.{goesTo, placeAfter, handedOut, stepSays};
-use crate::codes::code_at;
-use crate::codes::scan;
+ghost use Rattle.tsobu.specs.Walk.{placeAfterStep, placeAfter, handedOut, stepSays};
+use crate::start_codes::code_at;
+use crate::start_codes::scan;
 use lists::part;
 use refusal::Refusal;
 use refusal::Refused;
@@ -126,7 +126,7 @@ pub fn step_at(unit: &[u8], at: usize) -> Step
 
 // The place after a step at a place: the next one where it handed out a payload, the same at the end and at a refusal.
 fn place_after(step: Step, at: usize) -> usize
-    ensures { λ r. ⌜ r ≡ goesTo at (stepSays step) ⌝ }
+    ensures { λ r. ⌜ r ≡ placeAfterStep at (stepSays step) ⌝ }
 {
     match step {
         Step::Payload(part) => part.next,

@@ -17,7 +17,7 @@ use Rattle.lists.proofs.Writing.{Part, start, counted, room, put, put-all, done
 use Rattle.refusal.specs.declared.Refused.{Refused}
 use Rattle.refusal.specs.Verdict.{passed, refused, inTurn}
 use Rattle.refusal.specs.Number.{numberOf, refusedBy}
-use Rattle.refusal.proofs.Verdicts.{refuse, pass-on, follows, stops, never, turn-passed, turn-refused}
+use Rattle.refusal.proofs.Verdicts.{refuse, pass-on, follows, stops, never, refines-passed, refines-refused}
 use Rattle.emulation.specs.Payload.{unescape, dropped}
 use Rattle.emulation.proofs.Steps.{given-or-dropped}
 use Rattle.obu.specs.Header.{sizeBytes, widthSaid, sizeWidth}
@@ -241,7 +241,7 @@ module _ {s : Bytes} {at kinds widths : List ℕ} {bytes drops code k : ℕ} (j 
         ending = ending-step (j .ending) h few refl;
         small = omega (arith, j .small);
         passed-so-far =
-            j .passed-so-far ∙ ap (inTurn tsobuRefusal k) q ∙ turn-passed tsobuRefusal k pay rest (p .tries)
+            j .passed-so-far ∙ ap (inTurn tsobuRefusal k) q ∙ refines-passed tsobuRefusal k pay rest (p .tries)
             ∙ ap (λ (i : ℕ). inTurn tsobuRefusal i rest) (sym (add-one k));
         sum-bytes =
             omega (arith, j .sum-bytes, ap (λ (l : List Bytes). sum (map length (map unescape l))) q);
@@ -265,7 +265,7 @@ module _ {s : Bytes} {at kinds widths : List ℕ} {bytes drops code k : ℕ} (j 
   judging-refused r e m =
       let t : inTurn tsobuRefusal 0 (payloads s) ≡ refused (numberOf (r .why)) k =
       j .passed-so-far ∙ ap (inTurn tsobuRefusal k) left-payloads
-      ∙ turn-refused tsobuRefusal k (payloadAt s code) (payloads (drop (nextCode s code) s)) (numberOf (r .why)) (r .place) e in
+      ∙ refines-refused tsobuRefusal k (payloadAt s code) (payloads (drop (nextCode s code) s)) (numberOf (r .why)) (r .place) e in
       pass-on 1 (le-ltb mostObus (length (payloads s)) m) (stops _ t)
 
 -- all passed

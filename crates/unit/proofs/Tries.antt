@@ -11,7 +11,7 @@ use lib.ListN.{length, take, getD, set, length-set}
 use lib.Seq.{take-suc-set, append-snoc}
 use Rattle.lists.specs.Lists.{Bytes, over}
 use Rattle.refusal.specs.Verdict.{Verdict, passed, refused, _>>_, NoValue, inTurn, leaves}
-use Rattle.refusal.proofs.Verdicts.{refuse, pass-on, turn-passed, turn-refused, stops, follows}
+use Rattle.refusal.proofs.Verdicts.{refuse, pass-on, refines-passed, refines-refused, stops, follows}
 use Rattle.obu.specs.declared.header.Header.{Header}
 use Rattle.obu.specs.Header.{judged, obuRefusal}
 use Rattle.obu.specs.Order.{Kind, kindOf, kindOfNumber, kindNumber, orderRefusal}
@@ -103,7 +103,7 @@ module _ (lens : List ℕ) (bytes : Bytes) where
           long = length-set numbers i t ∙ j .long;
           turns =
               ap (λ (x : ℕ). inTurn obuRefusal x rest) (add-one i)
-              ∙ sym (turn-passed obuRefusal i obu rest (obu-passed lens bytes i at (j .place) k h e))
+              ∙ sym (refines-passed obuRefusal i obu rest (obu-passed lens bytes i at (j .place) k h e))
               ∙ ap (inTurn obuRefusal i) (sym n) ∙ j .turns;
           kinds =
               ap (λ (l : List ℕ). map kindOfNumber l ++ map kindOf rest) taken
@@ -121,7 +121,7 @@ module _ (lens : List ℕ) (bytes : Bytes) where
         sized-tries lens bytes s
         (stops _
         (sym (j .turns) ∙ ap (inTurn obuRefusal i) (left-next lens bytes i at k)
-        ∙ turn-refused obuRefusal i (nextObu lens bytes i at) _ number place refusal))
+        ∙ refines-refused obuRefusal i (nextObu lens bytes i at) _ number place refusal))
 
     -- all passed
     pub judging-end : {v : Verdict NoValue} → Sized lens bytes → length lens ≤ i → v ≡ orderRefusal (map kindOfNumber (take i numbers))

@@ -4,7 +4,7 @@ use Prim.Native.Nat.{ℕ}
 use mathlib.Core.Path.{sym, ap, _∙_}
 use mathlib.Core.Option.{some}
 use Rattle.refusal.specs.Verdict.{passed}
-use Rattle.sequence.specs.declared.comparison.Difference.{Difference}
+use Rattle.sequence.specs.declared.comparing.Difference.{Difference}
 use Rattle.sequence.specs.Comparison.{comparedSays}
 use Rattle.comparison.specs.Comparison.{fieldOf}
 use Rattle.comparison.proofs.compare_content.Statement.{statement}

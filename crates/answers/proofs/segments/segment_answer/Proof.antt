@@ -3,7 +3,7 @@ use mathlib.Core.Path.{sym, ap, _∙_}
 use borrow.Author.Needs.{needs}
 use Rattle.comparison.specs.Comparison.{disagreedSays}
 use Rattle.segment.specs.Answer.{checkSays}
-use Rattle.segment.specs.declared.whole.SegmentCheck.{SegmentCheck}
+use Rattle.segment.specs.declared.checking.SegmentCheck.{SegmentCheck}
 use Rattle.answers.specs.Answers.{segmentAnswer}
 use Rattle.answers.proofs.segments.segment_answer.Statement.{statement}
 use Rattle.answers.proofs.segments.segment_answer.Tie as tie

@@ -6,7 +6,7 @@ use Rattle.packet.specs.declared.header.Header.{Header}
 use Rattle.descriptor.specs.Edition.{Edition}
 use Rattle.segment_rules.specs.Rules.{isPcr}
 use Rattle.segment_rules.specs.Check.{outputsOf}
-use Rattle.extraction.specs.Parts.{PayloadTurn}
+use Rattle.extraction.specs.Parts.{PayloadRefines}
 use Rattle.extraction.proofs.Stepping.{payload-length, payload-lies, payload-same, content-taken, content-read}
 use Rattle.extraction.proofs.packets.take_content.Statement.{statement}
 use Rattle.extraction.proofs.packets.take_content.Tie as tie
@@ -51,7 +51,7 @@ returns c =
           (sym (c .before .before .before .before .before .before .before .before .before .before .before .before .before .is-av1 .ensures)
           ∙ c
           .before .before .before .before .before .before .before .before .before .before .before .before .if1 .taken)
-          (subst (λ (x : Edition). PayloadTurn x (k .header .start) (k .index) (w .result .now) (pcr .result) (a .extraction)
+          (subst (λ (x : Edition). PayloadRefines x (k .header .start) (k .index) (w .result .now) (pcr .result) (a .extraction)
           (outputsOf (a .out .now) (a .lens .now) (a .times .now)) (taken .result) after) (s .tables .follows) (taken .ensures) before p st
           (record {
             carries = h;

@@ -5,8 +5,8 @@ use native.Mathlib.Omega.{arith}
 use Prim.Native.Nat.{_+_}
 use mathlib.Core.Path.{sym, ap, _∙_}
 use Rattle.lists.proofs.Parts.{tail-prefix}
-use Rattle.tables.proofs.Turning.{turn-refused}
-use Rattle.extraction.specs.declared.units.ExtractionTurn.{ExtractionTurn}
+use Rattle.tables.proofs.Refining.{refines-refused}
+use Rattle.extraction.specs.declared.units.ExtractionResult.{ExtractionResult}
 use Rattle.extraction.proofs.Extracting.{adds-closed, adds-unseen, adds-bytes, adds-right}
 use Rattle.extraction.proofs.units.add.Statement.{statement}
 use Rattle.extraction.proofs.units.add.Tie as tie
@@ -22,7 +22,7 @@ refuse-requires c κs = search needs
 
 returns : tie.Need-returns
 returns c edition lens times before p st is k s =
-    turn-refused _ _ (c .refuse .result .outcome) _ (ap (λ (t : ExtractionTurn). t .outcome) (c .refuse .ensures))
+    refines-refused _ _ (c .refuse .result .outcome) _ (ap (λ (t : ExtractionResult). t .outcome) (c .refuse .ensures))
     (sym (adds-closed edition (c .before .before .before .before .before .args .arrival .index) p
     (c .before .before .before .before .before .args .payload .now) st is s (c .before .enum-told .given .1)))
 
@@ -31,7 +31,7 @@ refuse-requires-2 c κs = search needs
 
 returns-2 : tie.Need-returns-2
 returns-2 c edition lens times before p st is k s =
-    turn-refused _ _ (c .refuse2 .result .outcome) _ (ap (λ (t : ExtractionTurn). t .outcome) (c .refuse2 .ensures))
+    refines-refused _ _ (c .refuse2 .result .outcome) _ (ap (λ (t : ExtractionResult). t .outcome) (c .refuse2 .ensures))
     (sym (adds-unseen edition (c .before .before .before .before .before .before .before .before .args .arrival .index) p
     (c .before .before .before .before .before .before .before .before .args .payload .now) st is s _
     (c .before .before .before .before .pes .given .1)
@@ -48,7 +48,7 @@ refuse-requires-3 c κs = search needs
 
 returns-3 : tie.Need-returns-3
 returns-3 c edition lens times before p st is k s =
-    turn-refused _ _ (c .refuse3 .result .outcome) _ (ap (λ (t : ExtractionTurn). t .outcome) (c .refuse3 .ensures))
+    refines-refused _ _ (c .refuse3 .result .outcome) _ (ap (λ (t : ExtractionResult). t .outcome) (c .refuse3 .ensures))
     (sym (adds-bytes edition (c .before .before .before .before .before .before .before .before .before .before .args .arrival .index) p
     (c .before .before .before .before .before .before .before .before .before .before .args .payload .now) st is s _
     (c .before .before .before .before .before .before .pes .given .1)

@@ -2,8 +2,8 @@
 use borrow.Author.Needs.{needs}
 use mathlib.Core.Path.{refl, sym, ap, _∙_}
 use Rattle.lists.proofs.Tests.{clash}
-use Rattle.tables.proofs.Turning.{never-passed}
-use Rattle.extraction.specs.declared.units.ExtractionTurn.{ExtractionTurn}
+use Rattle.tables.proofs.Refining.{never-passed}
+use Rattle.extraction.specs.declared.units.ExtractionResult.{ExtractionResult}
 use Rattle.extraction.specs.Extraction.{roomsIn}
 use Rattle.extraction.proofs.Beyond.{fits-within, within-fits}
 use Rattle.extraction.proofs.Holding.{stands-fits}
@@ -23,7 +23,7 @@ returns c =
       (λ before x s. clash (sym (c .before .before .beyond .ensures) ∙ c .before .if1 .taken)
           (fits-within (a .extraction) rooms (stands-fits s))),
       (
-        (λ k. never-passed _ (ap (λ (t : ExtractionTurn). t .outcome) (c .refuse .ensures)) k),
+        (λ k. never-passed _ (ap (λ (t : ExtractionResult). t .outcome) (c .refuse .ensures)) k),
         (λ k. (c .refuse .ensures, refl)),
       ),
     )

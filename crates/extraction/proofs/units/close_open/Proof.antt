@@ -4,7 +4,7 @@ use native.Mathlib.Omega.{arith}
 use Prim.Native.Nat.{_<_}
 use mathlib.Core.Path.{refl}
 use lib.ListN.{length}
-use Rattle.tables.proofs.Turning.{never-passed}
+use Rattle.tables.proofs.Refining.{never-passed}
 use Rattle.extraction.proofs.Extracting.{unit-fits, none-closes, refused-closes, passed-closes}
 use Rattle.extraction.proofs.units.close_open.Statement.{statement}
 use Rattle.extraction.proofs.units.close_open.Tie as tie

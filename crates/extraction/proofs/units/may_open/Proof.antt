@@ -5,7 +5,7 @@ use native.Mathlib.Omega.{arith}
 use mathlib.Core.Path.{refl, sym, ap, _∙_}
 use Rattle.refusal.specs.declared.Refused.{Refused}
 use Rattle.refusal.specs.Number.{refusedBy}
-use Rattle.tables.proofs.Turning.{never-passed}
+use Rattle.tables.proofs.Refining.{never-passed}
 use Rattle.extraction.proofs.Extracting.{may-unseen, may-many, may-bytes, may-lens, may-times, may-all}
 use Rattle.extraction.proofs.units.may_open.Statement.{statement}
 use Rattle.extraction.proofs.units.may_open.Tie as tie

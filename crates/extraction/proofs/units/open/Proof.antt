@@ -3,7 +3,7 @@ use borrow.Author.Needs.{needs}
 use mathlib.Core.Path.{sym, ap, _∙_}
 use Rattle.pes.specs.Pes.{pesSays}
 use Rattle.pes.proofs.Headers.{read-data}
-use Rattle.tables.proofs.Turning.{turn-refused}
+use Rattle.tables.proofs.Refining.{refines-refused}
 use Rattle.extraction.proofs.Extracting.{opens-wrong}
 use Rattle.extraction.proofs.units.open.Statement.{statement}
 use Rattle.extraction.proofs.units.open.Tie as tie
@@ -32,7 +32,7 @@ open-with-requires c κs = search needs
 returns : tie.Need-returns
 returns c before lens times p st r is k closed s =
     let a = c .before .before .before .before .before .before .before .args in
-    turn-refused _ _ (c .at-place .result) _ (c .at-place .ensures)
+    refines-refused _ _ (c .at-place .result) _ (c .at-place .ensures)
     (sym (opens-wrong _ (a .arrival .index) p (a .payload .now) st before is _ _
     (sym (c .before .before .before .before .read .ensures) ∙ ap pesSays (c .before .before .read2 .given .1))))
 

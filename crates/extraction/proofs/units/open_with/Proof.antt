@@ -8,8 +8,8 @@ use Rattle.lists.proofs.Parts.{tail-prefix}
 use Rattle.descriptor.specs.Naming.{editionSays}
 use Rattle.segment_rules.specs.Rules.{payloadRules}
 use Rattle.segment_rules.specs.Check.{outputsOf, roomsOf}
-use Rattle.extraction.specs.declared.units.ExtractionTurn.{ExtractionTurn}
-use Rattle.extraction.specs.Parts.{PesTurn}
+use Rattle.extraction.specs.declared.units.ExtractionResult.{ExtractionResult}
+use Rattle.extraction.specs.Parts.{PesRefines}
 use Rattle.extraction.proofs.Holding.{same-bytes, same-lens, same-times}
 use Rattle.extraction.proofs.Extracting.{opens-untimed, opens-refused, opens-right}
 use Rattle.segment_rules.specs.State as state
@@ -27,7 +27,7 @@ returns c w read lent before lens times p st r is k closed s =
     let a = c .before .before .before .before .before .args in
     let edition = editionSays (a .arrival .edition) in
     let i = a .arrival .index in
-    subst (λ (x : ExtractionTurn). PesTurn before (payloadRules edition (roomsOf before) i p state.Av1) st x
+    subst (λ (x : ExtractionResult). PesRefines before (payloadRules edition (roomsOf before) i p state.Av1) st x
     (outputsOf (a .out .now) lens times)) (sym (c .refuse .ensures))
     (opens-untimed edition i p w st before is (a .header) read (sym (c .before .before .untimed .ensures) ∙ c .before .if1 .taken))
 

@@ -3,7 +3,7 @@ use mathlib.Core.Path.{sym, ap, _∙_}
 use native.Mathlib.Omega.{arith}
 use borrow.Author.Needs.{needs}
 use Rattle.pmt.specs.Parts.{loopSays, listAnswer}
-use Rattle.pmt.specs.declared.listing.ListAnswer.{ListAnswer}
+use Rattle.pmt.specs.declared.entries.ListAnswer.{ListAnswer}
 use Rattle.pmt.proofs.Reading.{refused-beside, info-cut, info-unfilled, entries-refused, entries-passed}
 use Rattle.pmt.proofs.section.read_body.Statement.{statement}
 use Rattle.pmt.proofs.section.read_body.Tie as tie

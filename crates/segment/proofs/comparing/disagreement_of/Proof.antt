@@ -1,7 +1,7 @@
 -- Case by case.
 use borrow.Author.Needs.{needs}
 use mathlib.Core.Path.{sym, ap, _∙_}
-use Rattle.segment.specs.declared.whole.SegmentCheck.{SegmentCheck}
+use Rattle.segment.specs.declared.checking.SegmentCheck.{SegmentCheck}
 use Rattle.segment.specs.Parts.{disagreementIn}
 use Rattle.segment.proofs.comparing.disagreement_of.Statement.{statement}
 use Rattle.segment.proofs.comparing.disagreement_of.Tie as tie

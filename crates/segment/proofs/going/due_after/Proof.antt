@@ -4,7 +4,7 @@ use mathlib.Core.Path.{sym, ap, subst, _∙_}
 use borrow.Author.Tests.{not-false}
 use Rattle.packet.specs.declared.counter.Stream.{Stream}
 use Rattle.tables.specs.declared.state.Kind.{Kind}
-use Rattle.tables.specs.Tables.{KindTurn}
+use Rattle.tables.specs.Tables.{KindRefines}
 use Rattle.segment.proofs.going.due_after.Statement.{statement}
 use Rattle.segment.proofs.going.due_after.Tie as tie
 
@@ -53,7 +53,7 @@ returns-5 c =
       opened = (_, at-is-pcr .before .enum-told .given .1);
       clocked = sym (at-is-pcr .is-pcr .ensures) ∙ not-false _ (at-kind .before .before .before .if1 .left);
       kind =
-          λ edition. subst (λ (k : Kind). KindTurn edition (a .tables) (a .pid) k)
+          λ edition. subst (λ (k : Kind). KindRefines edition (a .tables) (a .pid) k)
           (at-kind .kind .given .1) (at-kind .before .before .kind-of .ensures edition);
       seen = (_, _, ap (λ (s : Stream). s .last) (sym (c .before .before .before .at .ensures)) ∙ c .before .last .given .1);
     }

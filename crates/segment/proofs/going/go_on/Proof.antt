@@ -10,8 +10,8 @@ use Rattle.packet.specs.Header.{packetLength, packets}
 use Rattle.plain.specs.Runs.{payloads, payloadLength}
 use Rattle.segment_rules.specs.Check.{outputsOf}
 use Rattle.segment.specs.declared.going.Due.{Due}
-use Rattle.extraction.specs.Extraction.{StateStands}
-use Rattle.segment.specs.Parts.{DueTurn}
+use Rattle.extraction.specs.Extraction.{StateRepresents}
+use Rattle.segment.specs.Parts.{DueRefines}
 use Rattle.segment.proofs.Continuing.{lent-many, none-kept, bounded, went}
 use Rattle.segment.proofs.going.go_on.Statement.{statement}
 use Rattle.segment.proofs.going.go_on.Tie as tie
@@ -26,7 +26,7 @@ within-both c =
     let at-may = c .before .before .before .before .before .before in
     let begin = at-may .before .before .before .before .before .before .before in
     let a = begin .args in
-    let may = subst (λ (d : Due). DueTurn (a .tables) (a .extraction) (at-may .before .before .before .pid-of .result) d)
+    let may = subst (λ (d : Due). DueRefines (a .tables) (a .extraction) (at-may .before .before .before .pid-of .result) d)
     (at-may .may .given .1) (at-may .before .before .due-after .ensures) in
     let many = lent-many _ _ (drop (a .index) (packets (a .segment .now))) (a .out .now) (a .extraction .start + a .extraction .bytes)
     (c .before .before .follow .result) (begin .pre .1) (c .before .before .follow .ensures .0) in
@@ -86,7 +86,7 @@ returns-2 c =
       λ edition lens times before st named s. (
         st,
         refl,
-        subst (λ (w : List ℕ). StateStands edition (a .segment .now) before (outputsOf w lens times)
+        subst (λ (w : List ℕ). StateRepresents edition (a .segment .now) before (outputsOf w lens times)
             (a .tables) (a .extraction) st) (sym kept) s,
       ),
       omega (arith, pre .0),
@@ -162,7 +162,7 @@ returns-3 c =
     let at = a .extraction .start + a .extraction .bytes in
     let l = drop (a .index) (packets (a .segment .now)) in
     let m = at-follow .follow .result in
-    let may = subst (λ (d : Due). DueTurn (a .tables) (a .extraction) (at-may .before .before .before .pid-of .result) d)
+    let may = subst (λ (d : Due). DueRefines (a .tables) (a .extraction) (at-may .before .before .before .pid-of .result) d)
     (at-may .may .given .1) (at-may .before .before .due-after .ensures) in
     let many = lent-many _ _ l (a .out .now) at m (pre .1) (at-follow .follow .ensures .0) in (
       λ edition lens times before st named s. went (a .segment .now) (a .index) (a .tables) (a .extraction) _ _ _ may

@@ -2,8 +2,8 @@
 use borrow.Author.Needs.{needs}
 use mathlib.Core.Path.{sym, subst}
 use Rattle.segment_rules.specs.Rules.{patSection}
-use Rattle.tables.specs.declared.tables.TablesTurn.{TablesTurn}
-use Rattle.tables.specs.Tables.{Turns, TablesStand}
+use Rattle.tables.specs.declared.tables.TablesResult.{TablesResult}
+use Rattle.tables.specs.Tables.{Refines, TablesRepresent}
 use Rattle.tables.proofs.Reading.{pat-refused, pat-read}
 use Rattle.tables.proofs.sections.first_pat.Statement.{statement}
 use Rattle.tables.proofs.sections.first_pat.Tie as tie
@@ -29,7 +29,8 @@ returns c segment lies e edition t h s = pat-refused h s _ e _ _ (c .before .rea
 returns-2 : tie.Need-returns-2
 returns-2 c segment lies e edition t h s =
     let a = c .before .before .before .before .before .before .before .before .before .before .before .args in
-    subst (λ (x : TablesTurn). Turns (x .outcome) (patSection (t .pat) (a .section .now) t) (TablesStand edition segment (x .tables)))
+    subst (λ (x : TablesResult). Refines (x .outcome) (patSection (t .pat) (a .section .now) t) (TablesRepresent edition segment
+    (x .tables)))
     (sym (c .pass .ensures))
     (pat-read h s (a .section .now) e (a .at) _ _ _ lies (c .before .before .before .before .before .before .before .read2 .given .1)
     (c .before .before .before .before .before .before .before .before .before .read-pat .ensures)

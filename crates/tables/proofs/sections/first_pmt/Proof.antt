@@ -2,8 +2,8 @@
 use borrow.Author.Needs.{needs}
 use mathlib.Core.Path.{sym, subst}
 use Rattle.segment_rules.specs.Rules.{pmtSection}
-use Rattle.tables.specs.declared.tables.TablesTurn.{TablesTurn}
-use Rattle.tables.specs.Tables.{Turns, TablesStand}
+use Rattle.tables.specs.declared.tables.TablesResult.{TablesResult}
+use Rattle.tables.specs.Tables.{Refines, TablesRepresent}
 use Rattle.tables.proofs.Mapping.{pmt-refused, pmt-read}
 use Rattle.tables.proofs.sections.first_pmt.Statement.{statement}
 use Rattle.tables.proofs.sections.first_pmt.Tie as tie
@@ -37,8 +37,8 @@ returns-2 : tie.Need-returns-2
 returns-2 c segment lies k e edition t h s =
     let a = c .before .before .before .before .before .before .before .before .before .before .before .before .before .args in
     let read = c .before .before .before .before .before .before .before .before .before .before .read-pmt in
-    subst (λ (x : TablesTurn). Turns (x .outcome) (pmtSection edition (t .pat) (t .pmt) (a .section .now) t)
-    (TablesStand edition segment (x .tables))) (sym (c .pass .ensures))
+    subst (λ (x : TablesResult). Refines (x .outcome) (pmtSection edition (t .pat) (t .pmt) (a .section .now) t)
+    (TablesRepresent edition segment (x .tables))) (sym (c .pass .ensures))
     (pmt-read s (a .section .now) (a .pat) e k (read .result .answer) (read .result .map) (read .ensures .0) (a .at)
     (c .before .before .pids-of .result) (c .before .of .result) lies
     (c .before .before .before .before .before .before .before .enum-told .given .1) (c .before .before .pids-of .ensures)

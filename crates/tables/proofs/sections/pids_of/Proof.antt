@@ -7,7 +7,7 @@ use borrow.Author.Needs.{needs}
 use lib.ListN.{length, take, length-set}
 use lib.Seq.{take-all}
 use Rattle.lists.proofs.Parts.{unmapped}
-use Rattle.pmt.specs.declared.listing.Entry.{Entry}
+use Rattle.pmt.specs.declared.entries.Entry.{Entry}
 use Rattle.tables.proofs.Mapping.{one-pid}
 use Rattle.tables.proofs.sections.pids_of.Statement.{statement}
 use Rattle.tables.proofs.sections.pids_of.Tie as tie

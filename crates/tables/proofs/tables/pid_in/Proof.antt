@@ -5,7 +5,7 @@ use borrow.Author.Needs.{needs}
 use lib.ListN.{length, List·getD-eq-default}
 use Rattle.lists.proofs.Parts.{unmapped}
 use Rattle.pmt.specs.Answer.{noEntry}
-use Rattle.pmt.specs.declared.listing.Entry.{Entry}
+use Rattle.pmt.specs.declared.entries.Entry.{Entry}
 use Rattle.tables.proofs.tables.pid_in.Statement.{statement}
 use Rattle.tables.proofs.tables.pid_in.Tie as tie
 

@@ -2,7 +2,7 @@
 use borrow.Author.Needs.{needs}
 use Prim.Native.Nat.{ℕ}
 use mathlib.Core.Path.{_≡_, sym, ap}
-use Rattle.tsobu.specs.Walk.{goesTo, stepSays}
+use Rattle.tsobu.specs.Walk.{placeAfterStep, stepSays}
 use Rattle.tsobu.specs.declared.walking.Step.{Step}
 use Rattle.tsobu.proofs.walking.place_after.Statement.{statement}
 use Rattle.tsobu.proofs.walking.place_after.Tie as tie
@@ -17,8 +17,8 @@ enum-told-2 : tie.Need-enum-told-2
 enum-told-2 c = search needs
 
 -- the place after a step that is known to be s
-of-case : (at : ℕ) {step s : Step} → step ≡ s → goesTo at (stepSays s) ≡ goesTo at (stepSays step)
-of-case at e = ap (λ (t : Step). goesTo at (stepSays t)) (sym e)
+of-case : (at : ℕ) {step s : Step} → step ≡ s → placeAfterStep at (stepSays s) ≡ placeAfterStep at (stepSays step)
+of-case at e = ap (λ (t : Step). placeAfterStep at (stepSays t)) (sym e)
 
 returns : tie.Need-returns
 returns c = of-case _ (c .before .step .given .1)

@@ -1,7 +1,7 @@
 -- The record of the slot is checked (`record-by`) and put back.
 use borrow.Author.Needs.{needs}
 use mathlib.Core.Path.{sym, ap, subst}
-use Rattle.packet.specs.Counter.{Stands}
+use Rattle.packet.specs.Counter.{Represents}
 use Rattle.packet.specs.declared.counter.Stream.{Stream}
 use Rattle.packet.specs.declared.streams.Streams.{Streams}
 use Rattle.tables.specs.Parts.{withListedRecord}
@@ -29,7 +29,7 @@ returns c segment r p s e =
     (record { pat = a .self .pat; map = a .self .map; listed = c .before .put-back .result }) (c .outcome-of .ensures)
     (ap (λ (l : Streams). record { pat = a .self .pat; map = a .self .map; listed = l }) (c .before .put-back .ensures))
     (one .ensures .0 segment r p
-    (subst (λ (x : Stream). Stands segment x r) (sym (c .before .before .before .before .before .at .ensures)) s) e)
+    (subst (λ (x : Stream). Represents segment x r) (sym (c .before .before .before .before .before .at .ensures)) s) e)
 
 pub check-listed-spec : {M : Type 1} → statement M
 check-listed-spec = tie.close (tie.spec at-requires check-requires put-back-requires outcome-of-requires returns)

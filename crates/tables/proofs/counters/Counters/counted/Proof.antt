@@ -4,7 +4,7 @@ use mathlib.Core.Path.{sym, ap, subst, _∙_}
 use lib.ListN.{take}
 use Rattle.packet.specs.Header.{packetLength}
 use Rattle.packet.specs.declared.counter.Stream.{Stream}
-use Rattle.packet.specs.Counter.{equalsLast, Stands}
+use Rattle.packet.specs.Counter.{equalsLast, Represents}
 use Rattle.tables.proofs.Counting.{counted-as}
 use Rattle.tables.proofs.counters.Counters.counted.Statement.{statement}
 use Rattle.tables.proofs.counters.Counters.counted.Tie as tie
@@ -30,7 +30,7 @@ returns c p t same e s =
     let compared = c .before .equals-last in
     let lies = same ∙ ap (take packetLength) (sym (c .before .before .before .before .place-of .ensures)) in
     counted-as (a .segment .now) p t (a .packet .header) _ (compared .result) (c .counted .result) (c .counted .ensures) e
-    (compared .ensures t (subst (λ (x : Stream). Stands (a .segment .now) x t) (sym (c .before .before .before .record-of .ensures)) s)
+    (compared .ensures t (subst (λ (x : Stream). Represents (a .segment .now) x t) (sym (c .before .before .before .record-of .ensures)) s)
     ∙ ap (equalsLast (t .last)) (c .before .before .part .ensures ∙ sym lies))
     lies
 

@@ -1,0 +1,320 @@
+// The check of a whole segment.
+ghost use mathlib.Core.Path.{_≡_};
+ghost use mathlib.Core.Bool.{false};
+ghost use Rattle.descriptor.specs.Edition.{Edition as Edition·rules};
+ghost use Rattle.descriptor.specs.Naming.{editionSays};
+ghost use Rattle.segment_rules.specs.Check.{
+  outputsOf,
+  segmentLengthWrong,
+  roomsOf,
+  outputsAfter,
+  firstsAfter,
+  checkSegment,
+  checkIn,
+};
+ghost use Rattle.pmt.specs.Answer.{noMap};
+ghost use Rattle.segment.specs.Answer.{summarised, mapAfter, checking, mapChecked, checkSays};
+ghost use Rattle.extraction.specs.Extraction.{roomsIn};
+ghost use Rattle.segment.specs.Parts.{
+  AcceptRefines,
+  EndRefines,
+  RunRefines,
+  WholeRefines,
+  RunFirsts,
+  EndFirsts,
+  AcceptedFirsts,
+};
+use crate::going::go_on;
+use crate::totals::count_packet;
+use crate::totals::none_yet;
+use descriptor::Edition;
+use descriptor::Named;
+use extraction::Extraction;
+use extraction::clear;
+use extraction::close;
+use extraction::fresh_extraction;
+use extraction::note_first;
+use extraction::step;
+use packet::PACKET_LENGTH;
+use plain::nulls;
+use pmt::ProgramMap;
+use refusal::Refusal;
+use refusal::Refused;
+use segment_rules::Totals;
+use tables::Outcome;
+use tables::PatSeen;
+use tables::PmtSeen;
+use tables::Tables;
+use tables::fresh_tables;
+use tables::pid_in;
+
+// The most packets of a segment.
+const MOST_PACKETS: usize = 65535;
+
+// What an accepted segment has: its program, the PID of its AV1 stream, its units, its packets by class.
+pub struct Summary {
+    pub program: u16,
+    pub pid: u16,
+    pub units: usize,
+    pub totals: Totals,
+}
+
+pub enum SegmentCheck {
+    Accepted(Summary),
+    Refused(Refused),
+}
+
+// The answer, and beside it the map of an accepted segment; of a refused one, no map.
+pub struct Checked {
+    pub answer: SegmentCheck,
+    pub map: ProgramMap,
+}
+
+// What the packets have said, with the verdict on them.
+struct RunResult {
+    tables: Tables,
+    extraction: Extraction,
+    totals: Totals,
+    outcome: Outcome,
+}
+
+// No bytes, not a multiple of 188, or over 65,535 packets.
+fn length_wrong(segment: &[u8]) -> bool
+    ensures { λ r. ⌜ r ≡ segmentLengthWrong (now (segment .entry)) ⌝ }
+{
+    let length = segment.len();
+    if length == 0 {
+        return true;
+    }
+    if length % PACKET_LENGTH != 0 {
+        return true;
+    }
+    MOST_PACKETS < length / PACKET_LENGTH
+}
+
+// All packets have passed.
+fn all_passed(tables: Tables, extraction: Extraction, totals: Totals) -> RunResult
+    ensures { λ r. ⌜ r
+        ≡ record { tables = tables; extraction = extraction; totals = totals; outcome = Outcome.Passed } ⌝ }
+{
+    RunResult {
+        tables,
+        extraction,
+        totals,
+        outcome: Outcome::Passed,
+    }
+}
+
+// The packets in order.
+fn run(
+    edition: Edition,
+    segment: &[u8],
+    out: &mut [u8],
+    lens: &mut [usize],
+    times: &mut [u64],
+    firsts: &mut [usize],
+) -> RunResult
+    requires { ⌜ segmentLengthWrong (now segment) ≡ false ⌝ }
+    ensures { λ r. ⌜ RunRefines (editionSays edition) (now (segment .entry))
+        (outputsOf (now (out .entry)) (now (lens .entry)) (now (times .entry))) r
+        (outputsOf (now (out .exit)) (now (lens .exit)) (now (times .exit))) ⌝ }
+    ensures { λ _. ⌜ RunFirsts (editionSays edition) (now (segment .entry))
+        (roomsIn (now (out .entry)) (now (lens .entry)) (now (times .entry))) (now (firsts .entry))
+        (now (firsts .exit)) ⌝ }
+{
+    let count = segment.len() / PACKET_LENGTH;
+    let mut tables = fresh_tables(edition);
+    let mut extraction = fresh_extraction();
+    let mut totals = none_yet();
+    let mut index: usize = 0;
+    while index < count {
+        let skipped = nulls(segment, index);
+        totals.null += skipped;
+        index += skipped;
+        let went = go_on(segment, index, tables, extraction, out);
+        tables = went.tables;
+        extraction = went.extraction;
+        totals.av1 += went.packets;
+        index += went.packets;
+        if count <= index {
+            continue;
+        }
+        let stepped = step(segment, index, tables, extraction, out, lens, times);
+        let outcome = stepped.outcome;
+        let Outcome::Passed = outcome else {
+            return RunResult {
+                tables,
+                extraction,
+                totals,
+                outcome,
+            };
+        };
+        let kind = stepped.kind;
+        let next = stepped.extraction;
+        note_first(extraction, next, firsts);
+        tables = stepped.tables;
+        extraction = next;
+        totals = count_packet(kind, totals);
+        index += 1;
+    }
+    all_passed(tables, extraction, totals)
+}
+
+fn refuse(refused: Refused) -> Checked
+    ensures { λ r. ⌜ r ≡ record { answer = SegmentCheck.Refused refused; map = noMap } ⌝ }
+{
+    Checked {
+        answer: SegmentCheck::Refused(refused),
+        map: ProgramMap::none(),
+    }
+}
+
+// All packets, which have passed: 33.
+fn accept(tables: Tables, units: usize, packets: usize, totals: Totals) -> Checked
+    ensures { λ r. ⌜ ((edition : Edition·rules) → AcceptRefines edition tables units packets totals r) ⌝ }
+{
+    let none = Refusal::NO_TABLES.at(packets);
+    let pat = tables.pat;
+    let PatSeen::First(first) = pat else {
+        return refuse(none);
+    };
+    let pmt = tables.pmt;
+    let PmtSeen::First(_) = pmt else {
+        return refuse(none);
+    };
+    let program = first.says;
+    let map = tables.map;
+    let entries = map.entries;
+    let summary = Summary {
+        program: program.number,
+        pid: pid_in(entries, map.av1),
+        units,
+        totals,
+    };
+    Checked {
+        answer: SegmentCheck::Accepted(summary),
+        map,
+    }
+}
+
+// After the last packet the open PES closes, then 33.
+fn finish(
+    ran: RunResult,
+    packets: usize,
+    out: &[u8],
+    lens: &mut [usize],
+    times: &mut [u64],
+    firsts: &mut [usize],
+) -> Checked
+    ensures { λ r. ⌜ ((edition : Edition·rules) → EndRefines edition ran packets
+        (outputsOf (now (out .entry)) (now (lens .entry)) (now (times .entry))) r
+        (outputsOf (now (out .entry)) (now (lens .exit)) (now (times .exit)))) ⌝ }
+    ensures { λ _. ⌜ EndFirsts ran (outputsOf (now (out .entry)) (now (lens .entry)) (now (times .entry)))
+        (now (firsts .entry)) (now (firsts .exit)) ⌝ }
+{
+    let last = ran.extraction;
+    let closed = close(last, out, lens, times);
+    let outcome = closed.outcome;
+    match outcome {
+        Outcome::Refused(refused) => refuse(refused),
+        Outcome::Passed => {
+            let extraction = closed.extraction;
+            note_first(last, extraction, firsts);
+            let tables = ran.tables;
+            let totals = ran.totals;
+            accept(tables, extraction.units, packets, totals)
+        }
+    }
+}
+
+// The verdict on a segment, and its units in the outputs.
+fn judge(
+    edition: Edition,
+    segment: &[u8],
+    out: &mut [u8],
+    lens: &mut [usize],
+    times: &mut [u64],
+    firsts: &mut [usize],
+) -> Checked
+    ensures { λ r. ⌜ WholeRefines (editionSays edition) (now (segment .entry))
+        (outputsOf (now (out .entry)) (now (lens .entry)) (now (times .entry))) r
+        (outputsOf (now (out .exit)) (now (lens .exit)) (now (times .exit))) ⌝ }
+    ensures { λ _. ⌜ AcceptedFirsts (now (firsts .entry)) (checkSegment (editionSays edition)
+        (roomsOf (outputsOf (now (out .entry)) (now (lens .entry)) (now (times .entry)))) (now (segment .entry)))
+        (now (firsts .exit)) ⌝ }
+{
+    if length_wrong(segment) {
+        return refuse(Refusal::SEGMENT_LENGTH.at(0));
+    }
+    let ran = run(edition, segment, out, lens, times, firsts);
+    let outcome = ran.outcome;
+    match outcome {
+        Outcome::Refused(refused) => refuse(refused),
+        Outcome::Passed => finish(ran, segment.len() / PACKET_LENGTH, out, lens, times, firsts),
+    }
+}
+
+// The check of a segment in this edition.
+fn check_in(
+    edition: Edition,
+    segment: &[u8],
+    out: &mut [u8],
+    lens: &mut [usize],
+    times: &mut [u64],
+    firsts: &mut [usize],
+) -> Checked
+    ensures { λ r. ⌜ checkSays (r .answer) ≡ summarised (checkSegment (editionSays edition)
+        (roomsOf (outputsOf (now (out .entry)) (now (lens .entry)) (now (times .entry)))) (now (segment .entry))) ⌝ }
+    ensures { λ r. ⌜ r .map ≡ mapAfter (editionSays edition) (checkSegment (editionSays edition)
+        (roomsOf (outputsOf (now (out .entry)) (now (lens .entry)) (now (times .entry)))) (now (segment .entry))) ⌝ }
+    ensures { λ _. ⌜ outputsOf (now (out .exit)) (now (lens .exit)) (now (times .exit))
+        ≡ outputsAfter (checkSegment (editionSays edition)
+        (roomsOf (outputsOf (now (out .entry)) (now (lens .entry)) (now (times .entry)))) (now (segment .entry)))
+        (outputsOf (now (out .entry)) (now (lens .entry)) (now (times .entry))) ⌝ }
+    ensures { λ _. ⌜ now (firsts .exit) ≡ firstsAfter (checkSegment (editionSays edition)
+        (roomsOf (outputsOf (now (out .entry)) (now (lens .entry)) (now (times .entry)))) (now (segment .entry)))
+        (now (firsts .entry)) ⌝ }
+{
+    let checked = judge(edition, segment, out, lens, times, firsts);
+    let answer = checked.answer;
+    match answer {
+        SegmentCheck::Accepted(_) => checked,
+        SegmentCheck::Refused(_) => {
+            clear(out, lens, times, firsts);
+            checked
+        }
+    }
+}
+
+// The check of a segment in the edition of this number: its units over the front of out, their lengths over the front
+// of lens, their times in turn over the front of times, and the packets that began them over the front of firsts, as
+// many as it has room for; where the segment is refused, zeros throughout all four.
+pub fn check(
+    edition: u64,
+    segment: &[u8],
+    out: &mut [u8],
+    lens: &mut [usize],
+    times: &mut [u64],
+    firsts: &mut [usize],
+) -> Checked
+    ensures { λ r. ⌜ checkSays (r .answer) ≡ checking edition
+        (roomsOf (outputsOf (now (out .entry)) (now (lens .entry)) (now (times .entry)))) (now (segment .entry)) ⌝ }
+    ensures { λ r. ⌜ r .map ≡ mapChecked edition
+        (roomsOf (outputsOf (now (out .entry)) (now (lens .entry)) (now (times .entry)))) (now (segment .entry)) ⌝ }
+    ensures { λ _. ⌜ outputsOf (now (out .exit)) (now (lens .exit)) (now (times .exit))
+        ≡ outputsAfter (checkIn edition
+        (roomsOf (outputsOf (now (out .entry)) (now (lens .entry)) (now (times .entry)))) (now (segment .entry)))
+        (outputsOf (now (out .entry)) (now (lens .entry)) (now (times .entry))) ⌝ }
+    ensures { λ _. ⌜ now (firsts .exit) ≡ firstsAfter (checkIn edition
+        (roomsOf (outputsOf (now (out .entry)) (now (lens .entry)) (now (times .entry)))) (now (segment .entry)))
+        (now (firsts .entry)) ⌝ }
+{
+    let named = Edition::named(edition);
+    match named {
+        Named::Edition(known) => check_in(known, segment, out, lens, times, firsts),
+        Named::Refused(unknown) => {
+            clear(out, lens, times, firsts);
+            refuse(unknown)
+        }
+    }
+}

@@ -1,0 +1,30 @@
+-- A block without two bytes after it counts as one with a start code (`coded-short`); of another the places are counted.
+use native.Mathlib.Omega.{arith}
+use Prim.Native.Nat.{ℕ}
+use mathlib.Core.Path.{sym, ap, _∙_}
+use borrow.Author.Needs.{needs}
+use mathlib.Core.Bool.{not}
+use lib.Dec.{eqb}
+use Rattle.tsobu.proofs.Scanning.{coded-short, coded-counted}
+use Rattle.tsobu.proofs.start_codes.coded.Statement.{statement}
+use Rattle.tsobu.proofs.start_codes.coded.Tie as tie
+
+sub-if1 : tie.Need-sub-if1
+sub-if1 c = search needs
+
+add-if1 : tie.Need-add-if1
+add-if1 c = search needs
+
+returns : tie.Need-returns
+returns c = sym (coded-short (c .before .before .args .s .now) (c .before .before .args .i) (omega arith))
+
+codes-requires : tie.Need-codes-requires
+codes-requires c κs = search needs
+
+returns-2 : tie.Need-returns-2
+returns-2 c =
+    let start = c .before .before .before in
+    ap (λ (n : ℕ). not (eqb n 0)) (c .codes .ensures) ∙ sym (coded-counted (start .args .s .now) (start .args .i) (omega arith))
+
+pub coded-spec : {M : Type 1} → statement M
+coded-spec = tie.close (tie.spec sub-if1 add-if1 returns codes-requires returns-2)
