@@ -15,7 +15,7 @@ use sequence::Compared;
 use sequence::Difference;
 
 // The first differing field of the first header that disagrees, seq_profile being 0, or 43 where it is cut short.
-pub enum FieldFound {
+enum FieldFound {
     None,
     Field(u8),
 }

@@ -1,5 +1,5 @@
 -- Steps of the definitions of specs/Payload.antt, at a test's value. Assumes nothing.
-use Prim.Native.Nat.{ℕ, suc, _+_, _-_, _≤_, _<_}
+use Prim.Native.Nat.{ℕ, suc, _+_, _≤_, _<_}
 use mathlib.Core.Bool.{true, false, _&&_, _||_}
 use mathlib.Core.Path.{_≡_, refl, ap, _∙_}
 use mathlib.Core.List.{[], _∷_}
@@ -11,7 +11,7 @@ use borrow.Author.Tests.{eqb-true}
 use Rattle.lists.specs.Lists.{Bytes}
 use Rattle.lists.proofs.Tests.{case, chosen-true, chosen-false, and-both}
 use Rattle.lists.proofs.Parts.{next, next3}
-use Rattle.lists.proofs.Threes.{AsksThree, by-three, three-end, three-long, three-fits, three-at}
+use Rattle.lists.proofs.Threes.{AsksThree, by-three, three-long, three-fits, three-at}
 use Rattle.emulation.specs.Payload.{stuffed, escapeAfter, marked3, unescape, dropped, forbidden, above3, firstForbidden, legal}
 use Rattle.emulation.specs.Parts.{marked}
 
@@ -33,13 +33,6 @@ marked-is a b c e =
 pub marked-three : AsksThree marked
 unfolding marked
 marked-three = record { none = refl; one = λ a. refl; two = λ a b. refl }
-
-forbidden-three : AsksThree forbidden
-unfolding forbidden
-forbidden-three = record { none = refl; one = λ a. refl; two = λ a b. refl }
-
-pub forbidden-at-end : (s : Bytes) (i : ℕ) → length s - i < 3 → forbidden (drop i s) ≡ false
-forbidden-at-end = three-end forbidden-three
 
 pub marked-at : (s : Bytes) (i : ℕ) → i + 2 < length s → marked (drop i s) ≡ marked3 (getD s i 0) (getD s (i + 1) 0) (getD s (i + 2) 0)
 unfolding marked
@@ -87,6 +80,10 @@ dropped-plain a (b ∷ c ∷ s) e = chosen-false (suc (dropped s)) (dropped (b �
 
 pub marked-long : (l : Bytes) → marked l ≡ true → 3 ≤ length l
 marked-long = three-long marked-three
+
+forbidden-three : AsksThree forbidden
+unfolding forbidden
+forbidden-three = record { none = refl; one = λ a. refl; two = λ a b. refl }
 
 pub forbidden-long : (l : Bytes) → forbidden l ≡ true → 3 ≤ length l
 forbidden-long = three-long forbidden-three

@@ -172,9 +172,6 @@ module _ {queue : Queue} {store : Bytes} {units : List TimedUnit} (q : QueueIs q
             (refuse 8 _ (lt-ltb (length out) (length (segment c d units)) (omega (arith, bytes-are))))))
 
         -- what is sent
-        sent : Written
-        sent = record { bytes = length (segment c d units); packets = length (segmentPackets c d units) }
-
         passes : 188 * count ≤ length out
             → sending c d (length out) units
             ≡ passed (record { bytes = length (segment c d units); packets = length (segmentPackets c d units) })

@@ -10,7 +10,7 @@ use Rattle.lists.specs.Lists.{Bytes, pick}
 use Rattle.lists.specs.Bytes.{byte}
 use Rattle.lists.proofs.Tests.{case}
 use Rattle.refusal.specs.Verdict.{passed, refused, given}
-use Rattle.refusal.proofs.Verdicts.{refuse, pass-on, never, passed-after, passed-same, given-passed}
+use Rattle.refusal.proofs.Verdicts.{refuse, pass-on, never, passed-after, passed-same}
 use Rattle.ticks.specs.declared.Ticks90.{Ticks90}
 use Rattle.pes.specs.declared.header.Header.{Header}
 use Rattle.pes.specs.Pes.{pesData, ptsAndDts}
@@ -34,9 +34,6 @@ module _ (s : Bytes) (h : Header) (e : reading s ≡ passed h) where
   tried : (given 29 (headerWrong s) ≡ passed tt) × (passed (headerOf s) ≡ passed h)
   unfolding reading
   tried = passed-after (given 29 (headerWrong s)) (passed (headerOf s)) h e
-
-  right : headerWrong s ≡ false
-  right = given-passed 29 (headerWrong s) (tried .0)
 
   pub read-header : h ≡ headerOf s
   read-header = sym (passed-same (headerOf s) h (tried .1))

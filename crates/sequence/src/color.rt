@@ -16,7 +16,7 @@ use crate::fields::Sequence;
 use crate::points::Point;
 
 // subsampling_x, subsampling_y and chroma_sample_position.
-pub(crate) struct Color {
+struct Color {
     pub x: u8,
     pub y: u8,
     pub position: u8,
@@ -28,7 +28,7 @@ struct ColorRead {
 }
 
 // color_primaries, transfer_characteristics and matrix_coefficients.
-pub(crate) struct Description {
+struct Description {
     pub primaries: u8,
     pub transfer: u8,
     pub matrix: u8,

@@ -1,4 +1,4 @@
--- Laws of `Refines`: a turn from its outcome and the verdict, and the verdict from a turn. Assumes nothing.
+-- Laws of `Refines`: from an outcome and the verdict to a step that is carried out, and back. Assumes nothing.
 use Prim.Native.Nat.{ℕ}
 use mathlib.Core.Path.{_≡_, sym, ap, subst}
 use native.Mathlib.Omega.{arith}
@@ -14,14 +14,11 @@ pub never-passed : {P : Type 0} {o : Outcome} (q : Refused) → o ≡ outcome.Re
 never-passed q e k = let z : _≡_ {A = ℕ} 0 1 = cc in absurd (omega arith)
 
 module _ {A : Type 0} (v : Verdict A) (S : A → Type 0) where
-  -- a turn, from its outcome
+  -- a step carried out, from its outcome
   pub refines-refused : (o : Outcome) (q : Refused) → o ≡ outcome.Refused q → refusedBy q ≡ v → Refines o v S
   refines-refused o q e h = subst (λ (x : Outcome). Refines x v S) (sym e) (sym h)
 
-  pub refines-passed : (o : Outcome) → o ≡ outcome.Passed → (a : A) → passed a ≡ v → S a → Refines o v S
-  refines-passed o e a h s = subst (λ (x : Outcome). Refines x v S) (sym e) (a, sym h, s)
-
-  -- what a turn says
+  -- what it says
   pub refused-refines : (o : Outcome) (q : Refused) → o ≡ outcome.Refused q → Refines o v S → v ≡ refusedBy q
   refused-refines o q e t = subst (λ (x : Outcome). Refines x v S) e t
 
