@@ -83,8 +83,7 @@ returns c =
     let a = c .before .before .before .before .before .before .before .args in
     record {
       answers = sheet-short (a .map) (a .count) (a .firsts .now) (a .lens .now) (a .times .now) (a .bytes .now) _
-          (c .before .count-obus .ensures)
-          (length (a .sheet .now)) (c .if1 .taken);
+          (c .before .count-obus .ensures) (length (a .sheet .now)) (c .if1 .taken);
       written = refl;
     }
 
@@ -142,9 +141,8 @@ returns-2 c =
     .before .before .before .before .before .before .before .before .before .before .if1 .left in
     record {
       answers = sheet-fits (a .map) (a .count) (a .firsts .now) (a .lens .now) (a .times .now) (a .bytes .now) _ e (a .sheet .now) room;
-      written = sheet-put (a .map) (a .count) (a .firsts .now) (a .lens .now) (a .times .now) (a .bytes .now) _ e
-          (a .sheet .now) room _ _ _ _ _ _
-          (c .before .before .before .before .before .before .before .before .before .before .before .before .before .before .before
+      written = sheet-put (a .map) (a .count) (a .firsts .now) (a .lens .now) (a .times .now) (a .bytes .now) _ e (a .sheet .now) room
+          _ _ _ _ _ _ (c .before .before .before .before .before .before .before .before .before .before .before .before .before .before .before
           .before .before .before .before .before .before .before .put-number .ensures)
           (c .before .before .before .before .before .before .before .before .before .before .before .before .before .before .before
           .before .before .before .put-streams .ensures) (c .before .before .before .before .before .before .before .before .before

@@ -35,11 +35,9 @@ unfolding leaves
 returns-2 c =
     let at = c in
     let told = at .before .before .before in
-    let told = ap checkedSays (sym (told .checked .given .1)) ∙ told .before .before .check .ensures in (
-      no-room _ _ told _ _ _ (sym (at .before .outputs-short .ensures)
-          ∙ at .if1 .taken),
-      record { streams = refl; units = refl; obus = refl },
-    )
+    let told = ap checkedSays (sym (told .checked .given .1)) ∙ told .before .before .check .ensures in
+    let short = sym (at .before .outputs-short .ensures) ∙ at .if1 .taken in
+    (no-room _ _ told _ _ _ short, record { streams = refl; units = refl; obus = refl })
 
 mul-copy-numbers : tie.Need-mul-copy-numbers
 mul-copy-numbers c =
