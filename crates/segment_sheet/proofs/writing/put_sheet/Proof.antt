@@ -142,7 +142,8 @@ returns-2 c =
     record {
       answers = sheet-fits (a .map) (a .count) (a .firsts .now) (a .lens .now) (a .times .now) (a .bytes .now) _ e (a .sheet .now) room;
       written = sheet-put (a .map) (a .count) (a .firsts .now) (a .lens .now) (a .times .now) (a .bytes .now) _ e (a .sheet .now) room
-          _ _ _ _ _ _ (c .before .before .before .before .before .before .before .before .before .before .before .before .before .before .before
+          _ _ _ _ _ _
+          (c .before .before .before .before .before .before .before .before .before .before .before .before .before .before .before
           .before .before .before .before .before .before .before .put-number .ensures)
           (c .before .before .before .before .before .before .before .before .before .before .before .before .before .before .before
           .before .before .before .put-streams .ensures) (c .before .before .before .before .before .before .before .before .before
