@@ -20,7 +20,7 @@ use Rattle.emulation.specs.Payload.{unescape}
 use Rattle.tsobu.specs.StartCodes.{atStartCode, startCodesFrom, Split, payloads}
 use Rattle.unit.specs.Unit.{obusIn}
 use Rattle.tsobu.proofs.Splits.{code-is, split-code, split-byte, codes-yes, codes-no, second-no, third-no}
-use Rattle.comparison.specs.Comparison.{frameType}
+use Rattle.comparison.specs.Comparison.{frameType, isFrame}
 use Rattle.comparison.proofs.Frames.{frame-first}
 use Rattle.mux_rules.specs.Packets.{firstFrame, within}
 use Rattle.mux.specs.Parts.{frameAt}
