@@ -41,7 +41,7 @@ marked-zero a [] e = clash e refl
 marked-zero a (b ∷ []) e = clash e refl
 marked-zero a (b ∷ c ∷ s) e = eqb-true a 0 (and-both (eqb a 0) (eqb b 0) (and-both (eqb a 0 && eqb b 0) (eqb c 3) e .0) .0)
 
-unescaped-first : (p : Bytes) → byte (unescape p) 0 ≡ byte p 0
+pub unescaped-first : (p : Bytes) → byte (unescape p) 0 ≡ byte p 0
 unfolding unescape
 unescaped-first [] = refl
 unescaped-first (a ∷ l) =

@@ -12,7 +12,7 @@ use Rattle.lists.specs.Lists.{Bytes, pick, placed}
 use Rattle.lists.proofs.Tests.{case, or-by-true, or-by-false}
 use Rattle.refusal.specs.Verdict.{Verdict, passed, refused, _>>=_, _>>_, given, atPlace}
 use Rattle.refusal.specs.declared.Refused.{Refused}
-use Rattle.refusal.proofs.Verdicts.{pass-on, refuse-at, pass-at, go-on, stop, passed-then, passed-after, given-passed, never}
+use Rattle.refusal.proofs.Verdicts.{pass-on, refuse-at, pass-at, go-on, stop, passed-then, passed-after, given-passed, never, refused-first}
 use Rattle.descriptor.specs.Edition.{Edition}
 use Rattle.packet.specs.Header.{hasPayload, payload, payloadUnitStartIndicator}
 use Rattle.pes.specs.declared.header.Header.{Header}
@@ -47,12 +47,6 @@ use Rattle.extraction.proofs.Holding.{written, same-bytes, same-lens, s
 use Rattle.extraction.proofs.Holding.{stands-closed}
 
 -- ---- the unit of a PES that closes
-bind-refused : {A B : Type 0} (v : Verdict A) (f : A → B) (number place : ℕ) → (v >>= λ a. passed (f a)) ≡ refused number place → v ≡
-    refused number place
-unfolding _>>=_
-bind-refused (passed a) f number place e = never (sym e)
-bind-refused (refused n p) f number place e = let h : n ≡ number = cc in let k : p ≡ place = cc in ap₂ refused h k
-
 module _ (o : OpenPes) (x : state.Extraction) where
   -- its length is wrong
   pub judged-length : lengthWrong o ≡ true → closeOpen o x ≡ refused 32 (o .first)
@@ -72,7 +66,7 @@ module _ (o : OpenPes) (x : state.Extraction) where
     pub judged-refused : (number place : ℕ) → checking (o .bytes) ≡ refused number place → closeOpen o x ≡ refused number (o .first)
     unfolding closeOpen checking _>>_ atPlace
     judged-refused number place k =
-        let h = bind-refused (readUnit (o .bytes)) _ number place k in
+        let h = refused-first (readUnit (o .bytes)) _ number place k in
         sym (pass-at (o .first) 32 e (rw h))
 
 -- ---- the open PES closes

@@ -6,9 +6,9 @@ use mathlib.Core.List.{List, [], _∷_, _++_, flatten, append-nil, append-assoc}
 use native.Mathlib.Omega.{arith}
 use borrow.Author.Tests.{lt-ltb, le-ltb, ltb-true, ltb-false}
 use lib.Dec.{ltb}
-use lib.ListN.{length, take, drop, length-append, length-drop}
-use lib.Seq.{length-take-le, take-append-seam, drop-append-seam, drop-drop}
+use lib.ListN.{length, drop, length-append, length-drop}
 use Rattle.lists.specs.Lists.{Bytes, pick, over, placed}
+use Rattle.lists.proofs.Placed.{placed-twice}
 use Rattle.lists.proofs.Tests.{case}
 use Rattle.packet.specs.Header.{packetLength, packets, payload}
 use Rattle.plain.specs.Runs.{isNull, nullsIn, nextCounter, goesOn, payloadLength, goingOn, payloads}
@@ -55,20 +55,6 @@ module _ (s : Bytes) (from : ℕ) where
     ends h = omega (arith, inv, ap nullsIn (none-from s from n h) ∙ nulls-none)
 
 -- ---- one list behind another in an output
-pub placed-more : (out : List ℕ) (at : ℕ) (v u : List ℕ) → at ≤ length out →
-    placed (placed out at v) (at + length v) u ≡ placed out at (v ++ u)
-placed-more out at v u h =
-    let front = take at out ++ v in
-    let tail = drop (length v) (drop at out) in
-    let n : at + length v ≡ length front = omega (arith, length-append (take at out) v, length-take-le at out h) in
-    let k : length (v ++ u) ≡ length v + length u = length-append v u in
-    ap₂ (λ (l : List ℕ) (m : ℕ). placed l m u) (sym (append-assoc (take at out) v tail)) n
-    ∙ ap₂ (λ (a b : List ℕ). a ++ over u b) (take-append-seam front tail) (drop-append-seam front tail)
-    ∙ append-assoc (take at out) v (u ++ drop (length u) tail)
-    ∙ ap (λ (l : List ℕ). take at out ++ l) (sym (append-assoc v u (drop (length u) tail)))
-    ∙ ap (λ (l : List ℕ). take at out ++ ((v ++ u) ++ l))
-    (drop-drop (length u) (length v) (drop at out) ∙ ap (λ (m : ℕ). drop m (drop at out)) (sym k))
-
 length-over : (w out : List ℕ) → length w ≤ length out → length (over w out) ≡ length out
 length-over w out h = omega (arith, length-append w (drop (length w) out), length-drop (length w) out)
 
@@ -202,7 +188,7 @@ module _ (s : Bytes) (from q last : ℕ) (out₀ : List ℕ) where
                   );
               stands =
                   put ∙ ap₂ (λ (l : List ℕ) (x : ℕ). placed l x (drop 4 p)) (inv .stands) at
-                  ∙ placed-more out₀ 0 (payloads n left) (drop 4 p) (omega arith) ∙ ap (λ (w : Bytes). over w out₀) (sym t);
+                  ∙ placed-twice out₀ 0 (omega arith) (payloads n left) (drop 4 p) ∙ ap (λ (w : Bytes). over w out₀) (sym t);
               long = size;
               room = omega (arith, k);
             }

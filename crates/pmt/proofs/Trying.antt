@@ -11,8 +11,8 @@ use Rattle.lists.specs.Lists.{Bytes}
 use Rattle.lists.specs.Bytes.{byte}
 use Rattle.lists.proofs.Parts.{drop-take}
 use Rattle.lists.proofs.Tests.{or-by-true, or-by-false}
-use Rattle.refusal.specs.Verdict.{Verdict, passed, refused, _>>=_}
-use Rattle.refusal.proofs.Verdicts.{refuse, pass-on, go-on, stop, passed-then, passed-same, never}
+use Rattle.refusal.specs.Verdict.{passed, refused}
+use Rattle.refusal.proofs.Verdicts.{refuse, pass-on, go-on, stop, passed-then, passed-same, refused-first}
 use Rattle.descriptor.specs.Edition.{Edition}
 use Rattle.pmt.specs.Pmt.{descriptors, streamType, elementaryPid, esInfoLength, entrySize, esInfo, pidWrong, entry}
 use Rattle.pmt.specs.Parts.{foundIn, loopFound, kindFrom, triedEntry}
@@ -21,12 +21,6 @@ use Rattle.pmt.specs.declared.entries.Kind.{Kind}
 use Rattle.pmt.specs.declared.entries.Tried.{Tried}
 
 -- ---- what a loop's reading says of its descriptors
-pub refused-first : {A B : Type 0} (v : Verdict A) (f : A → B) (number place : ℕ) → (v >>= λ a. passed (f a)) ≡ refused number place
-    → v ≡ refused number place
-unfolding _>>=_
-refused-first (passed a) f number place e = never (sym e)
-refused-first (refused n p) f number place e = let g : n ≡ number = cc in let h : p ≡ place = cc in ap₂ refused g h
-
 pub unfilled-loop : (edition : Edition) (s : Bytes) → loopFound edition s ≡ refused 26 0 → descriptors s ≡ refused 26 0
 unfolding loopFound
 unfilled-loop edition s e = refused-first (descriptors s) (foundIn edition) 26 0 e

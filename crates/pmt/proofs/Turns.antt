@@ -11,7 +11,7 @@ use Rattle.lists.specs.Lists.{Bytes}
 use Rattle.lists.proofs.Tests.{or-neither}
 use Rattle.lists.proofs.Parts.{to-end}
 use Rattle.refusal.specs.Verdict.{passed, refused, _>>=_}
-use Rattle.refusal.proofs.Verdicts.{go-on, stop, passed-then, passed-after, passed-same, given-passed}
+use Rattle.refusal.proofs.Verdicts.{go-on, stop, passed-then, passed-after, passed-same, given-passed, refused-first}
 use Rattle.descriptor.specs.Edition.{Edition}
 use Rattle.pmt.specs.Pmt.{MapEntry, entrySize, entry, pids, mostEntries, entriesAfter}
 use Rattle.pmt.specs.Pmt as pmt
@@ -24,7 +24,6 @@ use Rattle.pmt.specs.declared.entries.Tried.{Tried}
 use Rattle.pmt.specs.declared.entries.ListAnswer.the-variants.{Passed}
 use Rattle.pmt.specs.declared.entries.Listed.{Listed}
 use Rattle.pmt.proofs.Slots.{pids-in-slots, slots-set}
-use Rattle.pmt.proofs.Trying.{refused-first}
 
 -- ---- one entry more
 pub none-left : (n mapPid : ℕ) (es : List MapEntry) → entriesAfter n mapPid es [] ≡ passed es

@@ -9,11 +9,12 @@ use native.Mathlib.Omega.{arith}
 use native.Mathlib.Numerals.{add-one}
 use borrow.Author.Tests.{eq-eqb, ltb-true, ltb-false}
 use lib.Dec.{eqb, ltb}
-use lib.ListN.{length, getD, set, take, drop, length-append, length-drop, take-append-drop}
-use lib.Seq.{getD-set-same, length-take-le}
-use Rattle.lists.specs.Lists.{Bytes, pick, over, placed}
+use lib.ListN.{length, getD, set, drop, length-append, length-drop, take-append-drop}
+use lib.Seq.{getD-set-same}
+use Rattle.lists.specs.Lists.{Bytes, pick, placed}
 use borrow.Rule.Slice.PartMut.{midOf}
 use Rattle.lists.proofs.Parts.{tail-lent}
+use Rattle.lists.proofs.Placed.{placed-long, placed-twice}
 use Rattle.lists.proofs.Tests.{case, clash}
 use Rattle.refusal.specs.Verdict.{Verdict, passed, _>>=_, atPlace}
 use Rattle.refusal.proofs.Verdicts.{pass-on}
@@ -37,7 +38,7 @@ use Rattle.packet.proofs.Recorded.{found-at}
 use Rattle.plain.specs.Runs.{nextCounter, goesOn, payloadLength, goingOn, payloads}
 use Rattle.plain.proofs.Places.{next-packet, no-packet, packet-length}
 use Rattle.plain.proofs.Plains.{plain-passes, no-start, of-pid, counter-next, with-payload, no-break, no-pcr, payload-behind}
-use Rattle.plain.proofs.Following.{placed-more, going-bounded, going-none, going-next, going-full, going-stop}
+use Rattle.plain.proofs.Following.{going-bounded, going-none, going-next, going-full, going-stop}
 use Rattle.segment_rules.specs.State as state
 use Rattle.segment_rules.specs.State.{FirstPmt, State, kindOf, withTables, withRecords}
 use Rattle.segment_rules.specs.Rules.{inSequence, onTables, countingPcr, lastPcr, isPcr, clocked, checked, pesRules, isRepeat, unlessRepeat}
@@ -180,17 +181,6 @@ gone-one i (suc m) c last k h =
     let y : ((last + 1) % 16 + suc m) % 16 ≡ (last + suc (suc m)) % 16 = omega arith in
     last-twice c i (nextCounter last) (k * packetLength) (((last + 1) % 16 + suc m) % 16) ((k + 1 + m) * packetLength) h
     ∙ ap₂ (λ (x w : ℕ). withLast c i x (w * packetLength)) y z
-
-length-placed : (out : List ℕ) (at : ℕ) (w : List ℕ) → at + length w ≤ length out → length (placed out at w) ≡ length out
-length-placed out at w h =
-    omega (
-      arith,
-      length-append (take at out) (over w (drop at out)),
-      length-take-le at out (omega arith),
-      length-append w (drop (length w) (drop at out)),
-      length-drop (length w) (drop at out),
-      length-drop at out,
-    )
 
 -- ---- one packet
 -- what holds where a packet of PID n may go on, of the code's state and the definitions'
@@ -418,7 +408,7 @@ module _ (edition : Edition) (segment : Bytes) (before : Outputs) (lens times : 
         let q = one-goes out c e st s last r k g h w fits in
         let size = long out c e st s last r k g h w fits in
         let out1 = placed out at (payload p) in
-        let same : length out1 ≡ length out = length-placed out at (payload p) (omega (arith, size, w)) in
+        let same : length out1 ≡ length out = placed-long out at (omega (arith, size, w)) (payload p) (omega (arith, size, w)) in
         let left : length out1 - (e .start + (e .bytes + payloadLength)) ≡ length out - at - payloadLength = omega (arith, same) in
         let m = goingOn (length out - at - payloadLength) n (nextCounter last) l in
         let c1 = withLast c i (nextCounter last) (k * packetLength) in
@@ -437,7 +427,7 @@ module _ (edition : Edition) (segment : Bytes) (before : Outputs) (lens times : 
               (gone i (suc m) c last k) (record { pes = e .pes; units = e .units; start = e .start; bytes = x }) (rest .reached)) bytes
               (subst (λ (x : List ℕ). StateRepresents edition segment before (outputsOf x lens times)
               (gone i (suc m) c last k) (longer (longer e payloadLength) (m * payloadLength)) (rest .reached))
-              (ap (λ (x : ℕ). placed out1 x (payloads m l)) seam ∙ placed-more out at (payload p) (payloads m l) fits)
+              (ap (λ (x : ℕ). placed out1 x (payloads m l)) seam ∙ placed-twice out at fits (payload p) (payloads m l))
               (subst (λ (x : Tables). StateRepresents edition segment before
               (outputsOf (placed out1 (e .start + (e .bytes + payloadLength)) (payloads m l)) lens times) x
               (longer (longer e payloadLength) (m * payloadLength)) (rest .reached))

@@ -15,7 +15,7 @@ use lib.ListN.{length, getD, drop, length-append, List·getD-append}
 use Rattle.lists.specs.Lists.{Bytes, pick}
 use Rattle.lists.proofs.Tests.{case, and-second}
 use Rattle.refusal.specs.Verdict.{passed, given}
-use Rattle.refusal.proofs.Verdicts.{All, passed-after, given-passed}
+use Rattle.refusal.proofs.Verdicts.{All, all-so, passed-after, given-passed}
 use Rattle.descriptor.specs.Edition.{Edition}
 use Rattle.packet.specs.Header.{packetLength, packetsOf, packets, hasPayload, headerLength, payload}
 use Rattle.pes.specs.declared.header.Header.{Header}
@@ -37,10 +37,6 @@ use Rattle.segment_rules.proofs.Running.{length-packets}
 pub all-and-one : {A : Type 0} (P : A → Type 0) (l : List A) (a : A) → All P l → P a → All P (l ++ (a ∷ []))
 all-and-one P [] a h p = (p, tt)
 all-and-one P (b ∷ l) a h p = (h .0, all-and-one P l a (h .1) p)
-
-pub all-so : {A : Type 0} {P Q : A → Type 0} (l : List A) → ((a : A) → P a → Q a) → All P l → All Q l
-all-so [] f h = tt
-all-so (a ∷ l) f h = (f a (h .0), all-so l f (h .1))
 
 last-of : (ps : List Bytes) (p : Bytes) → getD (ps ++ (p ∷ [])) (length ps) [] ≡ p
 last-of [] p = refl

@@ -15,7 +15,7 @@ use lib.Seq.{take-at, drop-at}
 use Rattle.lists.specs.Lists.{Bytes, any}
 use Rattle.lists.proofs.Tests.{case, clash, or-neither}
 use Rattle.refusal.specs.Verdict.{passed, given, inTurn}
-use Rattle.refusal.proofs.Verdicts.{All, never, passed-same, passed-then, passed-after, given-passed, turns-passed}
+use Rattle.refusal.proofs.Verdicts.{All, all-so, never, passed-same, passed-then, passed-after, given-passed, turns-passed}
 use Rattle.tsobu.specs.StartCodes.{atStartCode, payloads}
 use Rattle.tsobu.specs.TsObu.{tsobuRefusal}
 use Rattle.tsobu.proofs.Splits.{joined, from-code}
@@ -35,7 +35,7 @@ use Rattle.segment_rules.specs.Rules as rules
 use Rattle.segment_rules.specs.Rules.{Rooms}
 use Rattle.segment_rules.specs.Check.{Accepted, start, run, rule20, accepted, ending, checkSegment, ptsAndDts}
 use Rattle.segment_rules.specs.Content.{ObuPlace, placeOf, placesFrom, placesIn, placesOf}
-use Rattle.segment_rules.proofs.Accepting.{all-so, all-and-one, octets-payload, Timed, units-accepted}
+use Rattle.segment_rules.proofs.Accepting.{all-and-one, octets-payload, Timed, units-accepted}
 use Rattle.segment_rules.proofs.Editions.{TimesBy, times-where}
 use Rattle.segment_rules.proofs.Keeping.{Holds, holds-then, holds-each}
 use Rattle.segment_rules.proofs.Lasting.{run-lasts}

@@ -13,7 +13,7 @@ use Rattle.lists.specs.Lists.{Bytes, pick, any, those}
 use Rattle.lists.proofs.Tests.{or-neither}
 use Rattle.lists.proofs.Elements.{those-others}
 use Rattle.refusal.specs.Verdict.{Verdict, passed, refused, _>>=_, _>>_, given, atPlace}
-use Rattle.refusal.proofs.Verdicts.{All, never, passed-then}
+use Rattle.refusal.proofs.Verdicts.{All, all-so, never, passed-then}
 use Rattle.refusal.proofs.Refusing.{refuses-given, refuses-at, refuses-pick, refuses-then, refuses-bind}
 use Rattle.refusal.proofs.Turns.{Without}
 use Rattle.descriptor.specs.Edition.{Edition, current, draft, editionOf}
@@ -31,7 +31,7 @@ use Rattle.segment_rules.specs.Rules as rules
 use Rattle.segment_rules.specs.Rules.{Rooms, inSequence}
 use Rattle.segment_rules.specs.Check.{Progress, Accepted, oneMore, step, run, start}
 use Rattle.segment_rules.specs.Check.{ending, rule20, checkSegment, checkIn, ptsAndDts, noTime}
-use Rattle.segment_rules.proofs.Accepting.{all-so, octets-payload, octets-packet, Timed, stamped, times-said}
+use Rattle.segment_rules.proofs.Accepting.{octets-payload, octets-packet, Timed, stamped, times-said}
 use Rattle.segment_rules.proofs.Keeping.{Holds, holds-then, holds-each}
 use Rattle.segment_rules.proofs.Lasting.{to-24, step-lasts}
 use Rattle.segment_rules.proofs.Moving.{passed-so}

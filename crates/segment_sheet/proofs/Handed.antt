@@ -12,7 +12,7 @@ use lib.ListN.{length, take, drop, getD, length-append, length-drop, length-map}
 use lib.Seq.{drop-cons, take-at, drop-at}
 use Rattle.lists.specs.Lists.{Bytes}
 use Rattle.refusal.specs.Verdict.{passed, given}
-use Rattle.refusal.proofs.Verdicts.{All, passed-after, given-passed}
+use Rattle.refusal.proofs.Verdicts.{All, all-so, passed-after, given-passed}
 use Rattle.tsobu.specs.StartCodes.{atStartCode}
 use Rattle.unit.specs.Unit.{mostCarried, readUnit}
 use Rattle.descriptor.specs.Edition.{Edition}
@@ -26,7 +26,7 @@ use Rattle.segment_rules.specs.State.{AccessUnit}
 use Rattle.segment_rules.specs.Rules.{Rooms, carriedUnits}
 use Rattle.segment_rules.specs.Check.{Accepted, checkSegment, lengths, ptsAndDts, timesInTurn, firstPackets}
 use Rattle.segment_rules.specs.Content.{placesIn, placesOf}
-use Rattle.segment_rules.proofs.Accepting.{all-so, units-accepted}
+use Rattle.segment_rules.proofs.Accepting.{units-accepted}
 use Rattle.segment_rules.proofs.Contents.{places-few, streams-few}
 use Rattle.segment_rules.proofs.Fitting.{accepted-fits}
 use Rattle.sheet.specs.declared.rows.StreamRow.{StreamRow}

@@ -9,12 +9,9 @@ use native.Mathlib.Omega.{arith}
 use lib.ListN.{length, take, drop, length-map}
 use Rattle.lists.specs.Lists.{Bytes, placed}
 use Rattle.lists.specs.Bytes.{byte}
-use Rattle.lists.proofs.Tests.{case}
-use Rattle.emulation.specs.Payload.{marked3, unescape}
-use Rattle.emulation.specs.Parts.{marked}
-use Rattle.emulation.proofs.Steps.{marked-is, unescape-marked, unescape-plain}
 use Rattle.obu.specs.Header.{typeBits}
 use Rattle.tsobu.specs.StartCodes.{atStartCode, payloads}
+use Rattle.comparison.proofs.Frames.{unescaped-first}
 use Rattle.tsobu.proofs.Places.{Place, nextCode, payloadAt, payload-length, code-fits, next-fits}
 use Rattle.tsobu.proofs.Places.{next-place, payloads-from, payloads-end, place-code}
 use Rattle.segment_rules.specs.Content.{ObuPlace, placeOf, placesFrom, placesIn}
@@ -25,17 +22,6 @@ use Rattle.segment_sheet.specs.Content.{obuOf}
 use Rattle.segment_sheet.specs.Parts.{inBytes, obusIn}
 use Rattle.segment_sheet.proofs.Filling.{Filling, filling-start, filling-as, filling-next, filling-room, filling-done, filling-place}
 use Rattle.segment_sheet.proofs.Filling.{rowBytes, row-none, row-next, rows-long}
-
--- ---- the type
-pub first-byte : (w : Bytes) → byte (unescape w) 0 ≡ byte w 0
-unfolding marked unescape
-first-byte [] = refl
-first-byte (a ∷ []) = refl
-first-byte (a ∷ b ∷ []) = refl
-first-byte (a ∷ b ∷ c ∷ s) =
-    case (marked3 a b c)
-    (λ e. ap (λ (l : Bytes). byte l 0) (unescape-marked (a ∷ b ∷ c ∷ s) e) ∙ sym (marked-is a b c e .0))
-    (λ e. ap (λ (l : Bytes). byte l 0) (unescape-plain a (b ∷ c ∷ s) e))
 
 -- ---- a place where a tsOBU begins, or the end
 pub record At (s : Bytes) (code : ℕ) : Type 0 where
@@ -136,7 +122,7 @@ module _ {index : ℕ} {s out₀ : Bytes} {at code to : ℕ} {out : Bytes} (p : 
         ∙ row-next obuNumbers (obuOf (placeOf index code (payloadAt s code))) (obusAfter index s (nextCode s code))
         ∙ ap (λ (b : ℕ). inBytes (index ∷ typeBits b ∷ (code + 3) ∷ length (payloadAt s code) ∷ []) ++ obuBytes (obusAfter index s
         (nextCode s code)))
-        (first-byte (payloadAt s code)))
+        (unescaped-first (payloadAt s code)))
 
     pub putting-room : to + 32 ≤ length out
     unfolding row
