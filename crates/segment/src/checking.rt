@@ -3,17 +3,9 @@ ghost use mathlib.Core.Path.{_≡_};
 ghost use mathlib.Core.Bool.{false};
 ghost use Rattle.descriptor.specs.Edition.{Edition as Edition·rules};
 ghost use Rattle.descriptor.specs.Naming.{editionSays};
-ghost use Rattle.segment_rules.specs.Check.{
-  outputsOf,
-  segmentLengthWrong,
-  roomsOf,
-  outputsAfter,
-  firstsAfter,
-  checkSegment,
-  checkIn,
-};
+ghost use Rattle.segment_rules.specs.Check.{outputsOf, segmentLengthWrong, roomsOf, checkSegment};
 ghost use Rattle.pmt.specs.Answer.{noMap};
-ghost use Rattle.segment.specs.Answer.{summarised, mapAfter, checking, mapChecked, checkSays};
+ghost use Rattle.segment.specs.Answer.{ChecksSegment, ChecksIn};
 ghost use Rattle.extraction.specs.Extraction.{roomsIn};
 ghost use Rattle.segment.specs.Parts.{
   AcceptRefines,
@@ -263,17 +255,9 @@ fn check_in(
     times: &mut [u64],
     firsts: &mut [usize],
 ) -> Checked
-    ensures { λ r. ⌜ checkSays (r .answer) ≡ summarised (checkSegment (editionSays edition)
-        (roomsOf (outputsOf (now (out .entry)) (now (lens .entry)) (now (times .entry)))) (now (segment .entry))) ⌝ }
-    ensures { λ r. ⌜ r .map ≡ mapAfter (editionSays edition) (checkSegment (editionSays edition)
-        (roomsOf (outputsOf (now (out .entry)) (now (lens .entry)) (now (times .entry)))) (now (segment .entry))) ⌝ }
-    ensures { λ _. ⌜ outputsOf (now (out .exit)) (now (lens .exit)) (now (times .exit))
-        ≡ outputsAfter (checkSegment (editionSays edition)
-        (roomsOf (outputsOf (now (out .entry)) (now (lens .entry)) (now (times .entry)))) (now (segment .entry)))
-        (outputsOf (now (out .entry)) (now (lens .entry)) (now (times .entry))) ⌝ }
-    ensures { λ _. ⌜ now (firsts .exit) ≡ firstsAfter (checkSegment (editionSays edition)
-        (roomsOf (outputsOf (now (out .entry)) (now (lens .entry)) (now (times .entry)))) (now (segment .entry)))
-        (now (firsts .entry)) ⌝ }
+    ensures { λ r. ⌜ ChecksSegment (editionSays edition) (now (segment .entry))
+        (outputsOf (now (out .entry)) (now (lens .entry)) (now (times .entry))) (now (firsts .entry)) r
+        (outputsOf (now (out .exit)) (now (lens .exit)) (now (times .exit))) (now (firsts .exit)) ⌝ }
 {
     let checked = judge(edition, segment, out, lens, times, firsts);
     let answer = checked.answer;
@@ -297,17 +281,9 @@ pub fn check(
     times: &mut [u64],
     firsts: &mut [usize],
 ) -> Checked
-    ensures { λ r. ⌜ checkSays (r .answer) ≡ checking edition
-        (roomsOf (outputsOf (now (out .entry)) (now (lens .entry)) (now (times .entry)))) (now (segment .entry)) ⌝ }
-    ensures { λ r. ⌜ r .map ≡ mapChecked edition
-        (roomsOf (outputsOf (now (out .entry)) (now (lens .entry)) (now (times .entry)))) (now (segment .entry)) ⌝ }
-    ensures { λ _. ⌜ outputsOf (now (out .exit)) (now (lens .exit)) (now (times .exit))
-        ≡ outputsAfter (checkIn edition
-        (roomsOf (outputsOf (now (out .entry)) (now (lens .entry)) (now (times .entry)))) (now (segment .entry)))
-        (outputsOf (now (out .entry)) (now (lens .entry)) (now (times .entry))) ⌝ }
-    ensures { λ _. ⌜ now (firsts .exit) ≡ firstsAfter (checkIn edition
-        (roomsOf (outputsOf (now (out .entry)) (now (lens .entry)) (now (times .entry)))) (now (segment .entry)))
-        (now (firsts .entry)) ⌝ }
+    ensures { λ r. ⌜ ChecksIn edition (now (segment .entry))
+        (outputsOf (now (out .entry)) (now (lens .entry)) (now (times .entry))) (now (firsts .entry)) r
+        (outputsOf (now (out .exit)) (now (lens .exit)) (now (times .exit))) (now (firsts .exit)) ⌝ }
 {
     let named = Edition::named(edition);
     match named {

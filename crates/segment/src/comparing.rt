@@ -3,9 +3,8 @@ ghost use mathlib.Core.Path.{_≡_};
 ghost use lib.ListN.{take};
 ghost use Rattle.unit.specs.Unit.{obusOf};
 ghost use Rattle.comparison.specs.Comparison.{disagreedSays};
-ghost use Rattle.segment_rules.specs.Check.{outputsOf, roomsOf, outputsAfter, checkIn};
-ghost use Rattle.segment_rules.specs.Comparison.{checkCompared};
-ghost use Rattle.segment.specs.Answer.{checking, mapChecked, disagreementOf, checkSays};
+ghost use Rattle.segment_rules.specs.Check.{outputsOf};
+ghost use Rattle.segment.specs.Answer.{ChecksCompared};
 ghost use Rattle.segment.specs.Parts.{disagreeing, disagreementIn};
 use crate::checking::SegmentCheck;
 use crate::checking::check;
@@ -57,16 +56,9 @@ pub fn check_compared(
     lens: &mut [usize],
     times: &mut [u64],
 ) -> Answered
-    ensures { λ r. ⌜ checkSays (r .answer) ≡ checking edition
-        (roomsOf (outputsOf (now (out .entry)) (now (lens .entry)) (now (times .entry)))) (now (segment .entry)) ⌝ }
-    ensures { λ r. ⌜ r .map ≡ mapChecked edition
-        (roomsOf (outputsOf (now (out .entry)) (now (lens .entry)) (now (times .entry)))) (now (segment .entry)) ⌝ }
-    ensures { λ r. ⌜ disagreedSays (r .disagreement) ≡ disagreementOf (checkCompared edition
-        (roomsOf (outputsOf (now (out .entry)) (now (lens .entry)) (now (times .entry)))) (now (segment .entry))) ⌝ }
-    ensures { λ _. ⌜ outputsOf (now (out .exit)) (now (lens .exit)) (now (times .exit))
-        ≡ outputsAfter (checkIn edition
-        (roomsOf (outputsOf (now (out .entry)) (now (lens .entry)) (now (times .entry)))) (now (segment .entry)))
-        (outputsOf (now (out .entry)) (now (lens .entry)) (now (times .entry))) ⌝ }
+    ensures { λ r. ⌜ ChecksCompared edition (now (segment .entry))
+        (outputsOf (now (out .entry)) (now (lens .entry)) (now (times .entry))) r
+        (outputsOf (now (out .exit)) (now (lens .exit)) (now (times .exit))) ⌝ }
 {
     let mut none: [usize; 0] = [];
     let checked = check(edition, segment, out, lens, times, &mut none);

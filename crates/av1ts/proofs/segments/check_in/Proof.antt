@@ -23,7 +23,7 @@ same-length-3 c = search needs
 returns : tie.Need-returns
 returns c =
     let e = c .before .before .before .before .before .before .before .check-compared .ensures in
-    record { answers = c .segment-answer .ensures ∙ ap₂ segmentAnswer (e .0) (e .1 .1 .0); leaves = e .1 .1 .1 }
+    record { answers = c .segment-answer .ensures ∙ ap₂ segmentAnswer (e .answers) (e .compared); leaves = e .leaves }
 
 pub check-in-spec : {M : Type 1} → statement M
 check-in-spec =

@@ -48,16 +48,13 @@ returns c =
     let done = c .before .before .before .before .before .before .before .before .check-in in
     let known = sym (ap namedSays (c .before .before .before .before .before .before .before .before .before .before .before .before
     .before .before .named2 .given .1)) ∙ c .before .before .before .before .before .before .before .before .before .before .before
-    .before .before .before .before .before .named .ensures in (
-      done .ensures .0 ∙ known-checks (a .edition) _ rooms (a .segment .now) known,
-      (
-        done .ensures .1 .0 ∙ known-map (a .edition) _ rooms (a .segment .now) known,
-        (
-          done .ensures .1 .1 .0 ∙ known-leaves (a .edition) _ rooms (a .segment .now) known _,
-          done .ensures .1 .1 .1 ∙ known-firsts (a .edition) _ rooms (a .segment .now) known _,
-        ),
-      ),
-    )
+    .before .before .before .before .before .named .ensures in
+    record {
+      answers = done .ensures .answers ∙ known-checks (a .edition) _ rooms (a .segment .now) known;
+      beside = done .ensures .beside ∙ known-map (a .edition) _ rooms (a .segment .now) known;
+      leaves = done .ensures .leaves ∙ known-leaves (a .edition) _ rooms (a .segment .now) known _;
+      began = done .ensures .began ∙ known-firsts (a .edition) _ rooms (a .segment .now) known _;
+    }
 
 same-length-5 : tie.Need-same-length-5
 same-length-5 c = search needs
@@ -79,18 +76,19 @@ returns-2 c =
     let cleared = c .before .before .before .before .before .before .before .before .before .clear in
     let unknown = sym (ap namedSays (c .before .before .before .before .before .before .before .before .before .before .before .before
     .before .before .before .named3 .given .1)) ∙ c .before .before .before .before .before .before .before .before .before .before
-    .before .before .before .before .before .before .before .named .ensures in (
-      ap (λ (x : Checked). checkSays (x .answer)) (c .refuse .ensures)
-          ∙ unknown-checks (a .edition) _ _ (roomsOf before) (a .segment .now) unknown,
-      (
-        ap (λ (x : Checked). x .map) (c .refuse .ensures) ∙ unknown-map (a .edition) _ _ (roomsOf before) (a .segment .now) unknown,
-        (
+    .before .before .before .before .before .before .before .named .ensures in
+    record {
+      answers =
+          ap (λ (x : Checked). checkSays (x .answer)) (c .refuse .ensures)
+          ∙ unknown-checks (a .edition) _ _ (roomsOf before) (a .segment .now) unknown;
+      beside =
+          ap (λ (x : Checked). x .map) (c .refuse .ensures) ∙ unknown-map (a .edition) _ _ (roomsOf before) (a .segment .now) unknown;
+      leaves =
           unknown-leaves (a .edition) _ _ (roomsOf before) (a .segment .now) unknown before (cleared .last .0) (cleared .last .1 .0)
-              (cleared .last .1 .1 .0) (cleared .ensures .0) (cleared .ensures .1 .0) (cleared .ensures .1 .1 .0),
-          unknown-firsts (a .edition) _ _ (roomsOf before) (a .segment .now) unknown (a .firsts .now) _ (cleared .ensures .1 .1 .1),
-        ),
-      ),
-    )
+          (cleared .last .1 .1 .0) (cleared .ensures .0) (cleared .ensures .1 .0) (cleared .ensures .1 .1 .0);
+      began =
+          unknown-firsts (a .edition) _ _ (roomsOf before) (a .segment .now) unknown (a .firsts .now) _ (cleared .ensures .1 .1 .1);
+    }
 
 pub check-spec : {M : Type 1} → statement M
 check-spec =

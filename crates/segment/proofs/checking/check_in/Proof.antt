@@ -38,17 +38,14 @@ returns c =
     let verdict = checkSegment (editionSays (a .edition)) (roomsOf before) (a .segment .now) in
     let judged = c .before .before .before .before .before .before .before .before .before .before .judge in
     let now = outputsOf (judged .last .1 .1 .0) (judged .last .1 .1 .1 .0) (judged .last .1 .1 .1 .1 .0) in
-    let turn = judged .ensures .0 .0 in (
-      answers (judged .result .answer) before verdict now turn,
-      (
-        judged .ensures .0 .1,
-        (
-          accepted-leaves (judged .result .answer) _ (c .enum-told .given .1) before verdict now turn,
-          accepted-firsts (judged .result .answer) _ (c .enum-told .given .1) before verdict now turn (a .firsts .now) _ (judged .ensures
-              .1),
-        ),
-      ),
-    )
+    let turn = judged .ensures .0 .0 in
+    let told = c .enum-told .given .1 in
+    record {
+      answers = answers (judged .result .answer) before verdict now turn;
+      beside = judged .ensures .0 .1;
+      leaves = accepted-leaves (judged .result .answer) _ told before verdict now turn;
+      began = accepted-firsts (judged .result .answer) _ told before verdict now turn (a .firsts .now) _ (judged .ensures .1);
+    }
 
 same-length-5 : tie.Need-same-length-5
 same-length-5 c = search needs
@@ -78,19 +75,18 @@ returns-2 c =
     let turn = judged .ensures .0 .0 in
     let told = c .before .before .before .before .before .before .before .before .before .before .before .before .before .enum-told2
     .given .1 in
-    let cleared = c .before .before .before .before .before .before .before .before .clear in (
-      answers (judged .result .answer) before verdict (outputsOf out lens times) turn,
-      (
-        judged .ensures .0 .1,
-        (
+    let cleared = c .before .before .before .before .before .before .before .before .clear in
+    record {
+      answers = answers (judged .result .answer) before verdict (outputsOf out lens times) turn;
+      beside = judged .ensures .0 .1;
+      leaves =
           refused-leaves (judged .result .answer) _ told before verdict out lens times (cleared .last .0) (cleared .last .1 .0)
-              (cleared .last .1 .1 .0) turn (cleared .ensures .0) (cleared .ensures .1 .0) (cleared .ensures .1 .1 .0)
-              (judged .kept .1 .1 .0) (judged .kept .1 .1 .1 .0) (judged .kept .1 .1 .1 .1 .0),
+          (cleared .last .1 .1 .0) turn (cleared .ensures .0) (cleared .ensures .1 .0) (cleared .ensures .1 .1 .0)
+          (judged .kept .1 .1 .0) (judged .kept .1 .1 .1 .0) (judged .kept .1 .1 .1 .1 .0);
+      began =
           refused-firsts (judged .result .answer) _ told before verdict (outputsOf out lens times) turn (a .firsts .now) firsts _
-              (cleared .ensures .1 .1 .1) (judged .kept .1 .1 .1 .1 .1 .0),
-        ),
-      ),
-    )
+          (cleared .ensures .1 .1 .1) (judged .kept .1 .1 .1 .1 .1 .0);
+    }
 
 pub check-in-spec : {M : Type 1} → statement M
 check-in-spec =

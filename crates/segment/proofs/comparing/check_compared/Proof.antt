@@ -30,18 +30,16 @@ returns c =
     let a = done .before .before .before .before .before .before .before .before .before .args in
     let before = outputsOf (a .out .now) (a .lens .now) (a .times .now) in
     let now = outputsOf (done .check .last .1 .1 .0) (done .check .last .1 .1 .1 .0) (done .check .last .1 .1 .1 .1 .0) in
-    let e = done .check .ensures in (
-      e .0,
-      (
-        e .1 .0,
-        (
+    let e = done .check .ensures in
+    record {
+      answers = e .answers;
+      beside = e .beside;
+      compared =
           c .disagreement-of .ensures
-              ∙ found-beside (roomsOf before) (a .segment .now) (done .check .result .answer) (done .check .result .map) before now
-              (a .edition) (e .0) (e .1 .0) (e .1 .1 .0),
-          e .1 .1 .0,
-        ),
-      ),
-    )
+          ∙ found-beside (roomsOf before) (a .segment .now) (done .check .result .answer) (done .check .result .map) before now
+          (a .edition) (e .answers) (e .beside) (e .leaves);
+      leaves = e .leaves;
+    }
 
 pub check-compared-spec : {M : Type 1} → statement M
 check-compared-spec =

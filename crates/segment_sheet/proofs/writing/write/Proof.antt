@@ -29,9 +29,9 @@ put-sheet-requires c κs =
     let done = c .before .before .before .before .before .before .before .before .before .before .before .before .before .before .before
     .before .check in
     let before = outputsOf (a .out .now) (a .lens .now) (a .times .now) in
-    let told = sym (ap checkSays (c .before .before .before .before .before .before .before .answer2 .given .1)) ∙ done .ensures .0 in
-    ready (a .edition) (a .segment .now) before _ (search needs) _ _ _ _ told (done .ensures .1 .0) (done .ensures .1 .1 .0) (done
-    .ensures .1 .1 .1)
+    let told = sym (ap checkSays (c .before .before .before .before .before .before .before .answer2 .given .1)) ∙ done .ensures .answers in
+    ready (a .edition) (a .segment .now) before _ (search needs) _ _ _ _ told (done .ensures .beside) (done .ensures .leaves)
+    (done .ensures .began)
 
 same-length : tie.Need-same-length
 same-length c = search needs
@@ -48,10 +48,10 @@ returns c =
     .before .before .before .before .before .args in
     let done = c .before .before .before .before .before .before .before .before .before .before .check in
     let before = outputsOf (a .out .now) (a .lens .now) (a .times .now) in
-    let told = sym (ap checkSays (c .before .answer .given .1)) ∙ done .ensures .0 in
+    let told = sym (ap checkSays (c .before .answer .given .1)) ∙ done .ensures .answers in
     record {
       answers = refused-writes _ (a .edition) (roomsOf before) (a .segment .now) _ told;
-      outputs = done .ensures .1 .1 .0;
+      outputs = done .ensures .leaves;
       written = refused-stays _ _ (a .sheet .now) told;
     }
 
@@ -75,14 +75,14 @@ returns-2 c =
     .before .before .before .before .check in
     let before = outputsOf (a .out .now) (a .lens .now) (a .times .now) in
     let told = sym (ap checkSays (c .before .before .before .before .before .before .before .before .before .before .answer2 .given .1))
-    ∙ done .ensures .0 in
+    ∙ done .ensures .answers in
     let put = c .before .before .put-sheet .ensures in
     record {
-      answers = accepted-writes (a .edition) (a .segment .now) before _ (search needs) _ _ _ _ told (done .ensures .1 .0)
-          (done .ensures .1 .1 .0) (done .ensures .1 .1 .1) _ _ (put .answers);
-      outputs = done .ensures .1 .1 .0;
-      written = accepted-leaves (a .edition) (a .segment .now) before _ (search needs) _ _ _ _ told (done .ensures .1 .0)
-          (done .ensures .1 .1 .0) (done .ensures .1 .1 .1) _ (a .sheet .now) _ (put .answers) (put .written);
+      answers = accepted-writes (a .edition) (a .segment .now) before _ (search needs) _ _ _ _ told (done .ensures .beside)
+          (done .ensures .leaves) (done .ensures .began) _ _ (put .answers);
+      outputs = done .ensures .leaves;
+      written = accepted-leaves (a .edition) (a .segment .now) before _ (search needs) _ _ _ _ told (done .ensures .beside)
+          (done .ensures .leaves) (done .ensures .began) _ (a .sheet .now) _ (put .answers) (put .written);
     }
 
 pub write-spec : {M : Type 1} → statement M
