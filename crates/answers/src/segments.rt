@@ -7,6 +7,7 @@ ghost use Rattle.answers.specs.Answers.{comparisonAnswer, acceptedAnswer
 use crate::answer::number_of;
 use comparison::Disagreed;
 use refusal::Refused;
+use segment::Answered;
 use segment::SegmentCheck;
 use segment::Summary;
 
@@ -94,11 +95,19 @@ fn segment_refusal(r: Refused) -> SegmentAnswer
     }
 }
 
-pub fn segment_answer(checked: SegmentCheck, disagreement: Disagreed) -> SegmentAnswer
+fn answer_of(checked: SegmentCheck, disagreement: Disagreed) -> SegmentAnswer
     ensures { λ r. ⌜ r ≡ segmentAnswer (checkSays checked) (disagreedSays disagreement) ⌝ }
 {
     match checked {
         SegmentCheck::Accepted(summary) => accepted(summary, disagreement),
         SegmentCheck::Refused(refused) => segment_refusal(refused),
     }
+}
+
+pub fn segment_answer(answered: Answered) -> SegmentAnswer
+    ensures { λ r. ⌜ r ≡ segmentAnswer (checkSays (answered .answer)) (disagreedSays (answered .disagreement)) ⌝ }
+{
+    let checked = answered.answer;
+    let disagreement = answered.disagreement;
+    answer_of(checked, disagreement)
 }

@@ -3,7 +3,9 @@ ghost use Rattle.segment_rules.specs.Check.{outputsOf};
 ghost use Rattle.av1ts.specs.Segments.{ChecksSegment};
 use answers::SegmentAnswer;
 
-fn check_in(
+// The check in the edition of this number: 0 current, 1 draft.
+#[no_mangle]
+pub extern "C" fn av1ts_check_segment_edition(
     edition: u64,
     segment: &[u8],
     out: &mut [u8],
@@ -14,10 +16,7 @@ fn check_in(
         (outputsOf (now (out .entry)) (now (lengths .entry)) (now (times .entry))) r
         (outputsOf (now (out .exit)) (now (lengths .exit)) (now (times .exit))) ⌝ }
 {
-    let checked = segment::check_compared(edition, segment, out, lengths, times);
-    let answer = checked.answer;
-    let disagreement = checked.disagreement;
-    answers::segment_answer(answer, disagreement)
+    answers::segment_answer(segment::check_compared(edition, segment, out, lengths, times))
 }
 
 // The check in edition 0, the current one.
@@ -32,21 +31,5 @@ pub extern "C" fn av1ts_check_segment(
         (outputsOf (now (out .entry)) (now (lengths .entry)) (now (times .entry))) r
         (outputsOf (now (out .exit)) (now (lengths .exit)) (now (times .exit))) ⌝ }
 {
-    check_in(0, segment, out, lengths, times)
-}
-
-// The check in the edition of this number: 0 current, 1 draft.
-#[no_mangle]
-pub extern "C" fn av1ts_check_segment_edition(
-    edition: u64,
-    segment: &[u8],
-    out: &mut [u8],
-    lengths: &mut [usize],
-    times: &mut [u64],
-) -> SegmentAnswer
-    ensures { λ r. ⌜ ChecksSegment edition (now (segment .entry))
-        (outputsOf (now (out .entry)) (now (lengths .entry)) (now (times .entry))) r
-        (outputsOf (now (out .exit)) (now (lengths .exit)) (now (times .exit))) ⌝ }
-{
-    check_in(edition, segment, out, lengths, times)
+    av1ts_check_segment_edition(0, segment, out, lengths, times)
 }

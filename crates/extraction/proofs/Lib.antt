@@ -1,5 +1,1 @@
-pub mod Beyond
-pub mod Extracting
-pub mod Firsts
-pub mod Holding
 pub mod Stepping

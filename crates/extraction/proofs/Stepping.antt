@@ -1,10 +1,10 @@
 -- One packet: what the calls of the code say of its header, its counter, its section and its payload, put together. Assumes nothing.
-use Prim.Native.Nat.{ℕ, _+_, _-_, _*_, _≤_}
+use Prim.Native.Nat.{ℕ, _+_, _-_, _*_, _/_, _≤_, _<_}
 use mathlib.Core.Bool.{Bool, true, false, not, _&&_, true≢false}
 use mathlib.Core.Path.{_≡_, refl, sym, ap, ap₂, subst, _∙_}
 use mathlib.Core.List.{List, []}
 use native.Mathlib.Omega.{arith}
-use borrow.Author.Tests.{ltb-true, ltb-false}
+use borrow.Author.Tests.{ltb-true, ltb-false, le-ltb}
 use lib.Dec.{ltb}
 use lib.ListN.{length, take, drop, length-drop, drop-of-length-le}
 use lib.Seq.{drop-drop, length-take-le}
@@ -18,7 +18,7 @@ use Rattle.descriptor.specs.Edition.{Edition}
 use Rattle.packet.specs.declared.header.Header.{Header}
 use Rattle.packet.specs.declared.header.PacketRead.{PacketRead}
 use Rattle.packet.specs.declared.header.PacketRead.the-variants as answer
-use Rattle.packet.specs.Header.{pid, fields, headerOf, packetSays, hasPayload, payload, payloadUnitStartIndicator}
+use Rattle.packet.specs.Header.{packetLength, pid, fields, headerOf, packetSays, hasPayload, payload, payloadUnitStartIndicator}
 use Rattle.packet.specs.Streams.{lookUp, pidsIn}
 use Rattle.packet.proofs.Headers.{payload-from, passed-fields}
 use Rattle.segment_rules.specs.State as state
@@ -41,11 +41,12 @@ use Rattle.tables.specs.Tables.{kindSays, SlotOf}
 use Rattle.tables.proofs.Standing.{pids-stand}
 use Rattle.tables.proofs.Counting.{kind-repeats, kept-pids}
 use Rattle.tables.proofs.Refining.{refines-refused, refused-refines, passed-refines, refines-at, refines-as, refines-also, refines-then}
-use Rattle.extraction.specs.declared.units.Extraction.{Extraction}
-use Rattle.extraction.specs.declared.units.ExtractionResult.{ExtractionResult}
+use Rattle.units.specs.declared.units.Extraction.{Extraction}
+use Rattle.units.specs.declared.units.ExtractionResult.{ExtractionResult}
+use Rattle.units.specs.Extraction.{UnitsRepresent, PesRefines, noRoom}
 use Rattle.extraction.specs.declared.packets.Stepped.{Stepped}
-use Rattle.extraction.specs.Extraction.{UnitsRepresent, StateRepresents, noRoom}
-use Rattle.extraction.specs.Parts.{PesRefines, isTaken}
+use Rattle.extraction.specs.Packets.{StateRepresents, noPacket}
+use Rattle.extraction.specs.Parts.{isTaken}
 
 -- ---- where the payload lies
 -- bytes that end at a place of the segment
@@ -273,7 +274,14 @@ taken-all outcome.Passed true false e = (refl, refl, refl)
 taken-all outcome.Passed false repeat e = absurd (true≢false (sym e))
 taken-all (outcome.Refused q) carried repeat e = absurd (true≢false (sym e))
 
--- there is none, or a place lies beyond the outputs
+-- the code's test of the index: the segment has it
+pub packet-within : (size i : ℕ) → i < size / packetLength → i * packetLength + packetLength ≤ size
+packet-within size i h = omega (arith, h)
+
+pub packet-there : (size i : ℕ) → i < size / packetLength → noPacket size i ≡ false
+packet-there size i h = le-ltb size (i * packetLength + packetLength) (packet-within size i h)
+
+-- there is none
 abbrev stopped : Tables → Extraction → Refused → Stepped
 stopped c e q = record { tables = c; extraction = e; kind = kinds.Unlisted; outcome = outcome.Refused q }
 

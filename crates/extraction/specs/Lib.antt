@@ -1,2 +1,2 @@
-pub mod Extraction
+pub mod Packets
 pub mod Parts

@@ -3,19 +3,11 @@ ghost use mathlib.Core.Path.{_≡_};
 ghost use Prim.Native.Nat.{_+_, _*_, _≤_};
 ghost use lib.ListN.{length};
 ghost use Rattle.descriptor.specs.Edition.{Edition};
-ghost use Rattle.descriptor.specs.Naming.{editionSays};
 ghost use Rattle.segment_rules.specs.Rules.{isAv1};
 ghost use Rattle.segment_rules.specs.Check.{outputsOf};
 ghost use Rattle.tables.specs.Tables.{kindSays, packetAt};
-ghost use Rattle.extraction.specs.Extraction.{roomsIn, Fits, isOutside, PacketRefines, StepsOutside};
-ghost use Rattle.extraction.specs.Parts.{roomsSay, isTaken, PayloadRefines, ContentRefines, ReadRefines};
-use crate::outputs::Rooms;
-use crate::units::Arrival;
-use crate::units::Extraction;
-use crate::units::ExtractionResult;
-use crate::units::add;
-use crate::units::beyond;
-use crate::units::start;
+ghost use Rattle.extraction.specs.Packets.{PacketRefines, StepsOutside, KeepsBeyond};
+ghost use Rattle.extraction.specs.Parts.{isTaken, ContentRefines, ReadRefines};
 use lists::part;
 use lists::rest;
 use packet::PACKET_LENGTH;
@@ -30,6 +22,9 @@ use tables::check_counter;
 use tables::is_pcr;
 use tables::kind_of;
 use tables::read_section;
+use units::Arrival;
+use units::Extraction;
+use units::take_payload;
 
 // The tables and the units after a packet, what its PID was, and the verdict on it.
 pub struct Stepped {
@@ -60,28 +55,6 @@ fn packet_at(segment: &[u8], index: usize) -> &[u8]
     part(segment, index * PACKET_LENGTH, PACKET_LENGTH)
 }
 
-// The AV1 payload of a packet, which starts a PES or goes on with one.
-fn take_payload(
-    arrival: Arrival,
-    starts: bool,
-    payload: &[u8],
-    extraction: Extraction,
-    out: &mut [u8],
-    lens: &mut [usize],
-    times: &mut [u64],
-) -> ExtractionResult
-    requires { ⌜ Fits extraction (roomsIn (now out) (now lens) (now times)) ⌝ }
-    ensures { λ r. ⌜ PayloadRefines (editionSays (arrival .edition)) starts (arrival .index) (now (payload .entry))
-        (arrival .«pcr_seen») extraction
-        (outputsOf (now (out .entry)) (now (lens .entry)) (now (times .entry))) r
-        (outputsOf (now (out .exit)) (now (lens .exit)) (now (times .exit))) ⌝ }
-{
-    if starts {
-        return start(arrival, payload, extraction, out, lens, times);
-    }
-    add(arrival, payload, extraction, out)
-}
-
 // What a packet that passed 24 carries: a section, or the payload of a PES.
 fn take_content(
     segment: &[u8],
@@ -92,12 +65,13 @@ fn take_content(
     lens: &mut [usize],
     times: &mut [u64],
 ) -> Stepped
-    requires { ⌜ (packet .index * 188 + 188 ≤ length (now segment))
-        × Fits extraction (roomsIn (now out) (now lens) (now times)) ⌝ }
+    requires { ⌜ packet .index * 188 + 188 ≤ length (now segment) ⌝ }
     ensures { λ r. ⌜ ((edition : Edition) → ContentRefines edition (now (segment .entry)) packet tables extraction
         (outputsOf (now (out .entry)) (now (lens .entry)) (now (times .entry))) r
         (outputsOf (now (out .exit)) (now (lens .exit)) (now (times .exit)))) ⌝ }
     ensures { λ r. ⌜ r .kind ≡ packet .kind ⌝ }
+    ensures { λ r. ⌜ KeepsBeyond extraction (outputsOf (now (out .entry)) (now (lens .entry)) (now (times .entry))) r
+        (outputsOf (now (out .exit)) (now (lens .exit)) (now (times .exit))) ⌝ }
 {
     let header = packet.header;
     let kind = packet.kind;
@@ -155,12 +129,13 @@ fn step_read(
     lens: &mut [usize],
     times: &mut [u64],
 ) -> Stepped
-    requires { ⌜ (packet .index * 188 + 188 ≤ length (now segment))
-        × Fits extraction (roomsIn (now out) (now lens) (now times)) ⌝ }
+    requires { ⌜ packet .index * 188 + 188 ≤ length (now segment) ⌝ }
     ensures { λ r. ⌜ ((edition : Edition) → ReadRefines edition (now (segment .entry)) packet tables extraction
         (outputsOf (now (out .entry)) (now (lens .entry)) (now (times .entry))) r
         (outputsOf (now (out .exit)) (now (lens .exit)) (now (times .exit)))) ⌝ }
     ensures { λ r. ⌜ r .kind ≡ packet .kind ⌝ }
+    ensures { λ r. ⌜ KeepsBeyond extraction (outputsOf (now (out .entry)) (now (lens .entry)) (now (times .entry))) r
+        (outputsOf (now (out .exit)) (now (lens .exit)) (now (times .exit))) ⌝ }
 {
     let header = packet.header;
     let kind = packet.kind;
@@ -180,18 +155,8 @@ fn step_read(
     take_content(segment, packet, checked, extraction, out, lens, times)
 }
 
-// A segment of this length has no packet with this index, or a place of the units lies beyond the outputs.
-fn is_outside(size: usize, index: usize, extraction: Extraction, rooms: Rooms) -> bool
-    ensures { λ r. ⌜ r ≡ isOutside size index extraction (roomsSay rooms) ⌝ }
-{
-    if size / PACKET_LENGTH <= index {
-        return true;
-    }
-    beyond(extraction, rooms)
-}
-
 // The packet with this index: the table of document 01 in its sequence. Where the segment has no such packet, or a
-// place of the units lies beyond the outputs, 8.
+// payload comes and a place of the units lies beyond the outputs, 8.
 pub fn step(
     segment: &[u8],
     index: usize,
@@ -208,13 +173,10 @@ pub fn step(
     ensures { λ r. ⌜ StepsOutside (now (segment .entry)) index tables extraction
         (outputsOf (now (out .entry)) (now (lens .entry)) (now (times .entry))) r
         (outputsOf (now (out .exit)) (now (lens .exit)) (now (times .exit))) ⌝ }
+    ensures { λ r. ⌜ KeepsBeyond extraction (outputsOf (now (out .entry)) (now (lens .entry)) (now (times .entry))) r
+        (outputsOf (now (out .exit)) (now (lens .exit)) (now (times .exit))) ⌝ }
 {
-    let rooms = Rooms {
-        bytes: out.len(),
-        lens: lens.len(),
-        times: times.len(),
-    };
-    if is_outside(segment.len(), index, extraction, rooms) {
+    if segment.len() / PACKET_LENGTH <= index {
         return Stepped {
             tables,
             extraction,

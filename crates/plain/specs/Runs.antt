@@ -1,5 +1,5 @@
 -- Runs of packets that ask nothing of a segment's tables: null packets, and packets of one PID that go on with a PES.
--- No rule is said here: what the rules say of such packets is proved of them (crate segment). Assumes nothing.
+-- No rule is said here: what the rules say of such packets is proved of them (crate segment_run). Assumes nothing.
 use Prim.Native.Nat.{ℕ, suc, _+_, _-_, _%_}
 use mathlib.Core.Bool.{Bool, not, _&&_}
 use mathlib.Core.List.{List, [], _∷_, map, flatten}

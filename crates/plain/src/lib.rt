@@ -14,7 +14,7 @@ use packet::PACKET_LENGTH;
 // The length of a packet's header, and of the payload of a packet that has no adaptation field.
 const HEADER_LENGTH: usize = 4;
 
-const PAYLOAD_LENGTH: usize = 184;
+pub const PAYLOAD_LENGTH: usize = 184;
 
 // The PID of a packet.
 pub fn pid_of(packet: &[u8]) -> u16

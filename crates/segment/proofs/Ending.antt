@@ -35,19 +35,21 @@ use Rattle.tables.specs.Tables.{Refines, TablesRepresent}
 use Rattle.tables.proofs.Refining.{refused-refines, passed-refines}
 use Rattle.tables.proofs.Standing.{no-pat-yet, pat-yet, no-pmt-yet, pmt-yet}
 use Rattle.tables.proofs.Mapping.{av1-slot}
-use Rattle.extraction.specs.declared.state.PesSeen.the-variants as seen
-use Rattle.extraction.specs.declared.units.Extraction.{Extraction}
-use Rattle.extraction.specs.declared.units.ExtractionResult.{ExtractionResult}
+use Rattle.units.specs.declared.state.PesSeen.the-variants as seen
+use Rattle.units.specs.declared.units.Extraction.{Extraction}
+use Rattle.units.specs.declared.units.ExtractionResult.{ExtractionResult}
 use Rattle.segment.specs.declared.checking.Summary.{Summary}
-use Rattle.segment.specs.declared.checking.RunResult.{RunResult}
 use Rattle.segment.specs.declared.checking.SegmentCheck.{SegmentCheck}
 use Rattle.segment.specs.declared.checking.SegmentCheck.the-variants as checked
 use Rattle.segment.specs.declared.checking.Checked.{Checked}
 use Rattle.segment.specs.Answer.{summaryOf, summarised, mapAfter, checkSays}
-use Rattle.extraction.specs.Extraction.{UnitsRepresent, StateRepresents, firstNoted}
-use Rattle.segment.specs.Parts.{RunRefines, AnswerRefines, CheckedRefines, WholeRefines, AcceptedFirsts}
-use Rattle.extraction.proofs.Holding.{closed-outputs}
-use Rattle.extraction.proofs.Firsts.{notes}
+use Rattle.units.specs.Extraction.{UnitsRepresent, firstNoted}
+use Rattle.extraction.specs.Packets.{StateRepresents}
+use Rattle.segment_run.specs.declared.running.RunResult.{RunResult}
+use Rattle.segment_run.specs.Run.{RunRefines}
+use Rattle.segment.specs.Parts.{AnswerRefines, CheckedRefines, WholeRefines, AcceptedFirsts}
+use Rattle.units.proofs.Holding.{closed-outputs}
+use Rattle.units.proofs.Firsts.{notes}
 
 -- ---- 20, part by part
 pub no-bytes : (s : Bytes) → length s ≡ 0 → true ≡ segmentLengthWrong s

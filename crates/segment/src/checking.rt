@@ -1,44 +1,34 @@
 // The check of a whole segment.
 ghost use mathlib.Core.Path.{_≡_};
-ghost use mathlib.Core.Bool.{false};
 ghost use Rattle.descriptor.specs.Edition.{Edition as Edition·rules};
 ghost use Rattle.descriptor.specs.Naming.{editionSays};
 ghost use Rattle.segment_rules.specs.Check.{outputsOf, segmentLengthWrong, roomsOf, checkSegment};
 ghost use Rattle.pmt.specs.Answer.{noMap};
 ghost use Rattle.segment.specs.Answer.{ChecksSegment, ChecksIn};
-ghost use Rattle.extraction.specs.Extraction.{roomsIn};
 ghost use Rattle.segment.specs.Parts.{
   AcceptRefines,
   EndRefines,
-  RunRefines,
   WholeRefines,
-  RunFirsts,
   EndFirsts,
   AcceptedFirsts,
 };
-use crate::going::go_on;
-use crate::totals::count_packet;
-use crate::totals::none_yet;
 use descriptor::Edition;
 use descriptor::Named;
-use extraction::Extraction;
-use extraction::clear;
-use extraction::close;
-use extraction::fresh_extraction;
-use extraction::note_first;
-use extraction::step;
 use packet::PACKET_LENGTH;
-use plain::nulls;
 use pmt::ProgramMap;
 use refusal::Refusal;
 use refusal::Refused;
 use segment_rules::Totals;
+use segment_run::RunResult;
+use segment_run::run;
 use tables::Outcome;
 use tables::PatSeen;
 use tables::PmtSeen;
 use tables::Tables;
-use tables::fresh_tables;
 use tables::pid_in;
+use units::clear;
+use units::close;
+use units::note_first;
 
 // The most packets of a segment.
 const MOST_PACKETS: usize = 65535;
@@ -62,14 +52,6 @@ pub struct Checked {
     pub map: ProgramMap,
 }
 
-// What the packets have said, with the verdict on them.
-struct RunResult {
-    tables: Tables,
-    extraction: Extraction,
-    totals: Totals,
-    outcome: Outcome,
-}
-
 // No bytes, not a multiple of 188, or over 65,535 packets.
 fn length_wrong(segment: &[u8]) -> bool
     ensures { λ r. ⌜ r ≡ segmentLengthWrong (now (segment .entry)) ⌝ }
@@ -82,74 +64,6 @@ fn length_wrong(segment: &[u8]) -> bool
         return true;
     }
     MOST_PACKETS < length / PACKET_LENGTH
-}
-
-// All packets have passed.
-fn all_passed(tables: Tables, extraction: Extraction, totals: Totals) -> RunResult
-    ensures { λ r. ⌜ r
-        ≡ record { tables = tables; extraction = extraction; totals = totals; outcome = Outcome.Passed } ⌝ }
-{
-    RunResult {
-        tables,
-        extraction,
-        totals,
-        outcome: Outcome::Passed,
-    }
-}
-
-// The packets in order.
-fn run(
-    edition: Edition,
-    segment: &[u8],
-    out: &mut [u8],
-    lens: &mut [usize],
-    times: &mut [u64],
-    firsts: &mut [usize],
-) -> RunResult
-    requires { ⌜ segmentLengthWrong (now segment) ≡ false ⌝ }
-    ensures { λ r. ⌜ RunRefines (editionSays edition) (now (segment .entry))
-        (outputsOf (now (out .entry)) (now (lens .entry)) (now (times .entry))) r
-        (outputsOf (now (out .exit)) (now (lens .exit)) (now (times .exit))) ⌝ }
-    ensures { λ _. ⌜ RunFirsts (editionSays edition) (now (segment .entry))
-        (roomsIn (now (out .entry)) (now (lens .entry)) (now (times .entry))) (now (firsts .entry))
-        (now (firsts .exit)) ⌝ }
-{
-    let count = segment.len() / PACKET_LENGTH;
-    let mut tables = fresh_tables(edition);
-    let mut extraction = fresh_extraction();
-    let mut totals = none_yet();
-    let mut index: usize = 0;
-    while index < count {
-        let skipped = nulls(segment, index);
-        totals.null += skipped;
-        index += skipped;
-        let went = go_on(segment, index, tables, extraction, out);
-        tables = went.tables;
-        extraction = went.extraction;
-        totals.av1 += went.packets;
-        index += went.packets;
-        if count <= index {
-            continue;
-        }
-        let stepped = step(segment, index, tables, extraction, out, lens, times);
-        let outcome = stepped.outcome;
-        let Outcome::Passed = outcome else {
-            return RunResult {
-                tables,
-                extraction,
-                totals,
-                outcome,
-            };
-        };
-        let kind = stepped.kind;
-        let next = stepped.extraction;
-        note_first(extraction, next, firsts);
-        tables = stepped.tables;
-        extraction = next;
-        totals = count_packet(kind, totals);
-        index += 1;
-    }
-    all_passed(tables, extraction, totals)
 }
 
 fn refuse(refused: Refused) -> Checked

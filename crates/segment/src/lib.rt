@@ -1,8 +1,6 @@
 // The check of a segment (document 01, "A segment").
 mod checking;
 mod comparing;
-mod going;
-mod totals;
 
 pub use checking::Checked;
 pub use checking::SegmentCheck;

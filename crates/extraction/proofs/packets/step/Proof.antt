@@ -1,45 +1,38 @@
 -- The header is read; a packet that passed 21, 22 and 23 goes on with its counter and content. Of a state that stands, the packet is
--- there and all places lie within the outputs.
+-- there.
 use borrow.Author.Needs.{needs}
-use Prim.Native.Nat.{_+_, _*_, _≤_}
-use mathlib.Core.Path.{refl, sym, _∙_}
+use native.Mathlib.Omega.{arith}
+use mathlib.Core.Bool.{false}
+use mathlib.Core.Path.{_≡_, refl}
 use lib.ListN.{length}
 use Rattle.lists.proofs.Tests.{clash}
-use Rattle.packet.specs.Header.{packetLength}
 use Rattle.segment_rules.specs.Check.{roomsOf}
 use Rattle.tables.specs.Tables.{packetAt}
-use Rattle.extraction.specs.Extraction.{roomsIn, Fits}
-use Rattle.extraction.proofs.Beyond.{there-within, within-there}
-use Rattle.extraction.proofs.Holding.{stands-fits}
-use Rattle.extraction.proofs.Stepping.{header-refused, header-right, packet-kind, refused-outside}
+use Rattle.extraction.specs.Packets.{noPacket}
+use Rattle.extraction.proofs.Stepping.{header-refused, header-right, packet-kind, packet-within, packet-there, refused-outside}
 use Rattle.extraction.proofs.packets.step.Statement.{statement}
 use Rattle.extraction.proofs.packets.step.Tie as tie
 
-inside : (c : tie.Else1) → let a = c .before .before .before .before .before .before .args in
-    (a .index * packetLength + packetLength ≤ length (a .segment .now))
-    × Fits (a .extraction) (roomsIn (a .out .now) (a .lens .now) (a .times .now))
+inside : (c : tie.Else1) → let a = c .before .before .before .before .before .args in noPacket (length (a .segment .now)) (a .index) ≡ false
 inside c =
-    let a = c .before .before .before .before .before .before .args in
-    within-there (a .extraction) (roomsIn (a .out .now) (a .lens .now) (a .times .now)) (length (a .segment .now)) (a .index)
-    (sym (c .before .is-outside .ensures) ∙ c .if1 .left)
-
-is-outside-requires : tie.Need-is-outside-requires
-is-outside-requires c κs = search needs
+    let a = c .before .before .before .before .before .args in
+    packet-there (length (a .segment .now)) (a .index) (c .if1 .left)
 
 at-requires : tie.Need-at-requires
 at-requires c κs = search needs
 
 returns : tie.Need-returns
 returns c =
-    let a = c .before .before .before .before .before .before .before .args in
-    let rooms = roomsIn (a .out .now) (a .lens .now) (a .times .now) in (
-      (λ there edition before st n s. clash (sym (c .before .before .is-outside .ensures) ∙ c .before .if1 .taken)
-          (there-within (a .extraction) rooms (length (a .segment .now)) (a .index) there (stands-fits (s .extraction)))),
-      (λ k. (refused-outside (a .tables) (a .extraction) (a .index) (c .at .result) (c .at .ensures), refl)),
+    let a = c .before .before .before .before .before .before .args in (
+      (λ there edition before st n s. absurd (omega (arith, there, c .before .if1 .taken))),
+      (
+        (λ k. (refused-outside (a .tables) (a .extraction) (a .index) (c .at .result) (c .at .ensures), refl)),
+        (λ k. (refl, refl)),
+      ),
     )
 
 packet-at-requires : tie.Need-packet-at-requires
-packet-at-requires c κs = inside c .0
+packet-at-requires c κs = packet-within _ _ (c .if1 .left)
 
 read-requires : tie.Need-read-requires
 read-requires c κs = search needs
@@ -57,18 +50,18 @@ kind-of-requires : tie.Need-kind-of-requires
 kind-of-requires c κs = search needs
 
 step-read-requires : tie.Need-step-read-requires
-step-read-requires c κs = inside (c .before .before .before .before .before .before .before .before .before)
+step-read-requires c κs = packet-within _ _ (c .before .before .before .before .before .before .before .before .before .if1 .left)
 
 returns-2 : tie.Need-returns-2
 returns-2 c =
     let test = c .before .before .before .before .before .before in
-    let a = test .before .before .before .before .before .before .args in
+    let a = test .before .before .before .before .before .args in
     let lent = c .before .before .before .before .before .packet-at in
     let read = c .before .before .before .before .read in (
       (λ there edition before st n s.
           header-refused edition (roomsOf before) (a .segment .now) (a .index) st (read .result) (lent .result .now) (lent .ensures)
           (read .ensures) _ _ (c .before .before .read2 .given .1) (c .at-place .result) (c .at-place .ensures) _),
-      (λ k. clash k (sym (test .before .is-outside .ensures) ∙ test .if1 .left)),
+      ((λ k. clash k (inside test)), (λ k. (refl, refl))),
     )
 
 same-length : tie.Need-same-length
@@ -84,7 +77,7 @@ returns-3 : tie.Need-returns-3
 returns-3 c =
     let known = c .before .before .before .before .before .before .before .before .before .before .before .before in
     let test = known .before .before .before .before in
-    let a = test .before .before .before .before .before .before .args in
+    let a = test .before .before .before .before .before .args in
     let p = packetAt (a .segment .now) (a .index) in
     let lent = known .before .before .before .packet-at in
     let read = known .before .before .read in
@@ -94,16 +87,15 @@ returns-3 c =
           let right = header-right edition (roomsOf before) (a .segment .now) (a .index) st (read .result) (lent .result .now)
           (lent .ensures) (read .ensures) _ (known .read3 .given .1) in
           let kind = named .ensures edition (a .segment .now) (st .tables) n (s .tables) in
-          packet-kind edition (roomsOf before) p (a .index) st _ (named .result) (done .result) _ right (kind .0) (done .ensures .1)
+          packet-kind edition (roomsOf before) p (a .index) st _ (named .result) (done .result) _ right (kind .0) (done .ensures .1 .0)
           (done .ensures .0 edition before p refl right (kind .1) st n s)),
-      (λ k. clash k (sym (test .before .is-outside .ensures) ∙ test .if1 .left)),
+      ((λ k. clash k (inside test)), done .ensures .1 .1),
     )
 
 pub step-spec : {M : Type 1} → statement M
 step-spec =
     tie.close
     (tie.spec
-    is-outside-requires
     at-requires
     returns
     packet-at-requires

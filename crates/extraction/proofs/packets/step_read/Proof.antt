@@ -27,7 +27,7 @@ returns c =
           (one .ensures edition p same fits there (st .tables) n (s .tables)) there (k .header .«has_payload»)
           (c .before .before .repeats .result) (sym (ap (λ (h : Header). h .«has_payload») fits)) (c .before .before .repeats .ensures)
           (sym (c .before .is-taken .ensures) ∙ not-true _ (c .if1 .taken))),
-      refl,
+      (refl, (λ k. (refl, refl))),
     )
 
 take-content-requires : tie.Need-take-content-requires

@@ -6,13 +6,14 @@ use Rattle.packet.specs.declared.header.Header.{Header}
 use Rattle.descriptor.specs.Edition.{Edition}
 use Rattle.segment_rules.specs.Rules.{isPcr}
 use Rattle.segment_rules.specs.Check.{outputsOf}
-use Rattle.extraction.specs.Parts.{PayloadRefines}
+use Rattle.units.specs.declared.units.ExtractionResult.{ExtractionResult}
+use Rattle.units.specs.Extraction.{PayloadRefines}
 use Rattle.extraction.proofs.Stepping.{payload-length, payload-lies, payload-same, content-taken, content-read}
 use Rattle.extraction.proofs.packets.take_content.Statement.{statement}
 use Rattle.extraction.proofs.packets.take_content.Tie as tie
 
 packet-at-requires : tie.Need-packet-at-requires
-packet-at-requires c κs = c .before .before .before .before .before .pre .0
+packet-at-requires c κs = c .before .before .before .before .before .pre
 
 rest-requires : tie.Need-rest-requires
 rest-requires c κs = search needs
@@ -52,32 +53,31 @@ returns c =
           ∙ c
           .before .before .before .before .before .before .before .before .before .before .before .before .if1 .taken)
           (subst (λ (x : Edition). PayloadRefines x (k .header .start) (k .index) (w .result .now) (pcr .result) (a .extraction)
-          (outputsOf (a .out .now) (a .lens .now) (a .times .now)) (taken .result) after) (s .tables .follows) (taken .ensures) before p st
+          (outputsOf (a .out .now) (a .lens .now) (a .times .now)) (taken .result) after) (s .tables .follows) (taken .ensures .0) before
+          p st
           (record {
             carries = h;
             starts = sym (ap (λ (x : Header). x .start) e);
             same = payload-same p (k .header) (lent .result .now) (w .result .now) e (lent .ensures ∙ sym same) (w .ensures) h;
           })
           (ap isPcr (sym (s .tables .pcr)) ∙ sym (pcr .ensures)) (s .extraction))),
-      refl,
+      (refl, (λ k. (ap (λ (x : ExtractionResult). x .extraction) (taken .ensures .1 k .0), taken .ensures .1 k .1))),
     )
 
 mul-at : tie.Need-mul-at
 mul-at c =
     omega (
       arith,
-      c .before .before .before .before .before .before .before .before .before .before .pre .0,
-      c .before .before .before
-          .before .before .before .before .before .before .before .good .0 .0,
+      c .before .before .before .before .before .before .before .before .before .before .pre,
+      c .before .before .before .before .before .before .before .before .before .before .good .0 .0,
     )
 
 add-at : tie.Need-add-at
 add-at c =
     omega (
       arith,
-      c .before .before .before .before .before .before .before .before .before .before .pre .0,
-      c .before .before .before
-          .before .before .before .before .before .before .before .good .0 .0,
+      c .before .before .before .before .before .before .before .before .before .before .pre,
+      c .before .before .before .before .before .before .before .before .before .before .good .0 .0,
     )
 
 sub-at : tie.Need-sub-at
@@ -88,7 +88,7 @@ sub-at c =
     omega (
       arith,
       payload-length (a .segment .now) (lent .result .now) (w .result .now) (a .packet .index) (a .packet .header .payload)
-          (c .before .before .before .before .before .before .before .before .before .before .pre .0) (lent .ensures) (w .ensures),
+          (c .before .before .before .before .before .before .before .before .before .before .pre) (lent .ensures) (w .ensures),
     )
 
 read-section-requires : tie.Need-read-section-requires
@@ -111,9 +111,9 @@ returns-2 c =
           (ap (λ (x : Header). x .start) e) (payload-same p (k .header) (lent .result .now) (w .result .now) e (lent .ensures ∙ sym same)
           (w .ensures) h) (c .at-place .ensures)
           (read .ensures (payload-lies (a .segment .now) (lent .result .now) (w .result .now) (k .index) (k .header .payload)
-          (begin .pre .0)
+          (begin .pre)
           (lent .ensures) (w .ensures)) edition)),
-      refl,
+      (refl, (λ k. (refl, refl))),
     )
 
 pub take-content-spec : {M : Type 1} → statement M

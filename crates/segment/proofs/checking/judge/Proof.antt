@@ -28,7 +28,7 @@ returns c =
     )
 
 run-requires : tie.Need-run-requires
-run-requires c κs = sym (c .before .before .before .before .before .length-wrong .ensures) ∙ c .before .before .before .before .if1 .left
+run-requires c κs = search needs
 
 enum-known-outcome : tie.Need-enum-known-outcome
 enum-known-outcome c = search needs

@@ -1,0 +1,3 @@
+pub mod Continuing
+pub mod Looping
+pub mod Passing

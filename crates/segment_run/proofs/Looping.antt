@@ -1,0 +1,158 @@
+-- The loop over the packets: k packets have passed, and the run of the rest from here is the whole run (`Running`). Assumes nothing.
+use Prim.Native.Nat.{ℕ, suc, _+_, _/_, _≤_, _<_}
+use mathlib.Core.Path.{_≡_, refl, sym, ap, subst, _∙_}
+use mathlib.Core.List.{List}
+use native.Mathlib.Numerals.{add-one}
+use lib.ListN.{length, drop}
+use Rattle.lists.specs.Lists.{Bytes, pick}
+use Rattle.refusal.specs.Verdict.{Verdict, passed, _>>=_}
+use Rattle.refusal.specs.Number.{refusedBy}
+use Rattle.refusal.specs.declared.Refused.{Refused}
+use Rattle.refusal.proofs.Verdicts.{never, passed-same}
+use Rattle.descriptor.specs.Edition.{Edition}
+use Rattle.packet.specs.Header.{pid, packetLength}
+use Rattle.packet.specs.Counter.{recordOf}
+use Rattle.segment_rules.specs.declared.Totals.{Totals}
+use Rattle.segment_rules.specs.State as state
+use Rattle.segment_rules.specs.State.{State, fresh, noneYet, counting, packetCount, kindOf}
+use Rattle.segment_rules.specs.Rules.{packetRules}
+use Rattle.packet.specs.Header.{packets}
+use Rattle.segment_rules.specs.Check.{Progress, Outputs, roomsOf, holdingFirsts, start, step, run}
+use Rattle.segment_rules.specs.Named.{Named}
+use Rattle.segment_rules.proofs.Keeping.{Holds}
+use Rattle.segment_rules.proofs.Naming.{packet-named}
+use Rattle.segment_rules.proofs.Growing.{packet-grows}
+use Rattle.plain.proofs.Places as places
+use Rattle.segment_rules.proofs.Running.{counting-one}
+use Rattle.tables.specs.declared.state.Outcome.the-variants as outcome
+use Rattle.tables.specs.declared.tables.Tables.{Tables}
+use Rattle.tables.specs.Tables.{Refines, freshTables, kindSays, packetAt}
+use Rattle.tables.proofs.Refining.{refines-refused, refused-refines, passed-refines}
+use Rattle.tables.proofs.Standing.{tables-start}
+use Rattle.units.specs.declared.units.Extraction.{Extraction}
+use Rattle.extraction.specs.declared.packets.Stepped.{Stepped}
+use Rattle.segment_run.specs.declared.running.RunResult.{RunResult}
+use Rattle.descriptor.specs.Naming.{editionSays}
+use Rattle.descriptor.specs.declared.edition.Edition.{Edition as EditionName}
+use Rattle.units.specs.Extraction.{freshExtraction, firstNoted}
+use Rattle.extraction.specs.Packets.{StateRepresents, PacketRefines}
+use Rattle.segment_run.specs.Run.{RunRefines, RunFirsts}
+use Rattle.units.proofs.Holding.{units-start}
+use Rattle.units.proofs.Firsts.{none-held, notes}
+
+pub record Running (edition : Edition) (segment : Bytes) (before now : Outputs) (old firsts : List ℕ) (c : Tables) (e : Extraction)
+    (totals : Totals) (k : ℕ) : Type 0 where
+  pub state : State
+  pub stands : StateRepresents edition segment before now c e state
+  pub noted : firsts ≡ holdingFirsts (state .extraction .units) old
+  pub named : Named (state .tables)
+  pub counts : packetCount totals ≡ k
+  pub rest : run edition (roomsOf before) start (packets segment)
+      ≡ run edition (roomsOf before) (record { index = k; state = state; totals = totals }) (drop k (packets segment))
+
+running-start : (edition : EditionName) (segment : Bytes) (before : Outputs) (old : List ℕ)
+    → Running (editionSays edition) segment before before old old (freshTables edition) freshExtraction noneYet 0
+unfolding recordOf pick
+running-start edition segment before old =
+    record {
+      state = fresh;
+      stands = record { tables = tables-start edition segment; extraction = units-start before };
+      noted = none-held old;
+      named = record { patFirst = tt; pids = refl; null = refl };
+      counts = refl;
+      rest = refl;
+    }
+
+pub begins : (edition : EditionName) (segment : Bytes) (before : Outputs) (old : List ℕ) (c : Tables) (e : Extraction) (n : Totals)
+    → c ≡ freshTables edition → e ≡ freshExtraction → n ≡ noneYet → Running (editionSays (c .edition)) segment before before old old c e n 0
+begins edition segment before old c e n f g h =
+    subst (λ (y : Tables). Running (editionSays (y .edition)) segment before before old old y e n 0) (sym f)
+    (subst (λ (y : Extraction). Running (editionSays edition) segment before before old old (freshTables edition) y n 0) (sym g)
+    (subst (λ (y : Totals). Running (editionSays edition) segment before before old old (freshTables edition) freshExtraction y 0) (sym h)
+    (running-start edition segment before old)))
+
+module _ (edition : Edition) (segment : Bytes) (before now : Outputs) (old firsts : List ℕ) (c : Tables) (e : Extraction) (totals : Totals)
+    (k : ℕ) (inv : Running edition segment before now old firsts c e totals k) (h : k < length segment / packetLength) where
+  abbrev here : State
+  here = inv .state
+
+  abbrev kind : state.Kind
+  kind = kindOf (here .tables) (pid (packetAt segment k))
+
+  abbrev stepped : Verdict State
+  stepped = packetRules edition (roomsOf before) k (packetAt segment k) kind here
+
+  abbrev then-on : Verdict State → Verdict Progress
+  then-on v =
+      (v >>= λ st. passed (record { index = k + 1; state = st; totals = counting kind totals }))
+      >>= λ g. run edition (roomsOf before) g (drop (suc k) (packets segment))
+
+  -- the run from packet k on
+  next-packet : run edition (roomsOf before) start (packets segment) ≡ then-on stepped
+  unfolding run step
+  next-packet =
+      inv .rest
+      ∙ ap (run edition (roomsOf before) (record { index = k; state = here; totals = totals })) (places.next-packet segment k h)
+
+  module _ (r : Stepped) (after : Outputs) (turn : PacketRefines edition segment k c e now r after) where
+    turned : Refines (r .outcome) stepped (λ st′. StateRepresents edition segment before after (r .tables) (r .extraction) st′ ×
+        (kindSays (r .kind) ≡ kind))
+    turned = turn before here (inv .named) (inv .stands)
+
+    pub goes-on : r .outcome ≡ outcome.Passed → (n : Totals) → n ≡ counting (kindSays (r .kind)) totals
+        → (firsts′ : List ℕ) → firsts′ ≡ firstNoted e (r .extraction) firsts
+        → Running edition segment before after old firsts′ (r .tables) (r .extraction) n (k + 1)
+    unfolding _>>=_
+    goes-on w n m firsts′ note =
+        let t = passed-refines stepped _ (r .outcome) w turned in
+        let all : n ≡ counting kind totals = m ∙ ap (λ (x : state.Kind). counting x totals) (t .2 .1) in
+        record {
+          state = t .0;
+          stands = t .2 .0;
+          noted =
+              note
+              ∙ notes (inv .stands .extraction) (t .2 .0 .extraction) old firsts (inv .noted)
+              (packet-grows edition (roomsOf before) k (packetAt segment k) kind here (t .0) (t .1));
+          named =
+              subst (Holds (λ (st : State). Named (st .tables))) (t .1)
+              (packet-named edition (roomsOf before) k (packetAt segment k) kind here (inv .named));
+          counts = ap packetCount all ∙ counting-one kind totals ∙ ap (λ (x : ℕ). x + 1) (inv .counts);
+          rest =
+              next-packet ∙ ap then-on (t .1)
+              ∙ ap (λ (x : Totals). run edition (roomsOf before) (record { index = k + 1; state = t .0; totals = x })
+              (drop (suc k) (packets segment))) (sym all)
+              ∙ ap (λ (x : ℕ). run edition (roomsOf before) (record { index = k + 1; state = t .0; totals = n }) (drop x (packets segment)))
+              (sym (add-one k));
+        }
+
+    refused-there : (q : Refused) → r .outcome ≡ outcome.Refused q → run edition (roomsOf before) start (packets segment) ≡ refusedBy q
+    unfolding _>>=_
+    refused-there q w = next-packet ∙ ap then-on (refused-refines stepped _ (r .outcome) q w turned)
+
+    pub stops-there : (q : Refused) → r .outcome ≡ outcome.Refused q → (ran : RunResult) (last : Outputs) → ran .outcome ≡ r .outcome
+        → RunRefines
+        edition segment before ran last
+    stops-there q w ran last f =
+        refines-refused (run edition (roomsOf before) start (packets segment)) _ (ran .outcome) q (f ∙ w) (sym (refused-there q w))
+
+    pub none-noted : (q : Refused) → r .outcome ≡ outcome.Refused q → (last : List ℕ) → RunFirsts edition segment (roomsOf before) old last
+    none-noted q w last g p = never (sym (refused-there q w) ∙ p)
+
+module _ (edition : Edition) (segment : Bytes) (before now : Outputs) (old firsts : List ℕ) (c : Tables) (e : Extraction) (totals : Totals)
+    (k : ℕ) (inv : Running edition segment before now old firsts c e totals k) (h : length segment / packetLength ≤ k) where
+  abbrev last : Progress
+  last = record { index = k; state = inv .state; totals = totals }
+
+  all-passed : run edition (roomsOf before) start (packets segment) ≡ passed last
+  unfolding run
+  all-passed =
+      inv .rest
+      ∙ ap (run edition (roomsOf before) last) (places.no-packet segment k h)
+
+  pub comes-to-end : RunRefines edition segment before
+      (record { tables = c; extraction = e; totals = totals; outcome = outcome.Passed }) now
+  comes-to-end = (last, all-passed, (inv .stands, refl))
+
+  pub all-noted : RunFirsts edition segment (roomsOf before) old firsts
+  all-noted g p =
+      inv .noted ∙ ap (λ (x : Progress). holdingFirsts (x .state .extraction .units) old) (passed-same last g (sym all-passed ∙ p))

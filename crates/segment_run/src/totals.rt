@@ -1,0 +1,37 @@
+// The packets in their five classes.
+ghost use mathlib.Core.Path.{_≡_};
+ghost use Rattle.segment_rules.specs.State.{noneYet, counting};
+ghost use Rattle.tables.specs.Tables.{kindSays};
+ghost use Rattle.segment_run.specs.Parts.{CountsUpTo};
+use segment_rules::Totals;
+use tables::Kind;
+
+// No packet yet.
+pub(crate) fn none_yet() -> Totals
+    ensures { λ r. ⌜ r ≡ noneYet ⌝ }
+{
+    Totals {
+        null: 0,
+        section: 0,
+        av1: 0,
+        other_listed: 0,
+        unlisted: 0,
+    }
+}
+
+// One more packet of this kind.
+pub(crate) fn count_packet(kind: Kind, totals: Totals) -> Totals
+    requires { ⌜ CountsUpTo totals ⌝ }
+    ensures { λ r. ⌜ r ≡ counting (kindSays kind) totals ⌝ }
+{
+    let mut next = totals;
+    match kind {
+        Kind::Null => next.null += 1,
+        Kind::Pat => next.section += 1,
+        Kind::Map => next.section += 1,
+        Kind::Av1(_) => next.av1 += 1,
+        Kind::Listed(_) => next.other_listed += 1,
+        Kind::Unlisted => next.unlisted += 1,
+    }
+    next
+}

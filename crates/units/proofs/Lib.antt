@@ -1,0 +1,4 @@
+pub mod Beyond
+pub mod Extracting
+pub mod Firsts
+pub mod Holding
