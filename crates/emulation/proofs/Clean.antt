@@ -3,7 +3,7 @@
 -- it is. Assumes nothing.
 use Prim.Native.Nat.{ℕ, zero, suc, _+_, _-_, _≤_, _<_}
 use mathlib.Core.Bool.{Bool, true, false, _&&_, _||_}
-use mathlib.Core.Path.{_≡_, refl, ap, ap₂, _∙_}
+use mathlib.Core.Path.{_≡_, refl, sym, ap, ap₂, subst, _∙_}
 use mathlib.Core.List.{[], _∷_, _++_}
 use native.Mathlib.Omega.{arith}
 use lib.ListN.{length, take, drop, getD, length-drop}
@@ -15,9 +15,9 @@ use Rattle.lists.proofs.Tests.{case, clash}
 use Rattle.lists.proofs.Parts.{next}
 use Rattle.lists.proofs.Threes.{AsksThree, by-three, three-at, three-fits}
 use Rattle.emulation.specs.Payload.{stuffed, escape, escapeAfter, unescape, forbidden, above3}
-use Rattle.emulation.specs.Parts.{marked, critical, paired, tripled, hits, block, clean}
+use Rattle.emulation.specs.Parts.{marked, critical, paired, tripled, hits, block, clean, First}
 use Rattle.emulation.proofs.Steps.{escape-stuffed, escape-plain, unescape-plain}
-use Rattle.emulation.proofs.Hits.{one, hits-first, none-first, none-keeps, is-free}
+use Rattle.emulation.proofs.Hits.{one, none-first, none-keeps, is-free}
 use Rattle.emulation.proofs.Machine.{stuffed-is, stuffed-of, marked-of, unmarked-of-plain}
 
 critical-three : AsksThree critical
@@ -140,14 +140,6 @@ unpaired-uncritical (a ∷ []) e = refl
 unpaired-uncritical (a ∷ b ∷ []) e = refl
 unpaired-uncritical (a ∷ b ∷ c ∷ s) e = rw e
 
-pub unpaired-none : (n : ℕ) (s : Bytes) → hits paired n s ≡ 0 → hits critical n s ≡ 0
-unfolding hits
-unpaired-none zero s e = refl
-unpaired-none (suc n) [] e = refl
-unpaired-none (suc n) (a ∷ s) e =
-    let m = none-first paired n a s e in
-    omega (arith, hits-first critical n a s, ap one (unpaired-uncritical (a ∷ s) (m .0)), unpaired-none n s (m .1))
-
 -- ---- a clean block
 -- what each place that is not critical keeps, a clean block keeps
 pub clean-keeps : (s : Bytes) (P : ℕ → Type 0) → ((j : ℕ) → j < length s → critical (drop j s) ≡ false → P j → P (j + 1))
@@ -170,7 +162,7 @@ unfolding unescape
 unescape-keeps = record { nothing = refl; byte = λ a s e. unescape-plain a s (uncritical-unmarked (a ∷ s) e) }
 
 module _ (f : Bytes → Bytes) (k : KeepsUncritical f) where
-  passes : (n : ℕ) (s : Bytes) → n ≤ length s → hits critical n s ≡ 0 → f s ≡ take n s ++ f (drop n s)
+  pub passes : (n : ℕ) (s : Bytes) → n ≤ length s → hits critical n s ≡ 0 → f s ≡ take n s ++ f (drop n s)
   passes zero s h e = refl
   passes (suc n) [] h e = absurd (omega arith)
   passes (suc n) (a ∷ s) h e =
@@ -191,3 +183,29 @@ module _ (f : Bytes → Bytes) (k : KeepsUncritical f) where
 
   pub last-passes : (s : Bytes) (i : ℕ) → length s - 2 ≤ i → f (drop i s) ≡ drop i s
   last-passes s i h = short (drop i s) (omega (arith, length-drop i s))
+
+-- ---- up to the first place at which 00 00 and a byte of 0 to 3 stand
+two-zeros : (l : Bytes) → critical l ≡ true → take 2 l ≡ 0 ∷ 0 ∷ []
+unfolding critical
+two-zeros =
+    by-three critical-three (λ l. take 2 l ≡ 0 ∷ 0 ∷ [])
+    (λ a b c s e. let h = stuffed-is a b c e in ap₂ (λ (x y : ℕ). x ∷ y ∷ []) (h .0) (h .1))
+
+up-to-critical : (f : ℕ) (w : Bytes) → f ≤ length w → hits critical f w ≡ 0 → critical (drop f w) ≡ true
+    → escape w ≡ take (suc (suc f)) w ++ (3 ∷ escape (drop (suc (suc f)) w))
+up-to-critical zero w h e t =
+    escape-critical w t ∙ ap (λ (l : Bytes). l ++ (3 ∷ escape (drop 2 w))) (sym (two-zeros w t))
+up-to-critical (suc f) [] h e t = absurd (omega arith)
+up-to-critical (suc f) (a ∷ w) h e t =
+    let m = none-first critical f a w e in
+    escape-uncritical a w (m .0) ∙ ap (λ (l : Bytes). a ∷ l) (up-to-critical f w (omega arith) (m .1) t)
+
+pub escape-first : (s : Bytes) (i f : ℕ) → First critical s i block f → f < block → i + f ≤ length s
+    → escape (drop i s) ≡ take (f + 2) (drop i s) ++ (3 ∷ escape (drop (i + f + 2) s))
+escape-first s i f a h k =
+    let w : Bytes = drop i s in
+    let t : critical (drop f w) ≡ true = rw drop-drop (a .there h) in
+    let e : suc (suc f) ≡ f + 2 = omega arith in
+    let p : i + (f + 2) ≡ i + f + 2 = omega arith in
+    subst (λ (k : ℕ). escape w ≡ take k w ++ (3 ∷ escape (drop k w))) e (up-to-critical f w (omega (arith, length-drop i s)) (a .none) t)
+    ∙ ap (λ (l : Bytes). take (f + 2) w ++ (3 ∷ escape l)) (drop-drop (f + 2) i s ∙ ap (λ (k : ℕ). drop k s) p)

@@ -9,4 +9,5 @@ pub mod Clean
 pub mod Judging
 pub mod Inserting
 pub mod Giving
+pub mod Laying
 pub mod Runs

@@ -8,7 +8,8 @@ ghost use lib.Dec.{eqb, leb, ltb};
 ghost use lib.ListN.{length, drop};
 ghost use Rattle.emulation.specs.Payload.{marked3, stuffed};
 ghost use Rattle.emulation.specs.Payload.{forbidden as Payload·forbidden};
-ghost use Rattle.emulation.specs.Parts.{block, hits, paired, tripled, Fresh};
+ghost use mathlib.Core.Bool.{true, false};
+ghost use Rattle.emulation.specs.Parts.{block, hits, paired, tripled, First, Fresh};
 ghost use Rattle.emulation.specs.Parts.{marked as Parts·marked};
 ghost use Rattle.emulation.specs.Parts.{critical as Parts·critical};
 ghost use Rattle.emulation.specs.Parts.{clean as Parts·clean};
@@ -16,6 +17,9 @@ ghost use Rattle.emulation.specs.Parts.{single as Parts·single};
 
 // The bytes of a block.
 pub(crate) const BLOCK: usize = 64;
+
+// The same number, as a count of places.
+pub(crate) const PLACES: u8 = 64;
 
 // The place that a pass has come to, and its count: of the bytes put, dropped or written.
 pub struct Reached {
@@ -223,7 +227,55 @@ pub(crate) fn forbids(s: &[u8], i: usize) -> u8
     count
 }
 
-// The block at i is clean; it counts only where two bytes come after it. Most clean blocks have no 00 00 at all.
+// At how many places of the block at i 00 00 and a byte of 0 to 3 stand; most blocks have no 00 00 at all.
+pub(crate) fn crowd(s: &[u8], i: usize) -> u8
+    requires { ⌜ i + block + 2 ≤ length (now s) ⌝ }
+    ensures { λ r. ⌜ r ≡ hits Parts·critical block (drop i (now (s .entry))) ⌝ }
+{
+    if pairs(s, i) == 0 {
+        return 0;
+    }
+    criticals(s, i)
+}
+
+// k where at i stand 00 00 and a byte of 0 to 3, or else more than any place of a block.
+fn found_at(s: &[u8], i: usize, k: u8) -> u8
+    requires { ⌜ i + 2 < length (now s) ⌝ }
+    ensures { λ r. ⌜ (Parts·critical (drop i (now (s .entry))) ≡ true → r ≡ k) ⌝ }
+    ensures { λ r. ⌜ (Parts·critical (drop i (now (s .entry))) ≡ false → r ≡ block) ⌝ }
+{
+    if critical_at(s, i) {
+        return k;
+    }
+    PLACES
+}
+
+// The smaller of two numbers.
+fn least(a: u8, b: u8) -> u8
+    ensures { λ r. ⌜ (a < b → r ≡ a) × (b ≤ a → r ≡ b) ⌝ }
+{
+    if a < b {
+        return a;
+    }
+    b
+}
+
+// How many places of the block at i come before the first at which 00 00 and a byte of 0 to 3 stand; all of them where
+// there is none.
+pub(crate) fn before_critical(s: &[u8], i: usize) -> u8
+    requires { ⌜ i + block + 2 ≤ length (now s) ⌝ }
+    ensures { λ r. ⌜ First Parts·critical (now (s .entry)) i block r ⌝ }
+{
+    let mut first: u8 = PLACES;
+    let mut k: u8 = 0;
+    while k < PLACES {
+        first = least(first, found_at(s, i + wide(k), k));
+        k += 1;
+    }
+    first
+}
+
+// The block at i is clean; it counts only where two bytes come after it.
 pub(crate) fn clean(s: &[u8], i: usize) -> bool
     requires { ⌜ i ≤ length (now s) ⌝ }
     ensures { λ r. ⌜ r ≡ Parts·clean (drop i (now (s .entry))) ⌝ }
@@ -231,10 +283,7 @@ pub(crate) fn clean(s: &[u8], i: usize) -> bool
     if s.len() - i < BLOCK + 2 {
         return false;
     }
-    if pairs(s, i) == 0 {
-        return true;
-    }
-    criticals(s, i) == 0
+    crowd(s, i) == 0
 }
 
 // At no place of the block at i 00 00 00 stands; it counts only where two bytes come after it.

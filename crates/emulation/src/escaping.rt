@@ -1,24 +1,28 @@
 // Escaping one OBU.
 ghost use mathlib.Core.Path.{_≡_};
-ghost use Prim.Native.Nat.{_+_, _≤_, _<_};
+ghost use mathlib.Core.Bool.{true};
+ghost use Prim.Native.Nat.{_+_, _-_, _≤_, _<_};
 ghost use lib.Dec.{leb};
-ghost use lib.ListN.{length, take};
+ghost use lib.ListN.{length, take, drop};
 ghost use Rattle.lists.specs.Lists.{over};
 ghost use Rattle.refusal.specs.Verdict.{leaves};
 ghost use Rattle.emulation.specs.Payload.{escape as Payload·escape};
 ghost use Rattle.emulation.specs.Payload.{inserted as Payload·inserted};
-ghost use Rattle.emulation.specs.Parts.{Gives, Inserts};
+ghost use Rattle.emulation.specs.Parts.{block, few, hits, critical, Gives, Lays, Inserts};
 ghost use Rattle.emulation.specs.Answer.{mostEscaped, measuring, escaping, escapedSays};
 use crate::blocks::BLOCK;
+use crate::blocks::PLACES;
 use crate::blocks::Reached;
+use crate::blocks::before_critical;
 use crate::blocks::block_end;
 use crate::blocks::clean;
 use crate::blocks::critical_at;
 use crate::blocks::criticals;
+use crate::blocks::crowd;
 use crate::blocks::places;
 use crate::blocks::single;
 use crate::blocks::wide;
-use crate::writing::copy_clean;
+use crate::writing::copy_block;
 use crate::writing::copy_rest;
 use crate::writing::put;
 use refusal::Refusal;
@@ -26,6 +30,9 @@ use refusal::Refused;
 
 // The most bytes that escaping takes.
 const MOST_ESCAPED: usize = 1048576;
+
+// So many places of a block at which a 03 may go in are too many to search for each of them.
+const FEW: u8 = 8;
 
 // How many bytes the escaped form has, or the refusal.
 pub enum Escaped {
@@ -128,6 +135,72 @@ fn escape_places(obu: &[u8], i: usize, end: usize, out: &mut [u8], n: usize) -> 
     Reached { place, count }
 }
 
+// A block of obu is left at i, with two bytes after it, and room for as much in an output of so many bytes from n on.
+fn fits(size: usize, i: usize, room: usize, n: usize) -> bool
+    requires { ⌜ (i ≤ size) × (n ≤ room) ⌝ }
+    ensures { λ r. ⌜ (r ≡ true → (i + block + 2 ≤ size) × (n + block + 2 ≤ room)) ⌝ }
+    ensures { λ r. ⌜ (i + block + 2 ≤ size → n + block + 2 ≤ room → r ≡ true) ⌝ }
+{
+    if size - i < BLOCK + 2 {
+        return false;
+    }
+    BLOCK + 2 <= room - n
+}
+
+// At how many places of the block of obu at i a 03 may go in; where it does not fit, more than few.
+fn crowded(obu: &[u8], i: usize, room: usize, n: usize) -> u8
+    requires { ⌜ (i ≤ length (now obu)) × (n ≤ room) ⌝ }
+    ensures { λ r. ⌜ (r < few → (i + block + 2 ≤ length (now (obu .entry))) × (n + block + 2 ≤ room)
+        × (r ≡ hits critical block (drop i (now (obu .entry))))) ⌝ }
+{
+    if fits(obu.len(), i, room, n) {
+        return crowd(obu, i);
+    }
+    PLACES
+}
+
+// The escaped form of obu from place i on to the next 03, or of a block, into out from n on. The whole block is copied;
+// what stands in it behind the 03 is written over by what comes next.
+fn escape_next(obu: &[u8], i: usize, out: &mut [u8], n: usize) -> Reached
+    requires { ⌜ (i + block + 2 ≤ length (now obu)) × (n + block + 2 ≤ length (now out)) ⌝ }
+    ensures { λ r. ⌜ Lays (now (obu .entry)) i (now (out .entry)) n (r .place) (r .count) (now (out .exit)) ⌝ }
+    ensures { λ r. ⌜ (i < r .place) × (n < r .count) ⌝ }
+{
+    let first = wide(before_critical(obu, i));
+    copy_block(obu, i, out, n);
+    if BLOCK - 2 < first {
+        return Reached {
+            place: i + first,
+            count: n + first,
+        };
+    }
+    out[n + first + 2] = 3;
+    Reached {
+        place: i + first + 2,
+        count: n + first + 3,
+    }
+}
+
+// The escaped form of the block of obu at i, as far as blocks fit, into out from n on, from one 03 to the next.
+fn escape_sparse(obu: &[u8], i: usize, out: &mut [u8], n: usize) -> Reached
+    requires { ⌜ (i + block + 2 ≤ length (now obu)) × (n + block + 2 ≤ length (now out)) ⌝ }
+    ensures { λ r. ⌜ Lays (now (obu .entry)) i (now (out .entry)) n (r .place) (r .count) (now (out .exit)) ⌝ }
+    ensures { λ r. ⌜ n < r .count ⌝ }
+{
+    let end = i + BLOCK;
+    let mut place = i;
+    let mut count = n;
+    while place < end {
+        if !fits(obu.len(), place, out.len(), count) {
+            return Reached { place, count };
+        }
+        let reached = escape_next(obu, place, out, count);
+        place = reached.place;
+        count = reached.count;
+    }
+    Reached { place, count }
+}
+
 // As much of the escaped form of obu as out has room for, over the front of out; answers how many bytes that is.
 pub fn escape_prefix(obu: &[u8], out: &mut [u8]) -> usize
     ensures { λ r. ⌜ r ≡ length (take (length (now (out .entry))) (Payload·escape (now (obu .entry)))) ⌝ }
@@ -141,9 +214,15 @@ pub fn escape_prefix(obu: &[u8], out: &mut [u8]) -> usize
         if out.len() <= n {
             return n;
         }
-        if copy_clean(obu, i, out, n) {
+        let crowd = crowded(obu, i, out.len(), n);
+        if crowd == 0 {
+            copy_block(obu, i, out, n);
             n += BLOCK;
             i += BLOCK;
+        } else if crowd < FEW {
+            let reached = escape_sparse(obu, i, out, n);
+            n = reached.count;
+            i = reached.place;
         } else {
             let reached = escape_places(obu, i, block_end(i, last), out, n);
             n = reached.count;

@@ -26,7 +26,7 @@ fn load_block(s: &[u8], i: usize) -> [u8; BLOCK]
 
 // Copies the block at i into out from n on, through an array: the two slices are never read and written in the same
 // loop.
-fn copy_block(s: &[u8], i: usize, out: &mut [u8], n: usize)
+pub(crate) fn copy_block(s: &[u8], i: usize, out: &mut [u8], n: usize)
     requires { ⌜ (i + block ≤ length (now s)) × (n + block ≤ length (now out)) ⌝ }
     ensures { λ _. ⌜ now (out .exit) ≡ paste (now (out .entry)) n (drop i (now (s .entry))) block ⌝ }
 {
