@@ -1,7 +1,7 @@
 //! Access units to measure on: a temporal delimiter, a frame header and four tile groups.
 
 use crate::input::{Clip, Kind, Source};
-use crate::peers::plain;
+use reference::unit::written;
 
 const DELIMITER: u8 = 2;
 const FRAME_HEADER: u8 = 3;
@@ -15,6 +15,12 @@ const TILE_GROUPS: usize = 4;
 pub struct ObuList {
     pub bytes: Vec<u8>,
     pub lengths: Vec<usize>,
+}
+
+impl AsRef<[u8]> for ObuList {
+    fn as_ref(&self) -> &[u8] {
+        &self.bytes
+    }
 }
 
 /// Units of one size and kind.
@@ -53,13 +59,9 @@ fn obu_list(len: usize, source: &mut Source) -> ObuList {
     list
 }
 
-/// The list as a carried unit, by the plain C writer.
+/// The list as a carried unit, by the second program.
 fn carried(list: &ObuList) -> Vec<u8> {
-    let mut unit = vec![0; list.bytes.len() / 2 * 3 + 3 * list.lengths.len()];
-    let answer = plain::write_unit(&list.bytes, &list.lengths, &mut unit);
-    assert_eq!(answer.number, 0, "the list is a legal one");
-    unit.truncate(answer.count as usize);
-    unit
+    written(&list.bytes, &list.lengths).expect("the list is a legal one")
 }
 
 /// Adds an OBU of `len` bytes: header, size, content.

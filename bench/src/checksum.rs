@@ -1,7 +1,7 @@
 //! The CRC of sections, short and long.
 
 use crate::input::{Clip, Kind, SIZES, Size, Source};
-use crate::measure::{Case, Peer, Plan, Row, copy, touched};
+use crate::measure::{Case, Peer, Plan, Row, asking, touched};
 use crate::measured;
 use crate::peers::{lavc, plain};
 
@@ -21,26 +21,12 @@ pub fn measure(plan: &Plan, clip: &Clip, rows: &mut Vec<Row>) -> Result<(), Stri
 }
 
 fn row(plan: &Plan, size: Size, inputs: &[&[u8]]) -> Result<Row, String> {
-    let case = Case {
-        plan,
-        function: "crc32",
-        kind: Kind::Random.name(),
-        size: size.1,
-        inputs,
-        amount: inputs.iter().map(|input| input.len()).sum(),
-        repeats: plan.rest,
-    };
-    case.compare(
+    Case::new(plan, ["crc32", Kind::Random.name(), size.1], inputs).compare(
         &mut touched(size.0),
-        &|input: &&[u8], _: &mut Vec<u8>| measured::crc32(input),
+        &asking(measured::crc32),
         &[
-            (Peer::PlainC, &|input: &&[u8], _: &mut Vec<u8>| {
-                plain::crc32(input)
-            }),
-            (Peer::Lavc, &|input: &&[u8], _: &mut Vec<u8>| {
-                lavc::crc32(input)
-            }),
+            (Peer::PlainC, &asking(plain::crc32)),
+            (Peer::Lavc, &asking(lavc::crc32)),
         ],
-        &|input: &&[u8], out: &mut Vec<u8>| copy(input, out),
     )
 }

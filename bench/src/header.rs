@@ -1,28 +1,41 @@
-//! The headers of the packets of a segment of 12 MB.
+//! The headers of the packets of a segment: of all its 12 MB, where each header lies in another line
+//! of memory, and of the first of them, which stay in the processor's cache.
 
 use crate::input::{Clip, Kind};
-use crate::measure::{Case, Peer, Plan, Row, copy, touched};
+use crate::measure::{Case, Names, Peer, Plan, Row, asking, touched};
 use crate::measured;
 use crate::multiplex::{PACKET_BYTES, long_units};
 use crate::peers::plain;
 
+/// Whole packets in 256 KiB.
+const CACHED_BYTES: usize = 256 * 1024 / PACKET_BYTES * PACKET_BYTES;
+
 pub fn measure(plan: &Plan, clip: &Clip, rows: &mut Vec<Row>) -> Result<(), String> {
     let segment = long_units(Kind::Random, plan.part, clip).segment;
-    rows.push(read_row(plan, whole_packets(&segment))?);
-    rows.push(count_row(plan, &segment)?);
+    let cached = &segment[..CACHED_BYTES];
+    for row in [read_row, count_row] {
+        rows.push(row(plan, "256 KiB", cached)?);
+        rows.push(row(plan, plan.segment_size, &segment)?);
+    }
     Ok(())
 }
 
 /// Each packet by a call of its own, which gives the fields.
-fn read_row(plan: &Plan, packets: &[[u8; PACKET_BYTES]]) -> Result<Row, String> {
-    case(plan, "read_header (a header)", packets, packets.len()).compare(
+fn read_row(plan: &Plan, size: &'static str, segment: &[u8]) -> Result<Row, String> {
+    let packets = whole_packets(segment);
+    case(
+        plan,
+        ["read_header (a header)", "packets", size],
+        packets,
+        packets.len(),
+    )
+    .compare(
         &mut touched(PACKET_BYTES),
-        &|packet: &[u8; PACKET_BYTES], _: &mut Vec<u8>| measured::header(packet),
+        &asking(measured::header),
         &[(Peer::PlainC, &|packet: &[u8; PACKET_BYTES],
                            _: &mut Vec<u8>| {
             plain::header(packet)
         })],
-        &|packet: &[u8; PACKET_BYTES], out: &mut Vec<u8>| copy(packet, out),
     )
 }
 
@@ -33,31 +46,30 @@ fn whole_packets(segment: &[u8]) -> &[[u8; PACKET_BYTES]] {
 }
 
 /// All packets in one call, which counts those that pass.
-fn count_row(plan: &Plan, segment: &[u8]) -> Result<Row, String> {
+fn count_row(plan: &Plan, size: &'static str, segment: &[u8]) -> Result<Row, String> {
     let packets = segment.len() / PACKET_BYTES;
-    case(plan, "count_headers (a header)", &[segment], packets).compare(
+    case(
+        plan,
+        ["count_headers (a header)", "packets", size],
+        &[segment],
+        packets,
+    )
+    .compare(
         &mut touched(segment.len()),
-        &|segment: &&[u8], _: &mut Vec<u8>| measured::headers(segment),
-        &[(Peer::PlainC, &|segment: &&[u8], _: &mut Vec<u8>| {
-            plain::headers(segment)
-        })],
-        &|segment: &&[u8], out: &mut Vec<u8>| copy(segment, out),
+        &asking(measured::headers),
+        &[(Peer::PlainC, &asking(plain::headers))],
     )
 }
 
-fn case<'a, I>(
+/// Not the bytes count but the headers.
+fn case<'a, I: AsRef<[u8]>>(
     plan: &'a Plan,
-    function: &'static str,
+    names: Names,
     inputs: &'a [I],
     packets: usize,
 ) -> Case<'a, I> {
     Case {
-        plan,
-        function,
-        kind: "packets",
-        size: plan.segment_size,
-        inputs,
         amount: packets,
-        repeats: plan.rest,
+        ..Case::new(plan, names, inputs)
     }
 }

@@ -80,11 +80,12 @@ pub const COLUMNS: usize = Peer::Check as usize;
 
 pub const PEERS: usize = COLUMNS + 1;
 
+/// What a row is called: the function, the kind of its input, the size.
+pub type Names = [&'static str; 3];
+
 /// A line of the table: nanoseconds of CPU time per byte of the input, or per packet header.
 pub struct Row {
-    pub function: &'static str,
-    pub kind: &'static str,
-    pub size: &'static str,
+    pub names: Names,
     pub library: f64,
     pub peers: [Option<f64>; PEERS],
 }
@@ -148,31 +149,47 @@ impl Outcome for u64 {
 /// What is measured: a function on some inputs, which are handled one after the other.
 pub struct Case<'a, I> {
     pub plan: &'a Plan,
-    pub function: &'static str,
-    pub kind: &'static str,
-    pub size: &'static str,
+    pub names: Names,
     pub inputs: &'a [I],
     /// Bytes of the inputs together, or packet headers.
     pub amount: usize,
     pub repeats: usize,
 }
 
-impl<I> Case<'_, I> {
+impl<'a, I: AsRef<[u8]>> Case<'a, I> {
+    /// Each byte of the inputs counts, and there are as many turns as for all but segments.
+    pub fn new(plan: &'a Plan, names: Names, inputs: &'a [I]) -> Case<'a, I> {
+        Case {
+            plan,
+            names,
+            inputs,
+            amount: inputs.iter().map(|input| input.as_ref().len()).sum(),
+            repeats: plan.rest,
+        }
+    }
+
+    /// One input, and as many turns as for segments.
+    pub fn of_segment(plan: &'a Plan, names: Names, input: &'a I) -> Case<'a, I> {
+        Case {
+            repeats: plan.segment,
+            ..Case::new(plan, names, std::slice::from_ref(input))
+        }
+    }
+
     /// The row of a function whose peers give the same answers and leave the same outputs, which is
     /// found first.
-    pub fn compare<O: Clone + PartialEq, A: Outcome>(
+    pub fn compare<O: AsMut<[u8]> + Clone + PartialEq, A: Outcome>(
         &self,
         outputs: &mut O,
         library: &dyn Way<I, O, A>,
         peers: &[(Peer, &dyn Way<I, O, A>)],
-        memcpy: &dyn Way<I, O, ()>,
     ) -> Result<Row, String> {
         let mut runs = Vec::new();
         for &(peer, way) in peers {
             self.same(outputs, library, way)?;
             runs.push((peer, self.run(way)));
         }
-        runs.push((Peer::Memcpy, self.run(memcpy)));
+        runs.push((Peer::Memcpy, self.run(&copy)));
         Ok(self.row(outputs, self.run(library), runs))
     }
 
@@ -206,9 +223,7 @@ impl<I> Case<'_, I> {
             self.best_turns(outputs, &runs)
         };
         let mut row = Row {
-            function: self.function,
-            kind: self.kind,
-            size: self.size,
+            names: self.names,
             library: times[0],
             peers: [None; PEERS],
         };
@@ -226,10 +241,7 @@ impl<I> Case<'_, I> {
         for (column, run) in columns.zip(runs) {
             run(outputs);
             bench_counted(&mut || run(outputs));
-            println!(
-                "{}|{}|{}|{column}|{}",
-                self.function, self.kind, self.size, self.amount
-            );
+            println!("{}|{column}|{}", self.names.join("|"), self.amount);
         }
         vec![0.0; runs.len()]
     }
@@ -270,10 +282,8 @@ impl<I> Case<'_, I> {
         } else {
             "the answer differs"
         };
-        format!(
-            "{} of {}, {}: {what}; answer {answer:?}, expected {expected:?}",
-            self.function, self.kind, self.size
-        )
+        let [function, kind, size] = self.names;
+        format!("{function} of {kind}, {size}: {what}; answer {answer:?}, expected {expected:?}")
     }
 }
 
@@ -285,11 +295,44 @@ pub fn bench_counted(work: &mut dyn FnMut()) {
 }
 
 /// memcpy of the input to the front of the output.
-pub fn copy(input: &[u8], out: &mut [u8]) {
-    out[..input.len()].copy_from_slice(input);
+pub fn copy<I: AsRef<[u8]>, O: AsMut<[u8]>>(input: &I, outputs: &mut O) {
+    let input = input.as_ref();
+    outputs.as_mut()[..input.len()].copy_from_slice(input);
+}
+
+/// A function of the input's bytes that writes nothing.
+pub fn asking<I: AsRef<[u8]>, O, A>(f: impl Fn(&[u8]) -> A) -> impl Fn(&I, &mut O) -> A {
+    move |input, _| f(input.as_ref())
 }
 
 /// An output buffer, every byte of it written once.
 pub fn touched(len: usize) -> Vec<u8> {
     vec![0xA5; len]
+}
+
+/// What a function writes of units: bytes, and each one's length and two times; and a sheet.
+#[derive(Clone, PartialEq)]
+pub struct Outputs {
+    pub bytes: Vec<u8>,
+    pub lengths: Vec<usize>,
+    pub times: Vec<u64>,
+    pub sheet: Vec<u8>,
+}
+
+impl Outputs {
+    /// So many bytes, so many lengths with their times, and no sheet.
+    pub fn touched(bytes: usize, lengths: usize) -> Outputs {
+        Outputs {
+            bytes: touched(bytes),
+            lengths: vec![usize::MAX; lengths],
+            times: vec![u64::MAX; 2 * lengths],
+            sheet: Vec::new(),
+        }
+    }
+}
+
+impl AsMut<[u8]> for Outputs {
+    fn as_mut(&mut self) -> &mut [u8] {
+        &mut self.bytes
+    }
 }

@@ -2,6 +2,22 @@
 
 use crate::measure::Outcome;
 
+/// C functions of bytes that write nothing.
+macro_rules! asking {
+    ($($(#[$said:meta])* $name:ident: $answer:ty = $symbol:ident;)*) => {$(
+        $(#[$said])*
+        pub fn $name(bytes: &[u8]) -> $answer {
+            extern "C" {
+                fn $symbol(bytes: *const u8, len: usize) -> $answer;
+            }
+            // SAFETY: the slice is valid for its length, and only this thread calls the C function,
+            // which may fill a table at its first call.
+            unsafe { $symbol(bytes.as_ptr(), bytes.len()) }
+        }
+    )*};
+}
+pub(crate) use asking;
+
 /// `PacketHeader` of crates/measured: number 0 is success.
 #[repr(C)]
 #[derive(Clone, Copy, Debug, PartialEq, Eq)]
@@ -24,26 +40,11 @@ impl Outcome for Header {
     }
 }
 
-extern "C" {
-    fn measured_crc32(bytes: *const u8, len: usize) -> u64;
-    fn measured_header(packet: *const u8, len: usize) -> Header;
-    fn measured_headers(segment: *const u8, len: usize) -> u64;
-}
-
-/// `crc::crc32`.
-pub fn crc32(bytes: &[u8]) -> u64 {
-    // SAFETY: the slice is valid for its length.
-    unsafe { measured_crc32(bytes.as_ptr(), bytes.len()) }
-}
-
-/// `packet::read`.
-pub fn header(packet: &[u8]) -> Header {
-    // SAFETY: the slice is valid for its length.
-    unsafe { measured_header(packet.as_ptr(), packet.len()) }
-}
-
-/// How many packets of a segment `packet::read` does not refuse.
-pub fn headers(segment: &[u8]) -> u64 {
-    // SAFETY: the slice is valid for its length.
-    unsafe { measured_headers(segment.as_ptr(), segment.len()) }
+asking! {
+    /// `crc::crc32`.
+    crc32: u64 = measured_crc32;
+    /// `packet::read`.
+    header: Header = measured_header;
+    /// How many packets of a segment `packet::passes` says to pass.
+    headers: u64 = measured_headers;
 }

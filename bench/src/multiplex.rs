@@ -48,6 +48,12 @@ pub struct Multiplex {
     pub figures: Segment,
 }
 
+impl AsRef<[u8]> for Multiplex {
+    fn as_ref(&self) -> &[u8] {
+        &self.segment
+    }
+}
+
 /// 12 MB with units of 40,000 bytes, or one of so many parts of it.
 pub fn long_units(kind: Kind, part: usize, clip: &Clip) -> Multiplex {
     let units = Units::new(UNITS / part, kind, UNIT_BYTES, clip).carried;

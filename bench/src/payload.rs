@@ -1,10 +1,11 @@
 //! Escaping and unescaping one OBU.
 
 use crate::input::{Clip, Kind, Size, Source};
-use crate::measure::{Case, Peer, Plan, Row, copy, touched};
+use crate::measure::{Case, Peer, Plan, Row, touched};
 use crate::peers::{lavc, plain, sse2};
 use av1ts::Answer;
 use av1ts::payload::{escape, unescape};
+use reference::payload::escaped;
 
 pub fn measure(plan: &Plan, clip: &Clip, rows: &mut Vec<Row>) -> Result<(), String> {
     for row in [escape_row, unescape_row] {
@@ -26,14 +27,13 @@ fn obus(plan: &Plan, kind: Kind, size: Size, clip: &Clip) -> Vec<Vec<u8>> {
 }
 
 /// Room for any OBU of a length when escaped.
-fn room(size: Size) -> Vec<u8> {
-    touched(size.0 / 2 * 3)
+fn room(len: usize) -> Vec<u8> {
+    touched(len / 2 * 3)
 }
 
 /// An escaped OBU, cut to its length before: the front of a legal payload is legal.
-fn payload(obu: Vec<u8>) -> Vec<u8> {
-    let mut payload = room((obu.len(), ""));
-    plain::escape(&obu, &mut payload);
+fn payload(obu: &[u8]) -> Vec<u8> {
+    let mut payload = escaped(obu);
     payload.truncate(obu.len());
     payload
 }
@@ -44,47 +44,25 @@ fn way(f: impl Fn(&[u8], &mut [u8]) -> Answer) -> impl Fn(&Vec<u8>, &mut Vec<u8>
 }
 
 fn escape_row(plan: &Plan, kind: Kind, size: Size, obus: Vec<Vec<u8>>) -> Result<Row, String> {
-    let case = case(plan, "escape", kind, size, &obus);
-    case.compare(
-        &mut room(size),
+    Case::new(plan, ["escape", kind.name(), size.1], &obus).compare(
+        &mut room(size.0),
         &way(escape),
         &[
             (Peer::PlainC, &way(plain::escape)),
             (Peer::Sse2, &way(sse2::escape)),
         ],
-        &|input: &Vec<u8>, out: &mut Vec<u8>| copy(input, out),
     )
 }
 
 fn unescape_row(plan: &Plan, kind: Kind, size: Size, obus: Vec<Vec<u8>>) -> Result<Row, String> {
-    let payloads: Vec<Vec<u8>> = obus.into_iter().map(payload).collect();
-    let case = case(plan, "unescape", kind, size, &payloads);
-    case.compare(
-        &mut room(size),
+    let payloads: Vec<Vec<u8>> = obus.iter().map(|obu| payload(obu)).collect();
+    Case::new(plan, ["unescape", kind.name(), size.1], &payloads).compare(
+        &mut room(size.0),
         &way(unescape),
         &[
             (Peer::PlainC, &way(plain::unescape)),
             (Peer::Lavc, &way(lavc::unescape)),
             (Peer::Sse2, &way(sse2::unescape)),
         ],
-        &|input: &Vec<u8>, out: &mut Vec<u8>| copy(input, out),
     )
-}
-
-fn case<'a>(
-    plan: &'a Plan,
-    function: &'static str,
-    kind: Kind,
-    size: Size,
-    inputs: &'a [Vec<u8>],
-) -> Case<'a, Vec<u8>> {
-    Case {
-        plan,
-        function,
-        kind: kind.name(),
-        size: size.1,
-        inputs,
-        amount: inputs.iter().map(Vec::len).sum(),
-        repeats: plan.rest,
-    }
 }

@@ -1,6 +1,6 @@
 //! The C peers, with the signatures of the binding and of `measured`.
 
-use crate::measured::Header;
+use crate::measured::{Header, asking};
 use crate::multiplex::PACKET_BYTES;
 use av1ts::Answer;
 use std::marker::PhantomData;
@@ -15,19 +15,6 @@ macro_rules! recoding {
             }
             // SAFETY: both slices are valid for their lengths and do not overlap.
             unsafe { $symbol(bytes.as_ptr(), bytes.len(), out.as_mut_ptr(), out.len()) }
-        }
-    )*};
-}
-
-/// C functions that check a unit.
-macro_rules! checking {
-    ($($name:ident = $symbol:ident;)*) => {$(
-        pub fn $name(unit: &[u8]) -> Answer {
-            extern "C" {
-                fn $symbol(unit: *const u8, len: usize) -> Answer;
-            }
-            // SAFETY: the slice is valid for its length.
-            unsafe { $symbol(unit.as_ptr(), unit.len()) }
         }
     )*};
 }
@@ -64,20 +51,6 @@ macro_rules! writing {
     )*};
 }
 
-/// C functions that give the CRC.
-macro_rules! summing {
-    ($($name:ident = $symbol:ident;)*) => {$(
-        pub fn $name(bytes: &[u8]) -> u64 {
-            extern "C" {
-                fn $symbol(bytes: *const u8, len: usize) -> u64;
-            }
-            // SAFETY: the slice is valid for its length, and only this thread calls the C function,
-            // which fills its table at the first call.
-            unsafe { $symbol(bytes.as_ptr(), bytes.len()) }
-        }
-    )*};
-}
-
 /// C functions that go over the packets of a segment.
 macro_rules! looping {
     ($($name:ident = $symbol:ident;)*) => {$(
@@ -99,13 +72,13 @@ pub mod plain {
         escape = plain_escape;
         unescape = plain_unescape;
     }
-    checking! { check_unit = plain_check_unit; }
+    asking! {
+        check_unit: Answer = plain_check_unit;
+        crc32: u64 = plain_crc32;
+        headers: u64 = plain_headers;
+    }
     reading! { read_unit = plain_read_unit; }
     writing! { write_unit = plain_write_unit; }
-    summing! {
-        crc32 = plain_crc32;
-        headers = plain_headers;
-    }
 
     pub fn header(packet: &[u8; PACKET_BYTES]) -> Header {
         extern "C" {
@@ -162,9 +135,11 @@ pub mod lavc {
     use super::*;
 
     recoding! { unescape = lavc_unescape; }
-    checking! { check_unit = lavc_check_unit; }
+    asking! {
+        check_unit: Answer = lavc_check_unit;
+        crc32: u64 = lavc_crc32;
+    }
     reading! { read_unit = lavc_read_unit; }
-    summing! { crc32 = lavc_crc32; }
 }
 
 /// SSE2 by hand.
@@ -175,7 +150,7 @@ pub mod sse2 {
         escape = sse2_escape;
         unescape = sse2_unescape;
     }
-    checking! { check_unit = sse2_check_unit; }
+    asking! { check_unit: Answer = sse2_check_unit; }
     reading! { read_unit = sse2_read_unit; }
     writing! { write_unit = sse2_write_unit; }
     looping! { check_segment = sse2_check_segment; }

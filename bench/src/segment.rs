@@ -1,118 +1,100 @@
 //! Checking a segment.
 
 use crate::input::{Clip, Kind, MAX_UNITS, Size};
-use crate::measure::{Case, Peer, Plan, Row, copy, touched};
+use crate::measure::{Case, Outputs, Peer, Plan, Row, copy};
 use crate::multiplex::{AV1_PID, Multiplex, PACKETS, long_units, nulls, of_packets, small_units};
 use crate::peers::{Job, Packets, packets, plain, sse2};
 use av1ts::segment::{Segment, check_segment};
 
+const FUNCTION: &str = "check_segment";
+
 /// Room for any segment of a length.
-#[derive(PartialEq)]
-pub struct Outputs {
-    pub bytes: Vec<u8>,
-    pub lengths: Vec<usize>,
-    pub times: Vec<u64>,
+pub fn room(len: usize) -> Outputs {
+    Outputs::touched(len, MAX_UNITS)
 }
 
-impl Outputs {
-    pub fn touched(len: usize) -> Outputs {
-        Outputs {
-            bytes: touched(len),
-            lengths: vec![usize::MAX; MAX_UNITS],
-            times: vec![u64::MAX; 2 * MAX_UNITS],
-        }
-    }
-
-    /// What the check of a segment has to leave in them.
-    pub fn expected(multiplex: &Multiplex) -> Outputs {
-        let mut out = Outputs::touched(multiplex.segment.len());
-        out.bytes[..multiplex.units.len()].copy_from_slice(&multiplex.units);
-        out.lengths[..multiplex.lengths.len()].copy_from_slice(&multiplex.lengths);
-        out.times[..multiplex.times.len()].copy_from_slice(&multiplex.times);
-        out
-    }
+/// What the check of a segment has to leave there.
+pub fn expected(multiplex: &Multiplex) -> Outputs {
+    let mut out = room(multiplex.segment.len());
+    out.bytes[..multiplex.units.len()].copy_from_slice(&multiplex.units);
+    out.lengths[..multiplex.lengths.len()].copy_from_slice(&multiplex.lengths);
+    out.times[..multiplex.times.len()].copy_from_slice(&multiplex.times);
+    out
 }
-
-/// A row of a function on a segment, with the names of its kind and its size.
-pub type SegmentRow = fn(&Plan, &'static str, &'static str, Multiplex) -> Result<Row, String>;
 
 pub fn measure(plan: &Plan, clip: &Clip, rows: &mut Vec<Row>) -> Result<(), String> {
-    rows.extend(each(plan, clip, row)?);
+    rows.extend(each(plan, clip, FUNCTION, row)?);
     Ok(())
 }
 
+/// The row of a function on the segment of a case.
+pub type SegmentRow = fn(&Case<Multiplex>) -> Result<Row, String>;
+
 /// The rows of a function on each segment that is measured.
-pub fn each(plan: &Plan, clip: &Clip, row: SegmentRow) -> Result<Vec<Row>, String> {
+pub fn each(
+    plan: &Plan,
+    clip: &Clip,
+    function: &'static str,
+    row: SegmentRow,
+) -> Result<Vec<Row>, String> {
+    let on = |kind, size, segment: Multiplex| {
+        row(&Case::of_segment(plan, [function, kind, size], &segment))
+    };
     let mut rows = Vec::new();
     for kind in Kind::ALL {
         let segment = long_units(kind, plan.part, clip);
-        rows.push(row(plan, kind.name(), plan.segment_size, segment)?);
+        rows.push(on(kind.name(), plan.segment_size, segment)?);
     }
-    let (small, name) = (small_units(clip), Kind::RealAv1.name());
-    rows.push(row(plan, name, "1,024 small units", small)?);
+    let small = small_units(clip);
+    rows.push(on(Kind::RealAv1.name(), "1,024 small units", small)?);
     let nulls = nulls(PACKETS / plan.part, clip);
-    rows.push(row(plan, "null packets", plan.segment_size, nulls)?);
+    rows.push(on("null packets", plan.segment_size, nulls)?);
     Ok(rows)
 }
 
 /// The rows of numbers of packets doubled.
 pub fn growth(plan: &Plan, sizes: &[Size], clip: &Clip) -> Result<Vec<Row>, String> {
     let kind = Kind::RealAv1;
-    let of = |&(count, size): &Size| row(plan, kind.name(), size, of_packets(count, kind, clip));
+    let of = |&(count, size): &Size| {
+        let segment = of_packets(count, kind, clip);
+        row(&Case::of_segment(
+            plan,
+            [FUNCTION, kind.name(), size],
+            &segment,
+        ))
+    };
     sizes.iter().map(of).collect()
 }
 
-fn row(
-    plan: &Plan,
-    kind: &'static str,
-    size: &'static str,
-    segment: Multiplex,
-) -> Result<Row, String> {
-    let case = case(plan, "check_segment", (kind, size), &segment);
-    same(&case, &segment)?;
+fn row(case: &Case<Multiplex>) -> Result<Row, String> {
+    for multiplex in case.inputs {
+        same(case, multiplex)?;
+    }
     let peers = vec![
         (Peer::PlainC, case.run(&copy_payloads)),
         (Peer::PacketLoop, case.run(&read_packets)),
         (Peer::Sse2, case.run(&check_by_hand)),
-        (Peer::Memcpy, case.run(&copy_segment)),
+        (Peer::Memcpy, case.run(&copy)),
     ];
-    Ok(case.row(&mut Outputs::touched(case.amount), case.run(&check), peers))
-}
-
-/// A function on a segment.
-pub fn case<'a>(
-    plan: &'a Plan,
-    function: &'static str,
-    (kind, size): (&'static str, &'static str),
-    segment: &'a Multiplex,
-) -> Case<'a, Multiplex> {
-    Case {
-        plan,
-        function,
-        kind,
-        size,
-        amount: segment.segment.len(),
-        inputs: std::slice::from_ref(segment),
-        repeats: plan.segment,
-    }
+    Ok(case.row(&mut room(case.amount), case.run(&check), peers))
 }
 
 /// Checks that the library gives what was multiplexed, and each peer as much of it as it gives.
 fn same(case: &Case<Multiplex>, multiplex: &Multiplex) -> Result<(), String> {
-    let expected = Outputs::expected(multiplex);
-    let mut out = Outputs::touched(multiplex.segment.len());
+    let expected = expected(multiplex);
+    let mut out = room(case.amount);
     let answer = check(multiplex, &mut out);
     if answer != multiplex.figures || out != expected {
         return Err(case.difference(&answer, &multiplex.figures));
     }
     for read in [read_packets, check_by_hand] {
-        let mut out = Outputs::touched(multiplex.segment.len());
+        let mut out = room(case.amount);
         let found = read(multiplex, &mut out);
         if found != packets_of(multiplex) || out != expected {
             return Err(case.difference(&found, &packets_of(multiplex)));
         }
     }
-    let mut out = Outputs::touched(multiplex.segment.len());
+    let mut out = room(case.amount);
     copy_payloads(multiplex, &mut out);
     if out.bytes != expected.bytes {
         return Err("plain C copies other bytes than were multiplexed".to_string());
@@ -157,10 +139,7 @@ fn job<'a>(multiplex: &'a Multiplex, out: &'a mut Outputs) -> Job<'a> {
         bytes,
         lengths,
         times,
+        ..
     } = out;
     Job::new(&multiplex.segment, AV1_PID, bytes, lengths, times)
-}
-
-fn copy_segment(multiplex: &Multiplex, out: &mut Outputs) {
-    copy(&multiplex.segment, &mut out.bytes);
 }

@@ -2,7 +2,7 @@
 
 use crate::access_unit::Units;
 use crate::input::{Clip, Kind};
-use crate::measure::{Case, Peer, Plan, Row, copy, touched};
+use crate::measure::{Case, Outputs, Peer, Plan, Row, copy, touched};
 use crate::multiplex::PACKET_BYTES;
 use crate::peers::plain;
 use av1ts::queue::{Channel, Queue, Sent, add, send};
@@ -18,8 +18,11 @@ struct Full {
     store: Vec<u8>,
 }
 
-/// Room for the packets.
-struct Room(Vec<u8>);
+impl AsRef<[u8]> for Full {
+    fn as_ref(&self) -> &[u8] {
+        &self.store
+    }
+}
 
 pub fn measure(plan: &Plan, clip: &Clip, rows: &mut Vec<Row>) -> Result<(), String> {
     for kind in [Kind::Random, Kind::RealAv1] {
@@ -48,44 +51,37 @@ fn full(kind: Kind, clip: &Clip) -> Result<Full, String> {
 }
 
 fn row(plan: &Plan, kind: Kind, full: Full) -> Result<Row, String> {
-    let case = Case {
-        plan,
-        function: "queue_send",
-        kind: kind.name(),
-        size: "8 units of 128 KiB",
-        amount: full.store.len(),
-        inputs: &[full],
-        repeats: plan.segment,
-    };
-    let mut out = Room(touched(ROOM));
-    for full in case.inputs {
-        let sent = sent(full, &mut out);
-        let packets = into_packets(full, &mut out) / PACKET_BYTES;
-        if sent.number != 0 || (sent.packets as usize) < packets {
-            return Err(format!("send gives {sent:?}, the loop {packets} packets"));
-        }
+    let names = ["queue_send", kind.name(), "8 units of 128 KiB"];
+    let case = Case::of_segment(plan, names, &full);
+    let mut out = Outputs::touched(ROOM, 0);
+    let gives = sent(&full, &mut out);
+    let packets = into_packets(&full, &mut out) / PACKET_BYTES;
+    if gives.number != 0 || (gives.packets as usize) < packets {
+        return Err(format!("send gives {gives:?}, the loop {packets} packets"));
     }
     let peers = vec![
         (Peer::PlainC, case.run(&into_packets)),
-        (Peer::Memcpy, case.run(&copy_store)),
+        (Peer::Memcpy, case.run(&copy)),
     ];
     Ok(case.row(&mut out, case.run(&sent), peers))
 }
 
-fn sent(full: &Full, out: &mut Room) -> Sent {
+fn sent(full: &Full, out: &mut Outputs) -> Sent {
     let channel = Channel {
         program: 1,
         map_pid: 0x0100,
         av1_pid: 0x0101,
         ..Channel::default()
     };
-    send(full.queue, &full.store, channel, &DESCRIPTOR, &mut out.0)
+    send(
+        full.queue,
+        &full.store,
+        channel,
+        &DESCRIPTOR,
+        &mut out.bytes,
+    )
 }
 
-fn into_packets(full: &Full, out: &mut Room) -> usize {
-    plain::copy_into_packets(&full.store, &mut out.0)
-}
-
-fn copy_store(full: &Full, out: &mut Room) {
-    copy(&full.store, &mut out.0);
+fn into_packets(full: &Full, out: &mut Outputs) -> usize {
+    plain::copy_into_packets(&full.store, &mut out.bytes)
 }

@@ -1,8 +1,11 @@
 //! The output: how it was measured, and Markdown tables.
 
 use crate::input::Clip;
-use crate::measure::{COLUMNS, Peer, Plan, Row};
+use crate::measure::{COLUMNS, Plan, Row};
 use crate::{growth, pass, sheet};
+
+const NAMES: [&str; 3] = ["Function", "Input", "Size"];
+const TIME: &str = "Library ns/byte";
 
 /// All that is printed.
 pub struct Tables {
@@ -51,32 +54,74 @@ impl Tables {
     }
 }
 
-fn print_rows(rows: &[Row]) {
+/// A table: the columns of names, those of numbers, and the lines.
+fn print_table(names: &[&str], numbers: &[&str], lines: &[String]) {
+    println!("| {} | {} |", names.join(" | "), numbers.join(" | "));
     println!(
-        "| Function | Input | Size | Library ns/byte | / plain C | / libavcodec's way | / packet loop | \
-         / SSE2 | / memcpy |"
+        "|{}{}",
+        "---|".repeat(names.len()),
+        "---:|".repeat(numbers.len())
     );
-    println!("|---|---|---|{}", "---:|".repeat(6));
-    for row in rows {
-        println!("{}", line(row));
+    for line in lines {
+        println!("| {line} |");
     }
     println!();
+}
+
+fn print_rows(rows: &[Row]) {
+    let numbers = [
+        TIME,
+        "/ plain C",
+        "/ libavcodec's way",
+        "/ packet loop",
+        "/ SSE2",
+        "/ memcpy",
+    ];
+    let lines: Vec<String> = rows
+        .iter()
+        .map(|row| line(row, &row.peers[..COLUMNS]))
+        .collect();
+    print_table(&NAMES, &numbers, &lines);
 }
 
 /// What the sheet adds to the check.
 fn print_sheets(rows: &[Row]) {
     println!("Writing the sheet, which checks the segment too, beside the check alone.");
     println!();
-    println!("| Function | Input | Size | Library ns/byte | / check_segment |");
-    println!("|---|---|---|{}", "---:|".repeat(2));
-    for row in rows {
-        println!(
-            "{} {} |",
-            names_and_time(row),
-            ratio(row, row.peers[Peer::Check as usize])
-        );
-    }
-    println!();
+    let lines: Vec<String> = rows
+        .iter()
+        .map(|row| line(row, &row.peers[COLUMNS..]))
+        .collect();
+    print_table(&NAMES, &[TIME, "/ check_segment"], &lines);
+}
+
+/// The names, the library's time, and how it stands to those of these peers.
+fn line(row: &Row, peers: &[Option<f64>]) -> String {
+    let ratio = |&time: &Option<f64>| match time {
+        Some(time) => format!("{:.2}", row.library / time),
+        None => "-".to_string(),
+    };
+    let ratios: Vec<String> = peers.iter().map(ratio).collect();
+    format!(
+        "{} | {:.3} | {}",
+        row.names.join(" | "),
+        row.library,
+        ratios.join(" | ")
+    )
+}
+
+/// A line for each function, a column for each size.
+fn print_growth(functions: &[Vec<Row>]) {
+    let sizes: Vec<&str> = functions[0].iter().map(|row| row.names[2]).collect();
+    let line = |rows: &Vec<Row>| {
+        let times: Vec<String> = rows
+            .iter()
+            .map(|row| format!("{:.3}", row.library))
+            .collect();
+        format!("{} | {}", rows[0].names[..2].join(" | "), times.join(" | "))
+    };
+    let lines: Vec<String> = functions.iter().map(line).collect();
+    print_table(&NAMES[..2], &sizes, &lines);
 }
 
 fn print_head(plan: &Plan) {
@@ -140,45 +185,8 @@ fn print_inputs() {
          packets; null packets alone but for one small unit."
     );
     println!(
-        "- Headers: of the packets of 12 MB. read_header gives one packet's fields, a call a packet; \
-         count_headers counts in one call those that pass 21, 22 and 23, and keeps no field."
+        "- Headers: of the packets of 12 MB, each in another line of memory, and of their first 256 KiB, \
+         again and again, which stay in the cache. read_header gives one packet's fields, a call a \
+         packet; count_headers counts in one call those that pass 21, 22 and 23, and keeps no field."
     );
-}
-
-fn line(row: &Row) -> String {
-    let peers = &row.peers[..COLUMNS];
-    let ratios: Vec<String> = peers.iter().map(|&time| ratio(row, time)).collect();
-    format!("{} {} |", names_and_time(row), ratios.join(" | "))
-}
-
-fn names_and_time(row: &Row) -> String {
-    format!(
-        "| {} | {} | {} | {:.3} |",
-        row.function, row.kind, row.size, row.library
-    )
-}
-
-/// The library's time divided by a peer's.
-fn ratio(row: &Row, time: Option<f64>) -> String {
-    time.map_or("-".to_string(), |time| format!("{:.2}", row.library / time))
-}
-
-/// A line for each function, a column for each size.
-fn print_growth(functions: &[Vec<Row>]) {
-    let sizes: Vec<&str> = functions[0].iter().map(|row| row.size).collect();
-    println!("| Function | Input | {} |", sizes.join(" | "));
-    println!("|---|---|{}", "---:|".repeat(sizes.len()));
-    for rows in functions {
-        let times: Vec<String> = rows
-            .iter()
-            .map(|row| format!("{:.3}", row.library))
-            .collect();
-        println!(
-            "| {} | {} | {} |",
-            rows[0].function,
-            rows[0].kind,
-            times.join(" | ")
-        );
-    }
-    println!();
 }

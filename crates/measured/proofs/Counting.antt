@@ -8,8 +8,8 @@ use lib.ListN.{length, take, drop}
 use lib.Seq.{drop-drop}
 use Rattle.lists.specs.Lists.{Bytes, those}
 use Rattle.lists.proofs.Elements.{those-first, those-others}
-use Rattle.packet.specs.Header.{packetLength, packetsOf}
-use Rattle.measured.specs.Headers.{passes, headersPassed}
+use Rattle.packet.specs.Header.{packetLength, packetsOf, passes}
+use Rattle.measured.specs.Headers.{headersPassed}
 
 -- before `at` are `count` packets that pass, from it on `left` packets
 pub record Counted (s : Bytes) (count at left : ℕ) : Type 0 where

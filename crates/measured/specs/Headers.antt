@@ -1,10 +1,10 @@
 -- One packet's header in a C struct, and the packets of a segment whose headers pass. Assumes nothing.
 use Prim.Native.Nat.{ℕ}
-use mathlib.Core.Bool.{Bool, true, false}
+use mathlib.Core.Bool.{true, false}
 use lib.ListN.{length}
 use Rattle.lists.specs.Lists.{Bytes, those}
 use Rattle.refusal.specs.Verdict.{Verdict, passed, refused}
-use Rattle.packet.specs.Header.{packets, headerOf}
+use Rattle.packet.specs.Header.{packets, passes}
 use Rattle.packet.specs.declared.header.Clock.{Clock}
 use Rattle.packet.specs.declared.header.Clock.the-variants.{Pcr, None}
 use Rattle.packet.specs.declared.header.Header.{Header}
@@ -58,14 +58,6 @@ headerAnswer (refused number place) =
     }
 
 -- ---- the packets of a segment
-abbrev pub accepted : Verdict Header → Bool
-accepted (passed header) = true
-accepted (refused number place) = false
-
--- none of 21, 22, 23
-abbrev pub passes : Bytes → Bool
-passes p = accepted (headerOf p)
-
 -- how many of its whole packets pass
 abbrev pub headersPassed : Bytes → ℕ
 headersPassed s = length (those passes (packets s))

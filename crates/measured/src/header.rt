@@ -1,7 +1,7 @@
 // The headers of packets.
 ghost use mathlib.Core.Path.{_≡_};
 ghost use Rattle.packet.specs.Header.{headerOf};
-ghost use Rattle.measured.specs.Headers.{fieldsAnswer, headerAnswer, passes, headersPassed};
+ghost use Rattle.measured.specs.Headers.{fieldsAnswer, headerAnswer, headersPassed};
 use packet::Clock;
 use packet::Header;
 use packet::PACKET_LENGTH;
@@ -87,17 +87,6 @@ pub extern "C" fn measured_header(packet: &[u8]) -> PacketHeader
     }
 }
 
-// None of 21, 22, 23.
-fn passes(packet: &[u8]) -> bool
-    ensures { λ r. ⌜ r ≡ passes (now (packet .entry)) ⌝ }
-{
-    let read = packet::read(packet);
-    match read {
-        PacketRead::Header(header) => true,
-        PacketRead::Refused(refused) => false,
-    }
-}
-
 // How many packets of a segment pass; bytes behind the last whole one do not count.
 #[no_mangle]
 pub extern "C" fn measured_headers(segment: &[u8]) -> u64
@@ -108,7 +97,7 @@ pub extern "C" fn measured_headers(segment: &[u8]) -> u64
     let mut left = segment.len() / PACKET_LENGTH;
     while 0 < left {
         let next = at + PACKET_LENGTH;
-        let good = passes(&segment[at..next]);
+        let good = packet::passes(&segment[at..next]);
         at = next;
         left -= 1;
         if good {

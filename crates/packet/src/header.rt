@@ -10,6 +10,7 @@ ghost use Rattle.packet.specs.Header.{hasAdaptationField, hasPayload, ad
 ghost use Rattle.packet.specs.Header.{discontinuityIndicator, pcrFlag, clockExtension, clockReference, pcr};
 ghost use Rattle.packet.specs.Header.{headerLength, payloadPlace, adaptationLengthWrong, pcrCutShort};
 ghost use Rattle.packet.specs.Header.{extensionWrong, fieldsWrong, headerWrong, fields, headerOf, packetSays};
+ghost use Rattle.packet.specs.Header.{passes};
 use lists::byte_at;
 use refusal::Refusal;
 use refusal::Refused;
@@ -269,8 +270,9 @@ fn plain_fields(packet: &[u8]) -> Header
     }
 }
 
-// The header of a packet; 21, 22, 23. Most packets are plain, and nothing of them is wrong by 23.
-pub fn read(packet: &[u8]) -> PacketRead
+// The header of such a packet; 21, 22: nothing of it is wrong by 23.
+fn read_plain(packet: &[u8]) -> PacketRead
+    requires { ⌜ byte (now packet) 3 / 16 ≡ 1 ⌝ }
     ensures { λ r. ⌜ packetSays r ≡ headerOf (now (packet .entry)) ⌝ }
 {
     if byte_at(packet, 0) != 0x47 {
@@ -279,11 +281,41 @@ pub fn read(packet: &[u8]) -> PacketRead
     if transport_error_indicator(packet) {
         return refuse(Refusal::TRANSPORT_ERROR);
     }
+    PacketRead::Header(plain_fields(packet))
+}
+
+// The header of a packet; 21, 22, 23. Most packets are plain: the byte that says so comes first, and no other test of
+// the length is then left.
+pub fn read(packet: &[u8]) -> PacketRead
+    ensures { λ r. ⌜ packetSays r ≡ headerOf (now (packet .entry)) ⌝ }
+{
     if byte_at(packet, 3) / 16 == 1 {
-        return PacketRead::Header(plain_fields(packet));
+        return read_plain(packet);
+    }
+    if byte_at(packet, 0) != 0x47 {
+        return refuse(Refusal::SYNC_BYTE);
+    }
+    if transport_error_indicator(packet) {
+        return refuse(Refusal::TRANSPORT_ERROR);
     }
     if header_wrong(packet) {
         return refuse(Refusal::PACKET_HEADER);
     }
     PacketRead::Header(header_fields(packet))
+}
+
+// None of 21, 22, 23, where nothing is asked of the fields.
+pub fn passes(packet: &[u8]) -> bool
+    ensures { λ r. ⌜ r ≡ passes (now (packet .entry)) ⌝ }
+{
+    if byte_at(packet, 0) != 0x47 {
+        return false;
+    }
+    if transport_error_indicator(packet) {
+        return false;
+    }
+    if byte_at(packet, 3) / 16 != 1 {
+        return !header_wrong(packet);
+    }
+    true
 }

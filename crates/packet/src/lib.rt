@@ -15,6 +15,7 @@ pub use header::Header;
 pub use header::NULL_PID;
 pub use header::PACKET_LENGTH;
 pub use header::PacketRead;
+pub use header::passes;
 pub use header::read;
 pub use streams::Slot;
 pub use streams::Streams;

@@ -66,16 +66,15 @@ same-requires-3 c κs = search needs
 
 returns-5 : tie.Need-returns-5
 returns-5 c =
+    let differ = c .before .before .before .before .before .before .before in
     and-by-true
     (ap₂ same (sym (c .before .before .before .before .before .before .part .ensures))
     (sym (c .before .before .before .before .before .part2 .ensures))
     ∙ sym (c .before .before .before .before .same2 .ensures) ∙ not-false _ (c .before .before .before .if4 .left))
     (c .same3 .ensures ∙ ap₂ same (c .before .before .rest .ensures) (c .before .rest2 .ensures))
     ∙ both-have _ _
-    (sym (c .before .before .before .before .before .before .before .before .before .before .pcr-flag .ensures)
-    ∙ not-false _ (c .before .before .before .before .before .before .before .before .before .if1 .left))
-    (sym (c .before .before .before .before .before .before .before .before .pcr-flag3 .ensures)
-    ∙ not-false _ (c .before .before .before .before .before .before .before .if3 .left))
+    (sym (differ .before .before .before .pcr-flag .ensures) ∙ not-false _ (differ .before .before .if1 .left))
+    (sym (differ .before .pcr-flag3 .ensures) ∙ not-false _ (differ .if3 .left))
 
 pub same-bytes-spec : {M : Type 1} → statement M
 same-bytes-spec =
