@@ -1,11 +1,13 @@
 -- Units that stand back to back, one after the other by their lengths: the OBUs of this one, then those of the units to come, are the OBUs
 -- of the units from here on. Assumes nothing.
 use Prim.Native.Nat.{ℕ, suc, _+_, _*_, _≤_, _<_}
-use mathlib.Core.Bool.{true}
+use mathlib.Core.Bool.{true, false}
 use mathlib.Core.Path.{_≡_, sym, ap, ap₂, subst, _∙_}
 use mathlib.Core.List.{List, [], _∷_, _++_}
 use native.Mathlib.Omega.{arith}
 use native.Mathlib.Numerals.{add-one}
+use borrow.Author.Tests.{le-ltb}
+use lib.Dec.{ltb}
 use lib.ListN.{length, take, drop, getD, length-append, length-take, length-drop, drop-of-length-le}
 use lib.Seq.{drop-drop, drop-cons, getD-take, length-take-le}
 use Rattle.lists.specs.Lists.{Bytes, placed}
@@ -14,7 +16,7 @@ use Rattle.sheet.specs.declared.rows.ObuRow.{ObuRow}
 use Rattle.sheet.specs.Sheet.{obuNumbers}
 use Rattle.segment_sheet.specs.Parts.{cuts, CutsRight, obusIn, obusFrom}
 use Rattle.segment_sheet.proofs.Filling.{Filling, filling-start, filling-as, filling-next, filling-room, filling-done, filling-long}
-use Rattle.segment_sheet.proofs.Filling.{row-none, row-append}
+use Rattle.segment_sheet.proofs.Filling.{filling-place, row-none, row-append}
 use Rattle.segment_sheet.proofs.Walking.{obuBytes, obus-long}
 
 -- the length of the next unit
@@ -135,5 +137,13 @@ module _ {ns : List ℕ} {bytes out₀ : Bytes} {at from to i : ℕ} {out : Byte
   pub listing-long : length out ≡ length out₀
   listing-long = filling-long (l .filling)
 
-  pub listing-done : drop i ns ≡ [] → out ≡ placed out₀ at (obuRows ns bytes)
-  listing-done e = filling-done (l .filling) (ap obuBytes (none-to-come (l .cutting) e) ∙ row-none obuNumbers)
+  pub listing-done : drop i ns ≡ [] → (to ≡ at + 32 * length (obusFrom 0 (cuts ns bytes))) × (out ≡ placed out₀ at (obuRows ns bytes))
+  listing-done e =
+      let z : obuBytes (obusToCome ns bytes i from) ≡ [] = ap obuBytes (none-to-come (l .cutting) e) ∙ row-none obuNumbers in
+      (omega (arith, filling-place (l .filling), ap length z, obus-long (obusFrom 0 (cuts ns bytes))), filling-done (l .filling) z)
+
+-- ---- whether they fit
+-- there is room for the most of them, or they are counted
+pub few-fit : (ns : List ℕ) (bytes : Bytes) (count at room : ℕ) → length (obusFrom 0 (cuts ns bytes)) ≤ 64 * count
+    → at + 2048 * count ≤ room → false ≡ ltb room (at + 32 * length (obusFrom 0 (cuts ns bytes)))
+few-fit ns bytes count at room few h = sym (le-ltb room (at + 32 * length (obusFrom 0 (cuts ns bytes))) (omega arith))

@@ -1,11 +1,11 @@
 -- A string w put into an output from a place on, piece by piece: what is put, then the rest, is w (`Filling`). The bytes of rows of
 -- numbers are those of the first row, then those of the others. Assumes nothing.
 use Prim.Native.Nat.{ℕ, suc, _+_, _*_, _/_, _%_, _≤_}
-use mathlib.Core.Path.{_≡_, refl, sym, ap, subst, subst₂, _∙_}
+use mathlib.Core.Path.{_≡_, refl, sym, ap, ap₂, subst, subst₂, _∙_}
 use mathlib.Core.List.{List, [], _∷_, _++_, flatten, append-nil, append-assoc}
 use native.Mathlib.Omega.{arith}
 use lib.ListN.{length, take, drop, length-append}
-use lib.Seq.{length-take-le, drop-drop}
+use lib.Seq.{length-take-le, take-append-le, take-take, drop-drop, drop-at}
 use Rattle.lists.specs.Lists.{Bytes, placed}
 use Rattle.lists.proofs.Writing.{Part, counted, put-all, done}
 use Rattle.sheet.specs.Sheet.{bigEndian, numbersOf, section}
@@ -114,6 +114,21 @@ then-placed out out1 out2 at n v w h e o1 o2 =
     let f0 = filling-start out at (v ++ w) (omega (arith, length-append v w)) in
     let f1 = filling-as (filling-next v w f0 n out1 e o1) (w ++ []) (sym (append-nil w)) in
     filling-done (filling-next w [] f1 (n + length w) out2 refl o2) refl
+
+-- and the first put behind the second
+pub before-placed : (out out1 out2 : Bytes) (at n : ℕ) (v w : Bytes) → n ≡ at + length v → n ≤ length out → out1 ≡ placed out n w
+    → out2 ≡ placed out1 at v → out2 ≡ placed out at (v ++ w)
+before-placed out out1 out2 at n v w e h o1 o2 =
+    let l : length (take n out) ≡ n = length-take-le n out h in
+    let front : take at out1 ≡ take at out =
+    ap (take at) o1 ∙ take-append-le at (take n out) _ (omega (arith, l)) ∙ take-take at n out (omega arith) in
+    let back : drop (length v) (drop at out1) ≡ w ++ drop (length w) (drop n out) =
+    drop-drop (length v) at out1 ∙ ap₂ (λ (k : ℕ) (x : Bytes). drop k x) (sym e) o1 ∙ drop-at (take n out) _ n l in
+    let rest : drop (length w) (drop n out) ≡ drop (length (v ++ w)) (drop at out) =
+    ap (λ (k : ℕ). drop (length w) (drop k out)) e ∙ ap (drop (length w)) (sym (drop-drop (length v) at out))
+    ∙ drop-drop (length w) (length v) (drop at out) ∙ ap (λ (k : ℕ). drop k (drop at out)) (sym (length-append v w)) in
+    o2 ∙ ap₂ (λ (x y : Bytes). x ++ (v ++ y)) front (back ∙ ap (λ (x : Bytes). w ++ x) rest)
+    ∙ ap (λ (x : Bytes). take at out ++ x) (sym (append-assoc v w (drop (length (v ++ w)) (drop at out))))
 
 pub two-placed : (out out1 out2 : Bytes) (at a b : ℕ) → at + 16 ≤ length out → out1 ≡ placed out at (bigEndian 8 a)
     → out2 ≡ placed out1 (at + 8) (bigEndian 8 b) → out2 ≡ placed out at (inBytes (a ∷ b ∷ []))

@@ -1,6 +1,6 @@
 -- What the check of an accepted segment hands out, its map, the first packets, the lengths, the times and the bytes of its units, has the
 -- content of the segment (`handed-content`), and is as the code that puts the sheet needs it (`handed-out`). Assumes nothing.
-use Prim.Native.Nat.{ℕ, suc, _+_, _*_, _<_}
+use Prim.Native.Nat.{ℕ, suc, _+_, _*_, _≤_, _<_}
 use mathlib.Core.Bool.{true, not}
 use mathlib.Core.Path.{_≡_, refl, sym, ap, ap₂, subst, _∙_}
 use mathlib.Core.List.{List, [], _∷_, _++_, map, flatten, append-assoc, map-append}
@@ -27,7 +27,7 @@ use Rattle.segment_rules.specs.Rules.{Rooms, carriedUnits}
 use Rattle.segment_rules.specs.Check.{Accepted, checkSegment, lengths, ptsAndDts, timesInTurn, firstPackets}
 use Rattle.segment_rules.specs.Content.{placesIn, placesOf}
 use Rattle.segment_rules.proofs.Accepting.{units-accepted}
-use Rattle.segment_rules.proofs.Contents.{places-few, streams-few}
+use Rattle.segment_rules.proofs.Contents.{PlacesRight, places-right, streams-few}
 use Rattle.segment_rules.proofs.Fitting.{accepted-fits}
 use Rattle.sheet.specs.declared.rows.StreamRow.{StreamRow}
 use Rattle.sheet.specs.declared.rows.UnitRow.{UnitRow}
@@ -128,6 +128,13 @@ begins s l e =
     let a = passed-after (given 2 (ltb mostCarried (length s))) _ l e in
     not-false (atStartCode s) (given-passed 9 _ (passed-after (given 9 (not (atStartCode s))) _ l (a .1) .0))
 
+-- each of the units has at most 64 OBUs
+units-few : (index : ℕ) (units : List AccessUnit) → PlacesRight index units → length (placesOf index units) ≤ 64 * length units
+unfolding placesOf
+units-few index [] h = omega arith
+units-few index (u ∷ units) h =
+    omega (arith, length-append (placesIn index (u .carried)) (placesOf (suc index) units), h .3, units-few (suc index) units (h .4))
+
 -- ---- of an accepted segment
 module _ (edition : Edition) (rooms : Rooms) (s : Bytes) (a : Accepted) (e : checkSegment edition rooms s ≡ passed a) (m : ProgramMap)
     (count : ℕ) (firsts lens times bytes rf rl rt rb : List ℕ) (em : m ≡ mapOf edition (a .map)) (ec : count ≡ length (a .units))
@@ -190,6 +197,7 @@ module _ (edition : Edition) (rooms : Rooms) (s : Bytes) (a : Accepted) (e : che
               arith,
               ap length obus-are,
               length-map (placesOf 0 (a .units)) obuOf,
-              places-few edition rooms s a e,
+              units-few 0 (a .units) (places-right edition rooms s a e),
+              ec,
             );
       }

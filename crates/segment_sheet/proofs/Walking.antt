@@ -20,8 +20,9 @@ use Rattle.sheet.specs.Sheet.{obuNumbers}
 use Rattle.sheet.proofs.BigEndian.{bytes-long}
 use Rattle.segment_sheet.specs.Content.{obuOf}
 use Rattle.segment_sheet.specs.Parts.{inBytes, obusIn}
+pub use Rattle.segment_sheet.specs.Parts.{obuBytes}
 use Rattle.segment_sheet.proofs.Filling.{Filling, filling-start, filling-as, filling-next, filling-room, filling-done, filling-place}
-use Rattle.segment_sheet.proofs.Filling.{rowBytes, row-none, row-next, rows-long}
+use Rattle.segment_sheet.proofs.Filling.{row-none, row-next, rows-long}
 
 -- ---- a place where a tsOBU begins, or the end
 pub record At (s : Bytes) (code : ℕ) : Type 0 where
@@ -93,9 +94,6 @@ module _ {s : Bytes} {count code : ℕ} (c : Counting s count code) where
 -- ---- putting
 abbrev pub obusAfter : ℕ → Bytes → ℕ → List ObuRow
 obusAfter index s code = map obuOf (placesFrom index code (payloads (drop code s)))
-
-abbrev pub obuBytes : List ObuRow → Bytes
-obuBytes l = rowBytes obuNumbers l
 
 pub obus-long : (l : List ObuRow) → length (obuBytes l) ≡ 32 * length l
 obus-long l = rows-long obuNumbers 4 (λ o. refl) l

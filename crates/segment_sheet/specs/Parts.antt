@@ -16,7 +16,7 @@ use Rattle.segment_rules.specs.Content.{placesIn}
 use Rattle.sheet.specs.declared.rows.StreamRow.{StreamRow}
 use Rattle.sheet.specs.declared.rows.UnitRow.{UnitRow}
 use Rattle.sheet.specs.declared.rows.ObuRow.{ObuRow}
-use Rattle.sheet.specs.Sheet.{Content, bigEndian, sheetOf}
+use Rattle.sheet.specs.Sheet.{Content, bigEndian, numbersOf, obuNumbers, sheetOf}
 use Rattle.sheet.specs.Reading.{rows}
 use Rattle.segment_sheet.specs.Content.{obuOf}
 
@@ -56,6 +56,18 @@ unfoldable pub obusFrom : ℕ → List Bytes → List ObuRow
 obusFrom index [] = []
 obusFrom index (u ∷ units) = obusIn index u ++ obusFrom (suc index) units
 
+-- those of so many units of these lengths, back to back
+abbrev pub obusOf : ℕ → List ℕ → Bytes → List ObuRow
+obusOf count lens bytes = obusFrom 0 (cuts (take count lens) bytes)
+
+-- the place behind their rows, which begin at this one
+abbrev pub obusEnd : ℕ → ℕ → List ℕ → Bytes → ℕ
+obusEnd at count lens bytes = at + 32 * length (obusOf count lens bytes)
+
+-- the bytes of their rows
+abbrev pub obuBytes : List ObuRow → Bytes
+obuBytes obus = inBytes (numbersOf obuNumbers obus)
+
 -- the content of what was handed out: the map; of so many units the first packets, the lengths and the times, and their
 -- bytes
 abbrev pub contentIn : ProgramMap → ℕ → List ℕ → List ℕ → List ℕ → Bytes → Content
@@ -63,7 +75,7 @@ contentIn m count firsts lens times bytes =
     record {
       streams = rows (streamAt (m .entries)) 1 (m .count) 0;
       units = rows (unitAt firsts lens times) 1 count 0;
-      obus = obusFrom 0 (cuts (take count lens) bytes);
+      obus = obusOf count lens bytes;
     }
 
 -- it is of a segment that was accepted
@@ -74,7 +86,7 @@ pub record HandedOut (m : ProgramMap) (count : ℕ) (firsts lens times : List �
   pub lens-there : count ≤ length lens
   pub times-there : 2 * count ≤ length times
   pub cut : CutsRight (take count lens) bytes
-  pub obus : length (obusFrom 0 (cuts (take count lens) bytes)) ≤ 65536
+  pub obus : length (obusOf count lens bytes) ≤ 64 * count
 
 -- 8, and the length of the sheet
 unfoldable pub putting : Content → ℕ → Verdict ℕ

@@ -2,15 +2,18 @@
 ghost use mathlib.Core.Bool.{true};
 ghost use mathlib.Core.Path.{_≡_};
 ghost use Prim.Native.Nat.{ℕ, _+_, _*_, _≤_};
+ghost use lib.Dec.{ltb};
 ghost use lib.ListN.{length, take};
 ghost use Rattle.lists.specs.Lists.{placed};
 ghost use Rattle.obu.specs.Header.{typeBits};
 ghost use Rattle.tsobu.specs.StartCodes.{atStartCode};
-ghost use Rattle.sheet.specs.Sheet.{numbersOf, obuNumbers};
-ghost use Rattle.segment_sheet.specs.Parts.{inBytes, cuts, CutsRight, obusIn, obusFrom};
+ghost use Rattle.segment_sheet.specs.Parts.{CutsRight, obusIn, obusOf, obusEnd, obuBytes};
 use crate::numbers::put_four;
 use lists::byte_at;
 use lists::part;
+
+// The bytes of the rows of the most OBUs that a unit has.
+const MOST_ROWS: usize = 64 * 32;
 
 // The type in the first byte of an OBU.
 fn type_of(first: u8) -> u64
@@ -35,9 +38,9 @@ fn obus_of(unit: &[u8]) -> usize
 }
 
 // How many OBUs so many units of these lengths have.
-pub(crate) fn count_obus(bytes: &[u8], lens: &[usize], count: usize) -> usize
+fn count_obus(bytes: &[u8], lens: &[usize], count: usize) -> usize
     requires { ⌜ (count ≤ length (now lens)) × CutsRight (take count (now lens)) (now bytes) ⌝ }
-    ensures { λ r. ⌜ r ≡ length (obusFrom 0 (cuts (take count (now (lens .entry))) (now (bytes .entry)))) ⌝ }
+    ensures { λ r. ⌜ r ≡ length (obusOf count (now (lens .entry)) (now (bytes .entry))) ⌝ }
 {
     let mut total: usize = 0;
     let mut at: usize = 0;
@@ -51,13 +54,26 @@ pub(crate) fn count_obus(bytes: &[u8], lens: &[usize], count: usize) -> usize
     total
 }
 
+// The OBUs of so many units of these lengths do not fit into so much room from a place on. They are counted only where
+// there is no room for the most.
+pub(crate) fn short_of(bytes: &[u8], lens: &[usize], count: usize, at: usize, room: usize) -> bool
+    requires { ⌜ (count ≤ length (now lens)) × CutsRight (take count (now lens)) (now bytes)
+        × (length (obusOf count (now lens) (now bytes)) ≤ 64 * count) × (count ≤ 1024) × (at ≤ 65536) ⌝ }
+    ensures { λ r. ⌜ r ≡ ltb room (obusEnd at count (now (lens .entry)) (now (bytes .entry))) ⌝ }
+{
+    if at + MOST_ROWS * count <= room {
+        return false;
+    }
+    room < at + 32 * count_obus(bytes, lens, count)
+}
+
 // The OBUs of the unit with this index, from a place on; answers the place behind them.
 fn put_obus_of(index: u64, unit: &[u8], sheet: &mut [u8], at: usize) -> usize
     requires { ⌜ (atStartCode (now unit) ≡ true)
         × (at + 32 * length (obusIn index (now unit)) ≤ length (now sheet)) ⌝ }
     ensures { λ r. ⌜ r ≡ at + 32 * length (obusIn index (now (unit .entry))) ⌝ }
     ensures { λ _. ⌜ now (sheet .exit)
-        ≡ placed (now (sheet .entry)) at (inBytes (numbersOf obuNumbers (obusIn index (now (unit .entry))))) ⌝ }
+        ≡ placed (now (sheet .entry)) at (obuBytes (obusIn index (now (unit .entry)))) ⌝ }
 {
     let mut to = at;
     let mut code: usize = 0;
@@ -80,13 +96,19 @@ fn put_obus_of(index: u64, unit: &[u8], sheet: &mut [u8], at: usize) -> usize
     to
 }
 
-// The OBUs of so many units of these lengths, from a place on.
-pub(crate) fn put_obus(bytes: &[u8], lens: &[usize], count: usize, sheet: &mut [u8], at: usize)
+// The OBUs of so many units of these lengths, from a place on; answers the place behind them.
+pub(crate) fn put_obus(
+    bytes: &[u8],
+    lens: &[usize],
+    count: usize,
+    sheet: &mut [u8],
+    at: usize,
+) -> usize
     requires { ⌜ (count ≤ length (now lens)) × CutsRight (take count (now lens)) (now bytes)
-        × (at + 32 * length (obusFrom 0 (cuts (take count (now lens)) (now bytes))) ≤ length (now sheet)) ⌝ }
+        × (obusEnd at count (now lens) (now bytes) ≤ length (now sheet)) ⌝ }
+    ensures { λ r. ⌜ r ≡ obusEnd at count (now (lens .entry)) (now (bytes .entry)) ⌝ }
     ensures { λ _. ⌜ now (sheet .exit)
-        ≡ placed (now (sheet .entry)) at
-        (inBytes (numbersOf obuNumbers (obusFrom 0 (cuts (take count (now (lens .entry))) (now (bytes .entry)))))) ⌝ }
+        ≡ placed (now (sheet .entry)) at (obuBytes (obusOf count (now (lens .entry)) (now (bytes .entry)))) ⌝ }
 {
     let mut to = at;
     let mut from: usize = 0;
@@ -97,4 +119,5 @@ pub(crate) fn put_obus(bytes: &[u8], lens: &[usize], count: usize, sheet: &mut [
         from += lens[i];
         i += 1;
     }
+    to
 }

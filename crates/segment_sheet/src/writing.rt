@@ -3,8 +3,8 @@ ghost use Rattle.segment_rules.specs.Check.{outputsOf};
 ghost use Rattle.segment_sheet.specs.Answer.{writtenSays, Writes};
 ghost use Rattle.segment_sheet.specs.Parts.{HandedOut, contentIn, Puts};
 use crate::numbers::put_number;
-use crate::obus::count_obus;
 use crate::obus::put_obus;
+use crate::obus::short_of;
 use crate::sections::put_streams;
 use crate::sections::put_units;
 use pmt::ProgramMap;
@@ -37,11 +37,9 @@ fn put_sheet(
         (now (bytes .entry))) (now (sheet .entry)) (writtenSays r) (now (sheet .exit)) ⌝ }
 {
     let streams = map.count;
-    let obus = count_obus(bytes, lens, count);
     let units_at = 8 + 16 * streams;
     let obus_at = units_at + 8 + 32 * count;
-    let size = obus_at + 8 + 32 * obus;
-    if sheet.len() < size {
+    if short_of(bytes, lens, count, obus_at + 8, sheet.len()) {
         return Written::Refused(Refused {
             why: Refusal::NO_ROOM,
             place: 0,
@@ -52,9 +50,10 @@ fn put_sheet(
     put_streams(entries, streams, sheet, 8);
     put_number(count as u64, sheet, units_at);
     put_units(firsts, lens, times, count, sheet, units_at + 8);
+    let end = put_obus(bytes, lens, count, sheet, obus_at + 8);
+    let obus = (end - obus_at - 8) / 32;
     put_number(obus as u64, sheet, obus_at);
-    put_obus(bytes, lens, count, sheet, obus_at + 8);
-    Written::Length(size)
+    Written::Length(end)
 }
 
 // The check of a segment in the edition of this number, with its three outputs; where it accepts, the segment's sheet

@@ -14,7 +14,7 @@ use Rattle.lists.specs.Lists.{Bytes}
 use Rattle.lists.proofs.Tests.{case, clash}
 use Rattle.lists.proofs.Threes.{by-three}
 use Rattle.emulation.specs.Payload.{above3, forbidden, firstForbidden, legal, dropped}
-use Rattle.emulation.specs.Parts.{block, hits, marked}
+use Rattle.emulation.specs.Parts.{block, hits, marked, paired}
 use Rattle.emulation.proofs.Hits.{one, none-keeps, free-short, free-counted, is-free}
 use Rattle.emulation.proofs.Steps.{first-yes, first-no, forbidden-long, legal-yes, legal-no}
 use Rattle.emulation.proofs.Judging.{dropped-one, marked-until}
@@ -31,6 +31,14 @@ coded-short s i h = rw (free-short atStartCode s i h)
 pub coded-counted : (s : Bytes) (i : ℕ) → block + 2 ≤ length s - i → coded (drop i s) ≡ not (eqb (hits atStartCode block (drop i s)) 0)
 unfolding coded
 coded-counted s i h = rw (free-counted atStartCode s i h)
+
+-- without 00 00 no start code stands at a place
+pub unpaired-uncoded : (l : Bytes) → paired l ≡ false → atStartCode l ≡ false
+unfolding paired atStartCode
+unpaired-uncoded [] e = refl
+unpaired-uncoded (a ∷ []) e = refl
+unpaired-uncoded (a ∷ b ∷ []) e = refl
+unpaired-uncoded (a ∷ b ∷ c ∷ s) e = rw e
 
 -- such a block is passed over
 pub uncoded-passes : (s : Bytes) (i : ℕ) → coded (drop i s) ≡ false

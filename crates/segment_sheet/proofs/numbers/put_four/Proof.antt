@@ -18,9 +18,11 @@ same-length c = search needs
 
 returns : tie.Need-returns
 returns c =
-    let a = c .before .before .before .before .before .before .before .before .before .args in
-    four-placed (a .sheet .now) _ _ (a .at) (a .a) (a .b) (a .c) (a .d) (c .before .before .before .before .before .before .before
-    .before .before .pre) (c .before .before .before .before .before .before .put-two .ensures) (c .before .before .put-two2 .ensures)
+    let second = c .before .before in
+    let first = second .before .before .before .before in
+    let start = first .before .before .before in
+    let a = start .args in
+    four-placed (a .sheet .now) _ _ (a .at) (a .a) (a .b) (a .c) (a .d) (start .pre) (first .put-two .ensures) (second .put-two2 .ensures)
 
 pub put-four-spec : {M : Type 1} → statement M
 put-four-spec =

@@ -18,9 +18,11 @@ same-length c = search needs
 
 returns : tie.Need-returns
 returns c =
-    let a = c .before .before .before .before .before .before .before .before .before .args in
-    two-placed (a .sheet .now) _ _ (a .at) (a .a) (a .b) (c .before .before .before .before .before .before .before .before .before .pre)
-    (c .before .before .before .before .before .before .put-number .ensures) (c .before .before .put-number2 .ensures)
+    let second = c .before .before in
+    let first = second .before .before .before .before in
+    let start = first .before .before .before in
+    let a = start .args in
+    two-placed (a .sheet .now) _ _ (a .at) (a .a) (a .b) (start .pre) (first .put-number .ensures) (second .put-number2 .ensures)
 
 pub put-two-spec : {M : Type 1} → statement M
 put-two-spec =

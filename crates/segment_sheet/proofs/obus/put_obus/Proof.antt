@@ -3,7 +3,8 @@ use borrow.Author.Needs.{needs}
 use native.Mathlib.Omega.{arith}
 use Prim.Native.Nat.{_+_, _-_, _*_, _≤_}
 use mathlib.Core.Path.{_≡_, sym, ap, subst, _∙_}
-use lib.ListN.{length, take}
+use mathlib.Core.List.{_∷_}
+use lib.ListN.{length, take, drop, getD}
 use Rattle.lists.specs.Lists.{Bytes, placed}
 use Rattle.segment_sheet.specs.Parts.{obusIn}
 use Rattle.segment_sheet.proofs.Cutting.{next-length, no-length, cut-ends, cut-begins}
@@ -27,6 +28,15 @@ loop-holds c =
     let p = c .before .before .before .pre in
     (omega arith, p .0, listing-start _ (a .bytes .now) (a .sheet .now) (a .at) (p .1) (p .2))
 
+-- the length of the unit whose turn it is
+more : (c : tie.In-loop Inv-loop μ-loop)
+    → let a = c .before .before .before .before .before .args in
+    let i = c .before .loop .i in
+    drop i (take (a .count) (a .lens .now)) ≡ getD (a .lens .now) i 0 ∷ drop (i + 1) (take (a .count) (a .lens .now))
+more c =
+    let a = c .before .before .before .before .before .args in
+    next-length (a .lens .now) (a .count) (c .before .loop .i) (c .loop-test .taken) (c .before .loop .inv .1)
+
 mul-part : tie.Need-mul-part Inv-loop μ-loop
 mul-part c = omega arith
 
@@ -38,12 +48,11 @@ part-requires c κs = search needs
 
 put-obus-of-requires : tie.Need-put-obus-of-requires Inv-loop μ-loop
 put-obus-of-requires c κs =
-    let a = c .before .before .before .before .before .before .before .before .args in
-    let at = c .before .before .before .before .loop in
-    let more = next-length (a .lens .now) (a .count) (at .i) (c .before .before .before .loop-test .taken) (at .inv .1) in
+    let turn = c .before .before .before in
+    let at = turn .before .loop in
     subst (λ (s : Bytes). (atStartCode s ≡ true) × (at .to + 32 * length (obusIn (at .i) s) ≤ length (at .sheet))) (sym (c .before .part
     .ensures))
-    (cut-begins (at .inv .2 .cutting) _ more, listing-room (at .inv .2) _ more)
+    (cut-begins (at .inv .2 .cutting) _ (more turn), listing-room (at .inv .2) _ (more turn))
 
 mul-from : tie.Need-mul-from Inv-loop μ-loop
 mul-from c = omega arith
@@ -53,11 +62,8 @@ shared-slice-read-from c = omega arith
 
 add-from : tie.Need-add-from Inv-loop μ-loop
 add-from c =
-    let a = c .before .before .before .before .before .before .before .before .before .before .before .before .args in
-    let at = c .before .before .before .before .before .before .before .before .loop in
-    let more = next-length (a .lens .now) (a .count) (at .i) (c .before .before .before .before .before .before .before .loop-test
-    .taken) (at .inv .1) in
-    omega (arith, cut-ends (at .inv .2 .cutting) _ more)
+    let turn = c .before .before .before .before .before .before .before in
+    omega (arith, cut-ends (turn .before .loop .inv .2 .cutting) _ (more turn))
 
 add-i : tie.Need-add-i Inv-loop μ-loop
 add-i c = omega arith
@@ -67,16 +73,16 @@ loop-less c = omega arith
 
 loop-again : tie.Need-loop-again Inv-loop μ-loop
 loop-again c =
-    let a = c .before .before .before .before .before .before .before .before .before .before .before .before .args in
-    let at = c .before .before .before .before .before .before .before .before .loop in
-    let more = next-length (a .lens .now) (a .count) (at .i) (c .before .before .before .before .before .before .before .loop-test
-    .taken) (at .inv .1) in
-    let lent = c .before .before .before .before .before .part .ensures in
-    let put = c .before .before .before .put-obus-of .ensures in (
+    let called = c .before .before .before in
+    let lent = called .before .before in
+    let turn = lent .before .before in
+    let at = turn .before .loop in
+    let same = lent .part .ensures in
+    let put = called .put-obus-of .ensures in (
       omega arith,
       at .inv .1,
-      listing-next (at .inv .2) _ more _ _ (put .0 ∙ ap (λ (s : Bytes). at .to + 32 * length (obusIn (at .i) s)) lent)
-          (put .1 ∙ ap (λ (s : Bytes). placed (at .sheet) (at .to) (obuBytes (obusIn (at .i) s))) lent),
+      listing-next (at .inv .2) _ (more turn) _ _ (put .0 ∙ ap (λ (s : Bytes). at .to + 32 * length (obusIn (at .i) s)) same)
+          (put .1 ∙ ap (λ (s : Bytes). placed (at .sheet) (at .to) (obuBytes (obusIn (at .i) s))) same),
     )
 
 same-length : tie.Need-same-length Inv-loop μ-loop

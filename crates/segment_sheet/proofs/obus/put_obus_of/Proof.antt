@@ -43,33 +43,30 @@ type-of-requires c κs = search needs
 
 put-four-requires : tie.Need-put-four-requires Inv-loop μ-loop
 put-four-requires c κs =
-    putting-room (c .before .before .before .before .before .before .loop .inv) (c .before .before .before .before .before .loop-test
-    .taken)
+    let turn = c .before .before .before .before .before in
+    putting-room (turn .before .loop .inv) (turn .loop-test .taken)
 
 add-to : tie.Need-add-to Inv-loop μ-loop
 add-to c =
-    omega (
-      arith,
-      putting-room (c .before .before .before .before .before .before .before .before .before .loop .inv) (c .before .before
-          .before .before .before .before .before .before .loop-test .taken),
-    )
+    let turn = c .before .before .before .before .before .before .before .before in
+    omega (arith, putting-room (turn .before .loop .inv) (turn .loop-test .taken))
 
 loop-less : tie.Need-loop-less Inv-loop μ-loop
 loop-less c =
-    omega (
-      arith,
-      end-room (c .before .before .before .before .before .before .before .before .before .loop .inv .here) (c .before
-          .before .before .before .before .before .before .before .loop-test .taken) _ (c .before .before .before .before .before .before
-          .before .find .ensures) .0,
-    )
+    let found = c .before .before .before .before .before .before .before in
+    let turn = found .before in
+    omega (arith, end-room (turn .before .loop .inv .here) (turn .loop-test .taken) _ (found .find .ensures) .0)
 
 loop-again : tie.Need-loop-again Inv-loop μ-loop
 loop-again c =
-    putting-next (c .before .before .before .before .before .before .before .before .before .loop .inv) (c .before .before .before
-    .before .before .before .before .before .loop-test .taken) _ _ _ _ _ (c .before .before .before .before .before .before .before
-    .find .ensures) (c .before .before .before .before .before .before .part .ensures)
-    (c .before .before .before .before .type-of .ensures ∙ ap typeBits (c .before .before .before .before .before .byte-at .ensures))
-    refl (c .before .before .put-four .ensures)
+    let put = c .before .before in
+    let typed = put .before .before in
+    let first = typed .before in
+    let lent = first .before in
+    let found = lent .before in
+    let turn = found .before in
+    putting-next (turn .before .loop .inv) (turn .loop-test .taken) _ _ _ _ _ (found .find .ensures) (lent .part .ensures)
+    (typed .type-of .ensures ∙ ap typeBits (first .byte-at .ensures)) refl (put .put-four .ensures)
 
 same-length : tie.Need-same-length Inv-loop μ-loop
 same-length c = filling-long (c .before .loop .inv .filling)

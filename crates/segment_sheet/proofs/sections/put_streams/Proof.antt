@@ -1,8 +1,9 @@
 -- What is put, and the streams in the slots from here on, are all of them.
 use borrow.Author.Needs.{needs}
 use native.Mathlib.Omega.{arith}
-use Prim.Native.Nat.{_-_, _≤_}
+use Prim.Native.Nat.{_+_, _-_, _≤_}
 use mathlib.Core.Path.{refl}
+use lib.ListN.{length}
 use Rattle.lists.proofs.Parts.{unmapped}
 use Rattle.sheet.specs.Sheet.{streamNumbers}
 use Rattle.segment_sheet.specs.Parts.{streamAt}
@@ -34,20 +35,17 @@ cast-put-two c = search needs
 cast-put-two-2 : tie.Need-cast-put-two-2 Inv-loop μ-loop
 cast-put-two-2 c = search needs
 
+-- there is room for the row whose turn it is
+room : (c : tie.In-loop Inv-loop μ-loop) → c .before .loop .to + 16 ≤ length (c .before .loop .sheet)
+room c =
+    let a = c .before .before .before .args in
+    rowing-room streamNumbers 16 stream-size (streamAt (a .t1)) (a .count) (c .before .loop .inv .1) (c .loop-test .taken)
+
 put-two-requires : tie.Need-put-two-requires Inv-loop μ-loop
-put-two-requires c κs =
-    let a = c .before .before .before .before .before .before .before .args in
-    rowing-room streamNumbers 16 stream-size (streamAt (a .t1)) (a .count) (c .before .before .before .before .before .loop .inv .1) (c
-    .before .before .before .before .loop-test .taken)
+put-two-requires c κs = room (c .before .before .before .before)
 
 add-to : tie.Need-add-to Inv-loop μ-loop
-add-to c =
-    let a = c .before .before .before .before .before .before .before .before .before .before .args in
-    omega (
-      arith,
-      rowing-room streamNumbers 16 stream-size (streamAt (a .t1)) (a .count) (c .before .before .before .before .before
-          .before .before .before .loop .inv .1) (c .before .before .before .before .before .before .before .loop-test .taken),
-    )
+add-to c = omega (arith, room (c .before .before .before .before .before .before .before))
 
 add-i : tie.Need-add-i Inv-loop μ-loop
 add-i c = omega arith
@@ -57,11 +55,13 @@ loop-less c = omega arith
 
 loop-again : tie.Need-loop-again Inv-loop μ-loop
 loop-again c =
-    let a = c .before .before .before .before .before .before .before .before .before .before .args in (
-      c .before .before .before .before .before .before .before .before .loop .inv .0,
-      rowing-next streamNumbers 16 stream-size (streamAt
-          (a .t1)) (a .count) (c .before .before .before .before .before .before .before .before .loop .inv .1) (c .before .before .before
-          .before .before .before .before .loop-test .taken) _ _ refl (c .before .before .put-two .ensures),
+    let put = c .before .before in
+    let turn = put .before .before .before .before .before in
+    let a = turn .before .before .before .args in
+    let v = turn .before .loop .inv in (
+      v .0,
+      rowing-next streamNumbers 16 stream-size (streamAt (a .t1)) (a .count) (v .1) (turn .loop-test .taken) _ _ refl
+          (put .put-two .ensures),
     )
 
 same-length : tie.Need-same-length Inv-loop μ-loop

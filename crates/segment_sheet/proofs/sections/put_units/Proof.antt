@@ -1,6 +1,6 @@
 -- What is put, and the units from here on, are all of them.
 use native.Mathlib.Omega.{arith}
-use Prim.Native.Nat.{_-_, _*_, _≤_}
+use Prim.Native.Nat.{_+_, _-_, _*_, _≤_}
 use mathlib.Core.Path.{refl}
 use lib.ListN.{length}
 use Rattle.sheet.specs.Sheet.{unitNumbers}
@@ -61,21 +61,18 @@ mul-put-four-6 c = omega arith
 shared-slice-read-put-four-4 : tie.Need-shared-slice-read-put-four-4 Inv-loop μ-loop
 shared-slice-read-put-four-4 c = omega arith
 
+-- there is room for the row whose turn it is
+room : (c : tie.In-loop Inv-loop μ-loop) → c .before .loop .to + 32 ≤ length (c .before .loop .sheet)
+room c =
+    let a = c .before .before .before .before .before .before .args in
+    rowing-room unitNumbers 32 unit-size (unitAt (a .firsts .now) (a .lens .now) (a .times .now)) (a .count) (c .before .loop .inv .3)
+    (c .loop-test .taken)
+
 put-four-requires : tie.Need-put-four-requires Inv-loop μ-loop
-put-four-requires c κs =
-    let a = c .before .before .before .before .before .before .before .before .before .before .before .args in
-    rowing-room unitNumbers 32 unit-size (unitAt (a .firsts .now) (a .lens .now) (a .times .now)) (a .count) (c .before .before .before
-    .before .before .before .loop .inv .3) (c .before .before .before .before .before .loop-test .taken)
+put-four-requires c κs = room (c .before .before .before .before .before)
 
 add-to : tie.Need-add-to Inv-loop μ-loop
-add-to c =
-    let a = c .before .before .before .before .before .before .before .before .before .before .before .before .before .before .args in
-    omega (
-      arith,
-      rowing-room unitNumbers 32 unit-size (unitAt (a .firsts .now) (a .lens .now) (a .times .now)) (a .count) (c .before
-          .before .before .before .before .before .before .before .before .loop .inv .3) (c .before .before .before .before .before .before
-          .before .before .loop-test .taken),
-    )
+add-to c = omega (arith, room (c .before .before .before .before .before .before .before .before))
 
 add-i : tie.Need-add-i Inv-loop μ-loop
 add-i c = omega arith
@@ -85,14 +82,15 @@ loop-less c = omega arith
 
 loop-again : tie.Need-loop-again Inv-loop μ-loop
 loop-again c =
-    let a = c .before .before .before .before .before .before .before .before .before .before .before .before .before .before .args in
-    let v = c .before .before .before .before .before .before .before .before .before .loop .inv in (
+    let put = c .before .before in
+    let turn = put .before .before .before .before .before .before in
+    let a = turn .before .before .before .before .before .before .args in
+    let v = turn .before .loop .inv in (
       v .0,
       v .1,
       v .2,
-      rowing-next
-          unitNumbers 32 unit-size (unitAt (a .firsts .now) (a .lens .now) (a .times .now)) (a .count) (v .3) (c .before .before .before
-          .before .before .before .before .before .loop-test .taken) _ _ refl (c .before .before .put-four .ensures),
+      rowing-next unitNumbers 32 unit-size (unitAt (a .firsts .now) (a .lens .now) (a .times .now)) (a .count) (v .3)
+          (turn .loop-test .taken) _ _ refl (put .put-four .ensures),
     )
 
 same-length : tie.Need-same-length Inv-loop μ-loop

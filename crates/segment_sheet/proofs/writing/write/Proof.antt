@@ -7,6 +7,16 @@ use Rattle.segment_sheet.proofs.Answers.{refused-writes, refused-stays,
 use Rattle.segment_sheet.proofs.writing.write.Statement.{statement}
 use Rattle.segment_sheet.proofs.writing.write.Tie as tie
 
+-- ---- where it began, seen from behind the check; the check, seen from behind its outputs; the check's answer, seen from the call
+abbrev began : tie.After-check → tie.Start
+began c = let lent = c .before .before .before .before .before in lent .before .before .before .before .before
+
+abbrev checked : tie.After-firsts2 → tie.After-check
+checked c = c .before .before .before .before .before .before .before
+
+abbrev accepted : tie.After-put-sheet-arg4 → tie.After-answer2
+accepted c = c .before .before .before .before .before .before .before
+
 slice-aggregate-check : tie.Need-slice-aggregate-check
 slice-aggregate-check c = search needs
 
@@ -24,14 +34,12 @@ slice-aggregate-put-sheet c = search needs
 
 put-sheet-requires : tie.Need-put-sheet-requires
 put-sheet-requires c κs =
-    let a = c .before .before .before .before .before .before .before .before .before .before .before .before .before .before .before
-    .before .before .before .before .before .before .before .before .before .before .before .args in
-    let done = c .before .before .before .before .before .before .before .before .before .before .before .before .before .before .before
-    .before .check in
-    let before = outputsOf (a .out .now) (a .lens .now) (a .times .now) in
-    let told = sym (ap checkSays (c .before .before .before .before .before .before .before .answer2 .given .1)) ∙ done .ensures .answers in
-    ready (a .edition) (a .segment .now) before _ (search needs) _ _ _ _ told (done .ensures .beside) (done .ensures .leaves)
-    (done .ensures .began)
+    let told = accepted c in
+    let behind = checked (told .before .before) in
+    let a = began behind .args in
+    let done = behind .check .ensures in
+    ready (a .edition) (a .segment .now) (outputsOf (a .out .now) (a .lens .now) (a .times .now)) _ (search needs) _ _ _ _
+    (sym (ap checkSays (told .answer2 .given .1)) ∙ done .answers) (done .beside) (done .leaves) (done .began)
 
 same-length : tie.Need-same-length
 same-length c = search needs
@@ -44,15 +52,16 @@ same-length-3 c = search needs
 
 returns : tie.Need-returns
 returns c =
-    let a = c .before .before .before .before .before .before .before .before .before .before .before .before .before .before .before
-    .before .before .before .before .before .args in
-    let done = c .before .before .before .before .before .before .before .before .before .before .check in
+    let told = c .before in
+    let behind = checked (told .before .before) in
+    let a = began behind .args in
+    let done = behind .check .ensures in
     let before = outputsOf (a .out .now) (a .lens .now) (a .times .now) in
-    let told = sym (ap checkSays (c .before .answer .given .1)) ∙ done .ensures .answers in
+    let says = sym (ap checkSays (told .answer .given .1)) ∙ done .answers in
     record {
-      answers = refused-writes _ (a .edition) (roomsOf before) (a .segment .now) _ told;
-      outputs = done .ensures .leaves;
-      written = refused-stays _ _ (a .sheet .now) told;
+      answers = refused-writes _ (a .edition) (roomsOf before) (a .segment .now) _ says;
+      outputs = done .leaves;
+      written = refused-stays _ _ (a .sheet .now) says;
     }
 
 same-length-4 : tie.Need-same-length-4
@@ -69,20 +78,20 @@ same-length-7 c = search needs
 
 returns-2 : tie.Need-returns-2
 returns-2 c =
-    let a = c .before .before .before .before .before .before .before .before .before .before .before .before .before .before .before
-    .before .before .before .before .before .before .before .before .before .before .before .before .before .before .args in
-    let done = c .before .before .before .before .before .before .before .before .before .before .before .before .before .before .before
-    .before .before .before .before .check in
+    let called = c .before .before in
+    let told = accepted (called .before) in
+    let behind = checked (told .before .before) in
+    let a = began behind .args in
+    let done = behind .check .ensures in
     let before = outputsOf (a .out .now) (a .lens .now) (a .times .now) in
-    let told = sym (ap checkSays (c .before .before .before .before .before .before .before .before .before .before .answer2 .given .1))
-    ∙ done .ensures .answers in
-    let put = c .before .before .put-sheet .ensures in
+    let says = sym (ap checkSays (told .answer2 .given .1)) ∙ done .answers in
+    let put = called .put-sheet .ensures in
     record {
-      answers = accepted-writes (a .edition) (a .segment .now) before _ (search needs) _ _ _ _ told (done .ensures .beside)
-          (done .ensures .leaves) (done .ensures .began) _ _ (put .answers);
-      outputs = done .ensures .leaves;
-      written = accepted-leaves (a .edition) (a .segment .now) before _ (search needs) _ _ _ _ told (done .ensures .beside)
-          (done .ensures .leaves) (done .ensures .began) _ (a .sheet .now) _ (put .answers) (put .written);
+      answers = accepted-writes (a .edition) (a .segment .now) before _ (search needs) _ _ _ _ says (done .beside) (done .leaves)
+          (done .began) _ _ (put .answers);
+      outputs = done .leaves;
+      written = accepted-leaves (a .edition) (a .segment .now) before _ (search needs) _ _ _ _ says (done .beside) (done .leaves)
+          (done .began) _ (a .sheet .now) _ (put .answers) (put .written);
     }
 
 pub write-spec : {M : Type 1} → statement M
