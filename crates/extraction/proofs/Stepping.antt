@@ -15,6 +15,7 @@ use Rattle.refusal.specs.Verdict.{Verdict, passed, _>>=_, _>>_, atPlace}
 use Rattle.refusal.specs.Number.{refusedBy}
 use Rattle.refusal.specs.declared.Refused.{Refused}
 use Rattle.descriptor.specs.Edition.{Edition}
+use Rattle.descriptor.specs.declared.edition.Edition.{Edition as EditionName}
 use Rattle.packet.specs.declared.header.Header.{Header}
 use Rattle.packet.specs.declared.header.PacketRead.{PacketRead}
 use Rattle.packet.specs.declared.header.PacketRead.the-variants as answer
@@ -36,17 +37,17 @@ use Rattle.tables.specs.declared.state.Outcome.{Outcome}
 use Rattle.tables.specs.declared.state.Outcome.the-variants as outcome
 use Rattle.tables.specs.declared.tables.Tables.{Tables}
 use Rattle.tables.specs.declared.tables.TablesResult.{TablesResult}
-use Rattle.tables.specs.Tables.{Refines, placedAt, recordIn, lastRepeated, streamsIn, LiesAt, packetAt, TablesRepresent, CarriesOut}
-use Rattle.tables.specs.Tables.{kindSays, SlotOf}
+use Rattle.tables.specs.Tables.{Refines, placedAt, recordIn, lastRepeated, streamsIn, LiesAt, packetAt, TablesRepresent, freshTables}
+use Rattle.tables.specs.Tables.{CarriesOut, kindSays, SlotOf}
 use Rattle.tables.proofs.Standing.{pids-stand}
 use Rattle.tables.proofs.Counting.{kind-repeats, kept-pids}
 use Rattle.tables.proofs.Refining.{refines-refused, refused-refines, passed-refines, refines-at, refines-as, refines-also, refines-then}
 use Rattle.units.specs.declared.units.Extraction.{Extraction}
 use Rattle.units.specs.declared.units.ExtractionResult.{ExtractionResult}
-use Rattle.units.specs.Extraction.{UnitsRepresent, PesRefines, noRoom}
+use Rattle.units.specs.Extraction.{UnitsRepresent, PesRefines, freshExtraction}
 use Rattle.extraction.specs.declared.packets.Stepped.{Stepped}
-use Rattle.extraction.specs.Packets.{StateRepresents, noPacket}
-use Rattle.extraction.specs.Parts.{isTaken}
+use Rattle.extraction.specs.Packets.{StateRepresents, noPacket, refusedStep}
+use Rattle.extraction.specs.Parts.{isTaken, handedBack}
 
 -- ---- where the payload lies
 -- bytes that end at a place of the segment
@@ -281,14 +282,6 @@ packet-within size i h = omega (arith, h)
 pub packet-there : (size i : ℕ) → i < size / packetLength → noPacket size i ≡ false
 packet-there size i h = le-ltb size (i * packetLength + packetLength) (packet-within size i h)
 
--- there is none
-abbrev stopped : Tables → Extraction → Refused → Stepped
-stopped c e q = record { tables = c; extraction = e; kind = kinds.Unlisted; outcome = outcome.Refused q }
-
-pub refused-outside : (c : Tables) (e : Extraction) (i : ℕ) (q : Refused) → q ≡ record { why = record { number = 8 }; place = i }
-    → stopped c e q ≡ record { tables = c; extraction = e; kind = kinds.Unlisted; outcome = noRoom i }
-refused-outside c e i q h = ap (stopped c e) h
-
 module _ (edition : Edition) (rooms : Rooms) (segment : Bytes) (i : ℕ) (st : State) (r : PacketRead) (q : Bytes)
     (same : q ≡ packetAt segment i) (says : packetSays r ≡ headerOf q) where
   -- 21, 22 or 23
@@ -321,3 +314,47 @@ packet-kind edition rooms p i st h k r S right e f t =
     (refines-also (packetRules edition rooms i p (kindSays k) st) S (λ st′. S st′ × (kindSays (r .kind) ≡ kindOf (st .tables) (pid p)))
     (r .outcome) t
     (λ st′ _ z. (z, ap kindSays f ∙ same)))
+
+-- ---- what is handed back
+-- it stands for a state, and the kind is this one
+abbrev Stands : Edition → Bytes → Outputs → Outputs → state.Kind → Stepped → State → Type 0
+Stands rules segment before after k x st =
+    StateRepresents rules segment before after (x .tables) (x .extraction) st × (kindSays (x .kind) ≡ k)
+
+module _ (r : Stepped) (edition : EditionName) (s : Stepped) (back : r ≡ handedBack edition (s .outcome) s) where
+  -- the verdict is the same
+  pub back-outcome : r .outcome ≡ s .outcome
+  back-outcome = ap (λ (x : Stepped). x .outcome) back ∙ either (s .outcome) refl
+    where
+      either : (o : Outcome) → s .outcome ≡ o → handedBack edition o s .outcome ≡ s .outcome
+      either outcome.Passed k = refl
+      either (outcome.Refused q) k = sym k
+
+  -- where it passes, all is the same
+  pub back-passed : r .outcome ≡ outcome.Passed → r ≡ s
+  back-passed p = back ∙ ap (λ (o : Outcome). handedBack edition o s) (sym back-outcome ∙ p)
+
+  -- what it is a step of
+  pub back-refines : (rules : Edition) (segment : Bytes) (before after : Outputs) (k : state.Kind) (v : Verdict State)
+      → Refines (s .outcome) v (Stands rules segment before after k s) → Refines (r .outcome) v (Stands rules segment before after k r)
+  back-refines rules segment before after k v t = either (s .outcome) refl
+    where
+      either : (o : Outcome) → s .outcome ≡ o → Refines (r .outcome) v (Stands rules segment before after k r)
+      either outcome.Passed e =
+          subst (λ (x : Stepped). Refines (x .outcome) v (Stands rules segment before after k x)) (sym (back-passed (back-outcome ∙ e))) t
+      either (outcome.Refused q) e =
+          refines-refused v (Stands rules segment before after k r) (r .outcome) q (back-outcome ∙ e)
+          (sym (refused-refines v (Stands rules segment before after k s) (s .outcome) q e t))
+
+  -- where it refuses, what there was before the first packet
+  pub back-refused : (q : Refused) → r .outcome ≡ outcome.Refused q → r ≡ refusedStep edition q
+  back-refused q k = back ∙ ap (λ (o : Outcome). handedBack edition o s) (sym back-outcome ∙ k)
+
+-- by the outcome of the packet
+pub fresh-back : (edition : EditionName) (s : Stepped) (q : Refused) → s .outcome ≡ outcome.Refused q → (c : Tables)
+    → c ≡ freshTables edition → (e : Extraction) → e ≡ freshExtraction
+    → record { tables = c; extraction = e; kind = kinds.Unlisted; outcome = s .outcome } ≡ handedBack edition (s .outcome) s
+fresh-back edition s q k c fresh e none =
+    ap₂ (λ (x : Tables) (y : Extraction). record { tables = x; extraction = y; kind = kinds.Unlisted; outcome = s .outcome }) fresh none
+    ∙ ap (λ (o : Outcome). record { tables = freshTables edition; extraction = freshExtraction; kind = kinds.Unlisted; outcome = o }) k
+    ∙ sym (ap (λ (o : Outcome). handedBack edition o s) k)

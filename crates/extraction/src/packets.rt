@@ -2,12 +2,12 @@
 ghost use mathlib.Core.Path.{_≡_};
 ghost use Prim.Native.Nat.{_+_, _*_, _≤_};
 ghost use lib.ListN.{length};
-ghost use Rattle.descriptor.specs.Edition.{Edition};
 ghost use Rattle.segment_rules.specs.Rules.{isAv1};
 ghost use Rattle.segment_rules.specs.Check.{outputsOf};
 ghost use Rattle.tables.specs.Tables.{kindSays, packetAt};
-ghost use Rattle.extraction.specs.Packets.{PacketRefines, StepsOutside, KeepsBeyond};
-ghost use Rattle.extraction.specs.Parts.{isTaken, ContentRefines, ReadRefines};
+ghost use Rattle.extraction.specs.Packets.{Steps};
+ghost use Rattle.extraction.specs.Parts.{isTaken, handedBack, TakesContent, StepsRead, StepsAt};
+use descriptor::Edition;
 use lists::part;
 use lists::rest;
 use packet::PACKET_LENGTH;
@@ -19,11 +19,13 @@ use tables::Packet;
 use tables::Tables;
 use tables::at_place;
 use tables::check_counter;
+use tables::fresh_tables;
 use tables::is_pcr;
 use tables::kind_of;
 use tables::read_section;
 use units::Arrival;
 use units::Extraction;
+use units::fresh_extraction;
 use units::take_payload;
 
 // The tables and the units after a packet, what its PID was, and the verdict on it.
@@ -66,11 +68,8 @@ fn take_content(
     times: &mut [u64],
 ) -> Stepped
     requires { ⌜ packet .index * 188 + 188 ≤ length (now segment) ⌝ }
-    ensures { λ r. ⌜ ((edition : Edition) → ContentRefines edition (now (segment .entry)) packet tables extraction
+    ensures { λ r. ⌜ TakesContent (now (segment .entry)) packet tables extraction
         (outputsOf (now (out .entry)) (now (lens .entry)) (now (times .entry))) r
-        (outputsOf (now (out .exit)) (now (lens .exit)) (now (times .exit)))) ⌝ }
-    ensures { λ r. ⌜ r .kind ≡ packet .kind ⌝ }
-    ensures { λ r. ⌜ KeepsBeyond extraction (outputsOf (now (out .entry)) (now (lens .entry)) (now (times .entry))) r
         (outputsOf (now (out .exit)) (now (lens .exit)) (now (times .exit))) ⌝ }
 {
     let header = packet.header;
@@ -130,11 +129,8 @@ fn step_read(
     times: &mut [u64],
 ) -> Stepped
     requires { ⌜ packet .index * 188 + 188 ≤ length (now segment) ⌝ }
-    ensures { λ r. ⌜ ((edition : Edition) → ReadRefines edition (now (segment .entry)) packet tables extraction
+    ensures { λ r. ⌜ StepsRead (now (segment .entry)) packet tables extraction
         (outputsOf (now (out .entry)) (now (lens .entry)) (now (times .entry))) r
-        (outputsOf (now (out .exit)) (now (lens .exit)) (now (times .exit)))) ⌝ }
-    ensures { λ r. ⌜ r .kind ≡ packet .kind ⌝ }
-    ensures { λ r. ⌜ KeepsBeyond extraction (outputsOf (now (out .entry)) (now (lens .entry)) (now (times .entry))) r
         (outputsOf (now (out .exit)) (now (lens .exit)) (now (times .exit))) ⌝ }
 {
     let header = packet.header;
@@ -155,9 +151,8 @@ fn step_read(
     take_content(segment, packet, checked, extraction, out, lens, times)
 }
 
-// The packet with this index: the table of document 01 in its sequence. Where the segment has no such packet, or a
-// payload comes and a place of the units lies beyond the outputs, 8.
-pub fn step(
+// The packet with this index: the table of document 01 in its sequence.
+fn step_at(
     segment: &[u8],
     index: usize,
     tables: Tables,
@@ -166,14 +161,8 @@ pub fn step(
     lens: &mut [usize],
     times: &mut [u64],
 ) -> Stepped
-    ensures { λ r. ⌜ (index * 188 + 188 ≤ length (now (segment .entry)) → (edition : Edition) →
-        PacketRefines edition (now (segment .entry)) index tables extraction
+    ensures { λ r. ⌜ StepsAt (now (segment .entry)) index tables extraction
         (outputsOf (now (out .entry)) (now (lens .entry)) (now (times .entry))) r
-        (outputsOf (now (out .exit)) (now (lens .exit)) (now (times .exit)))) ⌝ }
-    ensures { λ r. ⌜ StepsOutside (now (segment .entry)) index tables extraction
-        (outputsOf (now (out .entry)) (now (lens .entry)) (now (times .entry))) r
-        (outputsOf (now (out .exit)) (now (lens .exit)) (now (times .exit))) ⌝ }
-    ensures { λ r. ⌜ KeepsBeyond extraction (outputsOf (now (out .entry)) (now (lens .entry)) (now (times .entry))) r
         (outputsOf (now (out .exit)) (now (lens .exit)) (now (times .exit))) ⌝ }
 {
     if segment.len() / PACKET_LENGTH <= index {
@@ -202,4 +191,43 @@ pub fn step(
             step_read(segment, packet, tables, extraction, out, lens, times)
         }
     }
+}
+
+// After a packet; where it was refused, nobody goes on from it: the tables and the units before the first packet.
+fn handed_back(edition: Edition, stepped: Stepped) -> Stepped
+    ensures { λ r. ⌜ r ≡ handedBack edition (stepped .outcome) stepped ⌝ }
+{
+    let outcome = stepped.outcome;
+    let Outcome::Passed = outcome else {
+        let tables = fresh_tables(edition);
+        let extraction = fresh_extraction();
+        return Stepped {
+            tables,
+            extraction,
+            kind: Kind::Unlisted,
+            outcome,
+        };
+    };
+    stepped
+}
+
+// The packet with this index: the table of document 01 in its sequence. Where the segment has no such packet, or a
+// payload comes and a place of the units lies beyond the outputs, 8. Where it refuses, the outputs stay as they were,
+// and the tables and the units before the first packet are handed back.
+pub fn step(
+    segment: &[u8],
+    index: usize,
+    tables: Tables,
+    extraction: Extraction,
+    out: &mut [u8],
+    lens: &mut [usize],
+    times: &mut [u64],
+) -> Stepped
+    ensures { λ r. ⌜ Steps (now (segment .entry)) index tables extraction
+        (outputsOf (now (out .entry)) (now (lens .entry)) (now (times .entry))) r
+        (outputsOf (now (out .exit)) (now (lens .exit)) (now (times .exit))) ⌝ }
+{
+    let edition = tables.edition;
+    let stepped = step_at(segment, index, tables, extraction, out, lens, times);
+    handed_back(edition, stepped)
 }

@@ -1,18 +1,21 @@
--- The end of the check: the open PES closes, then 33; and the answer with the outputs that it leaves. Assumes nothing.
+-- The end of the check: the open PES closes, then 33; the answer with the outputs that it leaves; and the packets before it.
+-- Assumes nothing.
 use Prim.Native.Nat.{ℕ, _/_, _%_}
-use mathlib.Core.Bool.{true, false, or-true}
+use mathlib.Core.Bool.{true, or-true}
 use mathlib.Core.Path.{_≡_, refl, sym, ap, ap₂, subst, _∙_}
 use mathlib.Core.List.{List}
 use mathlib.Core.Option.{Option, none, some}
 use borrow.Author.Tests.{eq-eqb, ne-eqb}
 use lib.Dec.{ltb}
-use lib.ListN.{length, getD, replicate}
+use lib.ListN.{length, getD}
 use Rattle.lists.specs.Lists.{Bytes, zeros}
 use Rattle.refusal.specs.Verdict.{Verdict, passed, refused, _>>=_}
 use Rattle.refusal.specs.Number.{refusedBy}
 use Rattle.refusal.specs.declared.Refused.{Refused}
-use Rattle.refusal.proofs.Verdicts.{never, passed-same, refuse, pass-on}
+use Rattle.refusal.proofs.Verdicts.{never, passed-same}
 use Rattle.descriptor.specs.Edition.{Edition}
+use Rattle.descriptor.specs.Naming.{editionSays}
+use Rattle.descriptor.specs.declared.edition.Edition.{Edition as EditionName}
 use Rattle.packet.specs.Header.{packetLength}
 use Rattle.pmt.specs.declared.section.ProgramMap.{ProgramMap}
 use Rattle.pmt.specs.Answer.{noEntry, noMap}
@@ -21,8 +24,8 @@ use Rattle.segment_rules.specs.State as state
 use Rattle.segment_rules.specs.State.{FirstPat, FirstPmt, AccessUnit}
 use Rattle.segment_rules.specs.Rules.{closePes}
 use Rattle.packet.specs.Header.{packets}
-use Rattle.segment_rules.specs.Check.{Accepted, Progress, Outputs, outputsOf, start, run, segmentLengthWrong, accepted, ending}
-use Rattle.segment_rules.specs.Check.{checkSegment, roomsOf, holding, holdingFirsts, outputsAfter, firstsAfter}
+use Rattle.segment_rules.specs.Check.{Accepted, Progress, Outputs, start, run, segmentLengthWrong, accepted, ending}
+use Rattle.segment_rules.specs.Check.{roomsOf, holding, holdingFirsts, cleared, outputsAfter, firstsAfter}
 use Rattle.segment_rules.proofs.Growing.{close-grows}
 use Rattle.segment_rules.proofs.Running.{index-totals, length-packets}
 use Rattle.tables.specs.declared.state.Outcome.the-variants as outcome
@@ -36,18 +39,15 @@ use Rattle.tables.proofs.Refining.{refused-refines, passed-refines}
 use Rattle.tables.proofs.Standing.{no-pat-yet, pat-yet, no-pmt-yet, pmt-yet}
 use Rattle.tables.proofs.Mapping.{av1-slot}
 use Rattle.units.specs.declared.state.PesSeen.the-variants as seen
-use Rattle.units.specs.declared.units.Extraction.{Extraction}
 use Rattle.units.specs.declared.units.ExtractionResult.{ExtractionResult}
 use Rattle.segment.specs.declared.checking.Summary.{Summary}
-use Rattle.segment.specs.declared.checking.SegmentCheck.{SegmentCheck}
 use Rattle.segment.specs.declared.checking.SegmentCheck.the-variants as checked
 use Rattle.segment.specs.declared.checking.Checked.{Checked}
-use Rattle.segment.specs.Answer.{summaryOf, summarised, mapAfter, checkSays}
+use Rattle.segment.specs.Answer.{Checks, summarised, mapAfter, checkSays}
 use Rattle.units.specs.Extraction.{UnitsRepresent, firstNoted}
-use Rattle.extraction.specs.Packets.{StateRepresents}
 use Rattle.segment_run.specs.declared.running.RunResult.{RunResult}
-use Rattle.segment_run.specs.Run.{RunRefines}
-use Rattle.segment.specs.Parts.{AnswerRefines, CheckedRefines, WholeRefines, AcceptedFirsts}
+use Rattle.segment_run.specs.Run.{Runs}
+use Rattle.segment.specs.Parts.{AcceptRefines, Ran, Ends, EndChecks, inOrder, ChecksInOrder}
 use Rattle.units.proofs.Holding.{closed-outputs}
 use Rattle.units.proofs.Firsts.{notes}
 
@@ -118,7 +118,6 @@ module _ {edition : Edition} {segment : Bytes} {c : Tables} {t : state.Tables} (
         ∙ ap₂ (λ (p : Option FirstPat) (q : Option FirstPmt). mapAfter edition (accepted n p q us totals))
         (sym (pat-yet s f h)) (sym (m .1))
 
--- ---- an answer and the outputs
 -- what acceptance gives are these units
 accepted-units : (n : ℕ) (p : Option FirstPat) (q : Option FirstPmt) (us : List AccessUnit) (t : Totals) (a : Accepted) → accepted n p q us
     t ≡ passed a → a .units ≡ us
@@ -127,184 +126,116 @@ accepted-units n none q us t a e = never e
 accepted-units n (some p) none us t a e = never e
 accepted-units n (some p) (some q) us t a e = ap (λ (x : Accepted). x .units) (sym (passed-same _ a e))
 
-judges : (r : SegmentCheck) (v : Verdict Accepted) (before now : Outputs) → checkSays r ≡ summarised v
-    → ((a : Accepted) → v ≡ passed a → now ≡ holding (a .units) before)
-    → AnswerRefines before v r now
-unfolding summarised _>>=_
-judges (checked.Accepted s) (passed a) before now e o = (a, refl, (passed-same s (summaryOf a) e, o a refl))
-judges (checked.Accepted s) (refused number place) before now e o = never (sym e)
-judges (checked.Refused q) (passed a) before now e o = never e
-judges (checked.Refused q) (refused number place) before now e o = same-refusal e
-  where
-    same-refusal : {m i n j : ℕ} → _≡_ {A = Verdict Summary} (refused m i) (refused n j) → _≡_ {A = Verdict Accepted} (refused n j)
-        (refused m i)
-    same-refusal {m} {i} {n} {j} h = let a : n ≡ m = cc in let b : j ≡ i = cc in ap₂ refused a b
-
--- no map beside a refusal
-pub refused-beside : (edition : Edition) (before : Outputs) (v : Verdict Accepted) (q : Refused) (after : Outputs) (a : Checked)
-    → a ≡ record { answer = checked.Refused q; map = noMap } → v ≡ refusedBy q → CheckedRefines edition before v a after
-unfolding mapAfter
-refused-beside edition before v q after a f e =
-    subst (λ (x : Checked). CheckedRefines edition before v x after) (sym f) (e, sym (ap (mapAfter edition) e))
-
 -- ---- the end
-module _ (edition : Edition) (before after : Outputs) (g : Progress) (r : ExtractionResult)
-    (turn : Refines (r .outcome) (closePes (g .state .extraction)) (UnitsRepresent before after (r .extraction))) where
-  -- the open PES was refused
-  pub end-refused : (q : Refused) → r .outcome ≡ outcome.Refused q
-      → (a : Checked) → a ≡ record { answer = checked.Refused q; map = noMap } → CheckedRefines edition before (ending g) a after
-  unfolding ending _>>=_
-  end-refused q e a f =
-      refused-beside edition before (ending g) q after a f
-      (ap (λ (v : Verdict state.Extraction). v >>= λ x. accepted (g .index) (g .state .tables .pat) (g .state .tables .pmt) (x .units)
-      (g .totals))
-      (refused-refines (closePes (g .state .extraction)) (UnitsRepresent before after (r .extraction)) (r .outcome) q e turn))
+-- no map beside a refusal
+abbrev pub refusedBeside : Refused → Checked
+refusedBeside q = record { answer = checked.Refused q; map = noMap }
 
-  -- it closed
-  pub end-closed : (a : Checked) → r .outcome ≡ outcome.Passed → r .extraction .pes ≡ seen.Closed
-      → ((us : List AccessUnit) → r .extraction .units ≡ length us
-      → (checkSays (a .answer) ≡ summarised (accepted (g .index) (g .state .tables .pat) (g .state .tables .pmt) us (g .totals)))
-      × (a .map ≡ mapAfter edition (accepted (g .index) (g .state .tables .pat) (g .state .tables .pmt) us (g .totals))))
-      → CheckedRefines edition before (ending g) a after
+module _ {edition : Edition} {segment : Bytes} {before now : Outputs} {old firsts : List ℕ} {ran : RunResult} {count : ℕ} {g : Progress}
+    (at : Ran edition segment before now old firsts ran count g) (after : Outputs) (r : ExtractionResult)
+    (turn : Refines (r .outcome) (closePes (g .state .extraction)) (UnitsRepresent before after (r .extraction))) where
+  abbrev with-units : List AccessUnit → Verdict Accepted
+  with-units us = accepted (g .index) (g .state .tables .pat) (g .state .tables .pmt) us (g .totals)
+
+  -- the open PES was refused
+  pub end-refused : (q : Refused) → r .outcome ≡ outcome.Refused q → (a : Checked) → a ≡ refusedBeside q → (last : List ℕ)
+      → Ends edition (ending g) before old a after last
+  unfolding ending summarised mapAfter _>>=_
+  end-refused q e a f last =
+      let here : ending g ≡ refusedBy q =
+      ap (λ (v : Verdict state.Extraction). v >>= λ x. with-units (x .units))
+      (refused-refines (closePes (g .state .extraction)) (UnitsRepresent before after (r .extraction)) (r .outcome) q e turn) in
+      record {
+        answers = ap (λ (x : Checked). checkSays (x .answer)) f ∙ sym (ap summarised here);
+        beside = ap (λ (x : Checked). x .map) f ∙ sym (ap (mapAfter edition) here);
+        leaves = λ b p. never (sym here ∙ p);
+        began = λ b p. never (sym here ∙ p);
+      }
+
+  -- it closed: 33, or the summary; and the packet that began it was put behind the others
+  pub end-closed : r .outcome ≡ outcome.Passed → r .extraction .pes ≡ seen.Closed
+      → (a : Checked) → AcceptRefines edition (ran .tables) (r .extraction .units) count (ran .totals) a
+      → (last : List ℕ) → last ≡ firstNoted (ran .extraction) (r .extraction) firsts
+      → Ends edition (ending g) before old a after last
   unfolding ending _>>=_
-  end-closed a e closed says =
+  end-closed e closed a accepts last note =
       let t = passed-refines (closePes (g .state .extraction)) (UnitsRepresent before after (r .extraction)) (r .outcome) e turn in
       let us = t .0 .units in
-      subst (λ (v : Verdict Accepted). CheckedRefines edition before v a after)
-      (sym (ap (λ (v : Verdict state.Extraction). v >>= λ x. accepted (g .index) (g .state .tables .pat) (g .state .tables .pmt) (x .units)
-      (g .totals)) (t .1))) (
-        judges (a .answer) _ before after (says us (t .2 .units) .0)
-            (λ b p. closed-outputs (t .2) closed ∙ ap (λ (l : List AccessUnit). holding l before)
-            (sym (accepted-units _ _ _ us (g .totals) b p))),
-        says us (t .2 .units) .1,
-      )
+      let says = accepts segment (g .state .tables) us (t .2 .units) (at .stands .tables) in
+      let here : ending g ≡ with-units us = ap (λ (v : Verdict state.Extraction). v >>= λ x. with-units (x .units)) (t .1) in
+      let same : accepted count (g .state .tables .pat) (g .state .tables .pmt) us (ran .totals) ≡ ending g =
+      ap₂ (λ (x : ℕ) (y : Totals). accepted x (g .state .tables .pat) (g .state .tables .pmt) us y) (at .index) (at .totals) ∙ sym here in
+      record {
+        answers = says .0 ∙ ap summarised same;
+        beside = says .1 ∙ ap (mapAfter edition) same;
+        leaves =
+            λ b p. closed-outputs (t .2) closed ∙ ap (λ (l : List AccessUnit). holding l before)
+            (sym (accepted-units _ _ _ us (g .totals) b (sym here ∙ p)));
+        began =
+            λ b p. note ∙ notes (at .stands .extraction) (t .2) old firsts (at .noted) (close-grows (g .state .extraction) (t .0) (t .1))
+            ∙ ap (λ (l : List AccessUnit). holdingFirsts l old) (sym (accepted-units _ _ _ us (g .totals) b (sym here ∙ p)));
+      }
 
--- the list of first packets
-module _ (before after : Outputs) (g : Progress) (r : ExtractionResult)
-    (turn : Refines (r .outcome) (closePes (g .state .extraction)) (UnitsRepresent before after (r .extraction))) where
-  -- nothing is accepted
-  pub end-refused-firsts : (q : Refused) → r .outcome ≡ outcome.Refused q → (old last : List ℕ) → AcceptedFirsts old (ending g) last
-  unfolding ending _>>=_
-  end-refused-firsts q e old last a p =
-      never
-      (sym (ap (λ (v : Verdict state.Extraction). v >>= λ x. accepted (g .index) (g .state .tables .pat) (g .state .tables .pmt) (x .units)
-      (g .totals))
-      (refused-refines (closePes (g .state .extraction)) (UnitsRepresent before after (r .extraction)) (r .outcome) q e turn)) ∙ p)
+-- ---- the answer and what it leaves
+module _ (edition : Edition) (before : Outputs) (old : List ℕ) where
+  -- an answer that accepts leaves the outputs as they are
+  pub accepted-checks : (v : Verdict Accepted) (r : Checked) (after : Outputs) (firsts : List ℕ) → Ends edition v before old r after firsts
+      → (s : Summary) → r .answer ≡ checked.Accepted s → Checks v (mapAfter edition v) before old r after firsts
+  unfolding summarised outputsAfter firstsAfter _>>=_
+  accepted-checks (passed a) r after firsts e s told =
+      record { answers = e .answers; beside = e .beside; leaves = e .leaves a refl; began = e .began a refl }
+  accepted-checks (refused number place) r after firsts e s told = never (sym (ap checkSays (sym told) ∙ e .answers))
 
-  -- the first packet of the PES that closed was put behind the others
-  pub end-closed-firsts : {now : Outputs} {c : Extraction} → UnitsRepresent before now c (g .state .extraction)
-      → r .outcome ≡ outcome.Passed
-      → (old firsts last : List ℕ) → firsts ≡ holdingFirsts (g .state .extraction .units) old → last ≡ firstNoted c (r .extraction) firsts
-      → AcceptedFirsts old (ending g) last
-  unfolding ending _>>=_
-  end-closed-firsts s e old firsts last h note a p =
-      let t = passed-refines (closePes (g .state .extraction)) (UnitsRepresent before after (r .extraction)) (r .outcome) e turn in
-      note ∙ notes s (t .2) old firsts h (close-grows (g .state .extraction) (t .0) (t .1))
-      ∙ ap (λ (l : List AccessUnit). holdingFirsts l old)
-      (sym (accepted-units _ _ _ (t .0 .units) (g .totals) a
-      (sym (ap (λ (v : Verdict state.Extraction). v >>= λ x. accepted (g .index) (g .state .tables .pat) (g .state .tables .pmt) (x .units)
-      (g .totals)) (t .1)) ∙ p)))
+  -- one that refuses clears them
+  pub refused-checks : (v : Verdict Accepted) (r : Checked) (then : Outputs) (began : List ℕ) → Ends edition v before old r then began
+      → (q : Refused) → r .answer ≡ checked.Refused q
+      → (after : Outputs) → after ≡ cleared before → (firsts : List ℕ) → firsts ≡ zeros old
+      → Checks v (mapAfter edition v) before old r after firsts
+  unfolding summarised outputsAfter firstsAfter _>>=_
+  refused-checks (passed a) r then began e q told after left firsts zeroed = never (ap checkSays (sym told) ∙ e .answers)
+  refused-checks (refused number place) r then began e q told after left firsts zeroed =
+      record { answers = e .answers; beside = e .beside; leaves = left; began = zeroed }
 
--- ---- the whole
-module _ (edition : Edition) (segment : Bytes) (before now : Outputs) where
-  pub length-refused : (q : Refused) → q ≡ record { why = record { number = 20 }; place = 0 } → segmentLengthWrong segment ≡ true
-      → (a : Checked) → a ≡ record { answer = checked.Refused q; map = noMap } → WholeRefines edition segment before a now
-  unfolding checkSegment
-  length-refused q e h a f =
-      refused-beside edition before _ q now a f (sym (refuse 20 _ h) ∙ ap (λ (x : Refused). refusedBy x) (sym e))
+  -- a refusal without a map, beside cleared outputs
+  pub refusal-checks : (v : Verdict Accepted) (q : Refused) → v ≡ refusedBy q → (r : Checked) → r ≡ refusedBeside q
+      → (after : Outputs) → after ≡ cleared before → (firsts : List ℕ) → firsts ≡ zeros old
+      → Checks v (mapAfter edition v) before old r after firsts
+  unfolding summarised mapAfter outputsAfter firstsAfter _>>=_
+  refusal-checks v q e r f after left firsts zeroed =
+      record {
+        answers = ap (λ (x : Checked). checkSays (x .answer)) f ∙ sym (ap summarised e);
+        beside = ap (λ (x : Checked). x .map) f ∙ sym (ap (mapAfter edition) e);
+        leaves = left ∙ sym (ap (λ (w : Verdict Accepted). outputsAfter w before) e);
+        began = zeroed ∙ sym (ap (λ (w : Verdict Accepted). firstsAfter w old) e);
+      }
 
-  pub length-refused-firsts : segmentLengthWrong segment ≡ true → (old last : List ℕ)
-      → AcceptedFirsts old (checkSegment edition (roomsOf before) segment) last
-  unfolding checkSegment
-  length-refused-firsts h old last a p = never (refuse 20 _ h ∙ p)
+-- ---- the packets in order, and the end
+module _ (edition : EditionName) (segment : Bytes) (before : Outputs) (old : List ℕ) (r : RunResult) (now : Outputs) (firsts : List ℕ)
+    (turn : Runs edition segment before old r now firsts) where
+  abbrev ran : Verdict Progress
+  ran = run (editionSays edition) (roomsOf before) start (packets segment)
 
-  module _ (h : segmentLengthWrong segment ≡ false) (r : RunResult) (turn : RunRefines edition segment before r now) where
-    whole : (v : Verdict Progress) → run edition (roomsOf before) start (packets segment) ≡ v → checkSegment edition (roomsOf before)
-        segment ≡ (v >>= ending)
-    unfolding checkSegment
-    whole v e = sym (pass-on 20 h refl) ∙ ap (λ (w : Verdict Progress). w >>= ending) e
+  -- a packet is refused
+  pub run-refused : (q : Refused) → r .outcome ≡ outcome.Refused q → (a : Checked) → a ≡ refusedBeside q
+      → ChecksInOrder (editionSays edition) segment before old a now firsts
+  unfolding inOrder _>>=_
+  run-refused q e a f =
+      let left = turn .refused q e in
+      refusal-checks (editionSays edition) before old _ q
+      (ap (λ (v : Verdict Progress). v >>= ending) (refused-refines ran _ (r .outcome) q e (turn .verdict)))
+      a f now (left .leaves) firsts (left .began)
 
-    pub run-refused : (q : Refused) (last : Outputs) → r .outcome ≡ outcome.Refused q
-        → (a : Checked) → a ≡ record { answer = checked.Refused q; map = noMap } → WholeRefines edition segment before a last
-    unfolding _>>=_
-    run-refused q last e a f =
-        refused-beside edition before _ q last a f
-        (whole (refusedBy q) (refused-refines (run edition (roomsOf before) start (packets segment)) _ (r .outcome) q e turn))
-
-    pub run-refused-firsts : (q : Refused) → r .outcome ≡ outcome.Refused q → (old last : List ℕ)
-        → AcceptedFirsts old (checkSegment edition (roomsOf before) segment) last
-    unfolding _>>=_
-    run-refused-firsts q e old last a p =
-        never
-        (sym (whole (refusedBy q) (refused-refines (run edition (roomsOf before) start (packets segment)) _ (r .outcome) q e turn)) ∙ p)
-
-    module _ (e : r .outcome ≡ outcome.Passed) where
-      pub ran : (g : Progress) × (run edition (roomsOf before) start (packets segment) ≡ passed g)
-          × (StateRepresents edition segment before now (r .tables) (r .extraction) (g .state) × (r .totals ≡ g .totals))
-      ran = passed-refines (run edition (roomsOf before) start (packets segment)) _ (r .outcome) e turn
-
-      pub all-packets : length segment / packetLength ≡ ran .0 .index
-      all-packets =
-          sym (index-totals edition (roomsOf before) (packets segment) (ran .0) (ran .1) .0 ∙ length-packets (length segment / packetLength)
-          segment)
-
-      pub run-ended : (a : Checked) (last : Outputs) → CheckedRefines edition before (ending (ran .0)) a last
-          → WholeRefines edition segment before a last
-      unfolding _>>=_
-      run-ended a last j = subst (λ (v : Verdict Accepted). CheckedRefines edition before v a last) (sym (whole (passed (ran .0))
-          (ran .1))) j
-
-      pub run-ended-firsts : (old last : List ℕ) → AcceptedFirsts old (ending (ran .0)) last
-          → AcceptedFirsts old (checkSegment edition (roomsOf before) segment) last
-      unfolding _>>=_
-      run-ended-firsts old last j a p = j a (sym (whole (passed (ran .0)) (ran .1)) ∙ p)
-
--- ---- the answer says the check's verdict, and the outputs are what it leaves
-pub answers : (r : SegmentCheck) (before : Outputs) (v : Verdict Accepted) (now : Outputs) → AnswerRefines before v r now → checkSays r ≡
-    summarised v
-unfolding summarised _>>=_
-answers (checked.Accepted s) before v now j = ap passed (j .2 .0) ∙ sym (ap (λ (w : Verdict Accepted). summarised w) (j .1))
-answers (checked.Refused q) before v now j = sym (ap (λ (w : Verdict Accepted). summarised w) j)
-
-accepted-by : (s : Summary) (before : Outputs) (v : Verdict Accepted) (now : Outputs) → AnswerRefines before v (checked.Accepted s) now
-    → now ≡
-    outputsAfter v before
-unfolding outputsAfter
-accepted-by s before v now j = j .2 .1 ∙ sym (ap (λ (w : Verdict Accepted). outputsAfter w before) (j .1))
-
-pub accepted-leaves : (r : SegmentCheck) (s : Summary) → r ≡ checked.Accepted s → (before : Outputs) (v : Verdict Accepted) (now : Outputs)
-    → AnswerRefines before v r now → now ≡ outputsAfter v before
-accepted-leaves r s e before v now j = accepted-by s before v now (subst (λ (y : SegmentCheck). AnswerRefines before v y now) e j)
-
-firsts-by : (s : Summary) (before : Outputs) (v : Verdict Accepted) (now : Outputs) → AnswerRefines before v (checked.Accepted s) now
-    → (old firsts : List ℕ) → AcceptedFirsts old v firsts → firsts ≡ firstsAfter v old
-unfolding firstsAfter
-firsts-by s before v now j old firsts k = k (j .0) (j .1) ∙ sym (ap (λ (w : Verdict Accepted). firstsAfter w old) (j .1))
-
-pub accepted-firsts : (r : SegmentCheck) (s : Summary) → r ≡ checked.Accepted s → (before : Outputs) (v : Verdict Accepted) (now : Outputs)
-    → AnswerRefines before v r now → (old firsts : List ℕ) → AcceptedFirsts old v firsts → firsts ≡ firstsAfter v old
-accepted-firsts r s e before v now j = firsts-by s before v now (subst (λ (y : SegmentCheck). AnswerRefines before v y now) e j)
-
--- zeros in an output that is as long as before
-zeros-as : {out : List ℕ} (o b : List ℕ) → out ≡ zeros o → length o ≡ length b → out ≡ zeros b
-zeros-as o b e h = e ∙ ap (λ (n : ℕ). replicate n 0) h
-
-pub refused-leaves : (r : SegmentCheck) (q : Refused) → r ≡ checked.Refused q → (before : Outputs) (v : Verdict Accepted)
-    (o l t out lens times : List ℕ)
-    → AnswerRefines before v r (outputsOf o l t) → out ≡ zeros o → lens ≡ zeros l → times ≡ zeros t → length o ≡ length (before .bytes)
-    → length l ≡ length (before .lens)
-    → length t ≡ length (before .times) → outputsOf out lens times ≡ outputsAfter v before
-unfolding outputsAfter
-refused-leaves r q e before v o l t out lens times j a b c la lb lc =
-    ap (λ (x : List ℕ). outputsOf x lens times) (zeros-as o (before .bytes) a la)
-    ∙ ap₂ (λ (x y : List ℕ). outputsOf (zeros (before .bytes)) x y) (zeros-as l (before .lens) b lb) (zeros-as t (before .times) c lc)
-    ∙ sym (ap (λ (w : Verdict Accepted). outputsAfter w before) (subst (λ (y : SegmentCheck). AnswerRefines before v y
-    (outputsOf o l t)) e j))
-
-pub refused-firsts : (r : SegmentCheck) (q : Refused) → r ≡ checked.Refused q → (before : Outputs) (v : Verdict Accepted) (now : Outputs)
-    → AnswerRefines before v r now → (old firsts last : List ℕ) → last ≡ zeros firsts → length firsts ≡ length old
-    → last ≡ firstsAfter v old
-unfolding firstsAfter
-refused-firsts r q e before v now j old firsts last z h =
-    zeros-as firsts old z h
-    ∙ sym (ap (λ (w : Verdict Accepted). firstsAfter w old) (subst (λ (y : SegmentCheck). AnswerRefines before v y now) e j))
+  -- all pass, and the end follows
+  pub run-ended : r .outcome ≡ outcome.Passed → (a : Checked) (after : Outputs) (firsts′ : List ℕ)
+      → EndChecks (editionSays edition) r (length segment / packetLength) now firsts a after firsts′
+      → ChecksInOrder (editionSays edition) segment before old a after firsts′
+  unfolding inOrder _>>=_
+  run-ended e a after firsts′ ends =
+      let all = passed-refines ran _ (r .outcome) e (turn .verdict) in
+      let count : length segment / packetLength ≡ all .0 .index =
+      sym (index-totals (editionSays edition) (roomsOf before) (packets segment) (all .0) (all .1) .0
+      ∙ length-packets (length segment / packetLength) segment) in
+      subst (λ (v : Verdict Accepted). Checks v (mapAfter (editionSays edition) v) before old a after firsts′)
+      (sym (ap (λ (v : Verdict Progress). v >>= ending) (all .1)))
+      (ends segment before old (all .0)
+      (record { index = count; totals = all .2 .1; stands = all .2 .0; noted = turn .noted (all .0) (all .1) }))

@@ -66,12 +66,6 @@ pub record Checks (v : Verdict Accepted) (m : ProgramMap) (before : Outputs) (fi
   pub leaves : after ≡ outputsAfter v before
   pub began : firsts′ ≡ firstsAfter v firsts
 
--- in an edition
-abbrev pub ChecksSegment : Edition → Bytes → Outputs → List ℕ → Checked → Outputs → List ℕ → Type 0
-ChecksSegment edition segment before firsts r after firsts′ =
-    Checks (checkSegment edition (roomsOf before) segment)
-    (mapAfter edition (checkSegment edition (roomsOf before) segment)) before firsts r after firsts′
-
 -- in the edition of this number
 abbrev pub ChecksIn : ℕ → Bytes → Outputs → List ℕ → Checked → Outputs → List ℕ → Type 0
 ChecksIn n segment before firsts r after firsts′ =
@@ -81,6 +75,5 @@ ChecksIn n segment before firsts r after firsts′ =
 pub record ChecksCompared (n : ℕ) (segment : Bytes) (before : Outputs) (r : AnsweredBeside) (after : Outputs)
     : Type 0 where
   pub answers : checkSays (r .answer) ≡ checking n (roomsOf before) segment
-  pub beside : r .map ≡ mapChecked n (roomsOf before) segment
   pub compared : disagreedSays (r .disagreement) ≡ disagreementOf (checkCompared n (roomsOf before) segment)
   pub leaves : after ≡ outputsAfter (checkIn n (roomsOf before) segment) before

@@ -6,10 +6,10 @@ use mathlib.Core.List.{List, [], _∷_, map}
 use mathlib.Core.Option.{Option, none}
 use lib.ListN.{length, take}
 use Rattle.lists.specs.Lists.{Bytes}
-use Rattle.refusal.specs.Verdict.{Verdict}
+use Rattle.refusal.specs.Verdict.{Verdict, _>>=_, _>>_}
 use Rattle.refusal.specs.Verdict as verdict
 use Rattle.unit.specs.Unit.{obusOf}
-use Rattle.descriptor.specs.Edition.{Edition}
+use Rattle.descriptor.specs.Edition.{Edition, editionOf}
 use Rattle.descriptor.specs.Descriptor.{videoTag, videoLength, fieldsOf}
 use Rattle.comparison.specs.declared.Disagreement.{Disagreement}
 use Rattle.comparison.specs.Comparison.{headersBeforeFrame, firstFrom}
@@ -18,18 +18,23 @@ use Rattle.pmt.specs.declared.loops.Video.the-variants as video
 use Rattle.segment_rules.specs.declared.Totals.{Totals}
 use Rattle.segment_rules.specs.State as state
 use Rattle.segment_rules.specs.State.{AccessUnit}
-use Rattle.segment_rules.specs.Check.{Accepted, Outputs, Progress, roomsOf, holding}
-use Rattle.segment_rules.specs.Check.{holdingFirsts, accepted, ending, checkSegment}
-use Rattle.tables.specs.declared.state.Outcome.the-variants.{Passed, Refused}
+use Rattle.packet.specs.Header.{packets}
+use Rattle.segment_rules.specs.Rules.{Rooms}
+use Rattle.segment_rules.specs.Check.{Accepted, Outputs, Progress, roomsOf, holding, holdingFirsts, rule20, start, run}
+use Rattle.segment_rules.specs.Check.{accepted, ending}
 use Rattle.tables.specs.declared.tables.Tables.{Tables}
-use Rattle.tables.specs.Tables.{Refines, TablesRepresent}
-use Rattle.units.specs.Extraction.{UnitsRepresent}
+use Rattle.tables.specs.Tables.{TablesRepresent}
 use Rattle.extraction.specs.Packets.{StateRepresents}
 use Rattle.segment_run.specs.declared.running.RunResult.{RunResult}
 use Rattle.segment.specs.declared.checking.SegmentCheck.{SegmentCheck}
 use Rattle.segment.specs.declared.checking.SegmentCheck.the-variants as checked
 use Rattle.segment.specs.declared.checking.Checked.{Checked}
-use Rattle.segment.specs.Answer.{summaryOf, summarised, mapAfter, checkSays}
+use Rattle.segment.specs.Answer.{Checks, summarised, mapAfter, checkSays}
+
+-- ---- before the packets
+-- 44, then 20
+unfoldable pub askedIn : ℕ → Bytes → Verdict Edition
+askedIn n s = editionOf n >>= λ edition. rule20 s >> verdict.passed edition
 
 -- ---- the end
 -- 33, or the summary of these units
@@ -40,37 +45,45 @@ AcceptRefines edition c units count totals r =
     → (checkSays (r .answer) ≡ summarised (accepted count (t .pat) (t .pmt) us totals))
     × (r .map ≡ mapAfter edition (accepted count (t .pat) (t .pmt) us totals))
 
--- an answer is the verdict on the whole; where it accepts, the outputs hold the units
-abbrev pub AnswerRefines : Outputs → Verdict Accepted → SegmentCheck → Outputs → Type 0
-AnswerRefines before v (checked.Accepted s) now =
-    Refines Passed v (λ a. (s ≡ summaryOf a) × (now ≡ holding (a .units) before))
-AnswerRefines before v (checked.Refused r) now = Refines (Refused r) v (λ a. ⊥)
+-- so many packets have passed: what the run has given, with the outputs and the list of first packets, which were
+-- `before` and `old` at first, stands for where they lead to
+pub record Ran (edition : Edition) (segment : Bytes) (before now : Outputs) (old firsts : List ℕ) (ran : RunResult)
+    (count : ℕ) (g : Progress) : Type 0 where
+  pub index : count ≡ g .index
+  pub totals : ran .totals ≡ g .totals
+  pub stands : StateRepresents edition segment before now (ran .tables) (ran .extraction) (g .state)
+  pub noted : firsts ≡ holdingFirsts (g .state .extraction .units) old
 
--- with the map beside it
-abbrev pub CheckedRefines : Edition → Outputs → Verdict Accepted → Checked → Outputs → Type 0
-CheckedRefines edition before v r now = AnswerRefines before v (r .answer) now × (r .map ≡ mapAfter edition v)
-
--- where it accepts, the list that was `old` at first holds the first packets of the units
-abbrev pub AcceptedFirsts : List ℕ → Verdict Accepted → List ℕ → Type 0
-AcceptedFirsts old v firsts = (a : Accepted) → v ≡ verdict.passed a → firsts ≡ holdingFirsts (a .units) old
+-- the answer is this verdict on the whole, with the map beside it; where it accepts, the outputs hold the units, and
+-- the list their first packets
+pub record Ends (edition : Edition) (v : Verdict Accepted) (before : Outputs) (old : List ℕ) (r : Checked)
+    (after : Outputs) (firsts : List ℕ) : Type 0 where
+  pub answers : checkSays (r .answer) ≡ summarised v
+  pub beside : r .map ≡ mapAfter edition v
+  pub leaves : (a : Accepted) → v ≡ verdict.passed a → after ≡ holding (a .units) before
+  pub began : (a : Accepted) → v ≡ verdict.passed a → firsts ≡ holdingFirsts (a .units) old
 
 -- after so many packets
-abbrev pub EndRefines : Edition → RunResult → ℕ → Outputs → Checked → Outputs → Type 0
-EndRefines edition ran count now r after =
-    (segment : Bytes) (before : Outputs) (g : Progress) → count ≡ g .index → ran .totals ≡ g .totals
-    → StateRepresents edition segment before now (ran .tables) (ran .extraction) (g .state)
-    → CheckedRefines edition before (ending g) r after
+abbrev pub EndRefines : Edition → RunResult → ℕ → Outputs → List ℕ → Checked → Outputs → List ℕ → Type 0
+EndRefines edition ran count now firsts r after firsts′ =
+    (segment : Bytes) (before : Outputs) (old : List ℕ) (g : Progress)
+    → Ran edition segment before now old firsts ran count g → Ends edition (ending g) before old r after firsts′
 
-abbrev pub EndFirsts : RunResult → Outputs → List ℕ → List ℕ → Type 0
-EndFirsts ran now firsts after =
-    (before : Outputs) (g : Progress) (old : List ℕ)
-    → UnitsRepresent before now (ran .extraction) (g .state .extraction)
-    → firsts ≡ holdingFirsts (g .state .extraction .units) old → AcceptedFirsts old (ending g) after
+-- and then, where it refuses, nothing but zeros is left
+abbrev pub EndChecks : Edition → RunResult → ℕ → Outputs → List ℕ → Checked → Outputs → List ℕ → Type 0
+EndChecks edition ran count now firsts r after firsts′ =
+    (segment : Bytes) (before : Outputs) (old : List ℕ) (g : Progress)
+    → Ran edition segment before now old firsts ran count g
+    → Checks (ending g) (mapAfter edition (ending g)) before old r after firsts′
 
--- the whole segment
-abbrev pub WholeRefines : Edition → Bytes → Outputs → Checked → Outputs → Type 0
-WholeRefines edition segment before r now =
-    CheckedRefines edition before (checkSegment edition (roomsOf before) segment) r now
+-- ---- the packets in order, and the end
+unfoldable pub inOrder : Edition → Rooms → Bytes → Verdict Accepted
+inOrder edition rooms s = run edition rooms start (packets s) >>= ending
+
+abbrev pub ChecksInOrder : Edition → Bytes → Outputs → List ℕ → Checked → Outputs → List ℕ → Type 0
+ChecksInOrder edition segment before old r after firsts =
+    Checks (inOrder edition (roomsOf before) segment) (mapAfter edition (inOrder edition (roomsOf before) segment))
+    before old r after firsts
 
 -- ---- the comparison
 -- these carried units, by their sequence headers before the frame, beside a video descriptor, of which the code has the

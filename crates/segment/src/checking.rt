@@ -1,17 +1,11 @@
 // The check of a whole segment.
 ghost use mathlib.Core.Path.{_≡_};
 ghost use Rattle.descriptor.specs.Edition.{Edition as Edition·rules};
-ghost use Rattle.descriptor.specs.Naming.{editionSays};
-ghost use Rattle.segment_rules.specs.Check.{outputsOf, segmentLengthWrong, roomsOf, checkSegment};
+ghost use Rattle.descriptor.specs.Naming.{editionSays, namedSays};
+ghost use Rattle.segment_rules.specs.Check.{outputsOf, segmentLengthWrong};
 ghost use Rattle.pmt.specs.Answer.{noMap};
-ghost use Rattle.segment.specs.Answer.{ChecksSegment, ChecksIn};
-ghost use Rattle.segment.specs.Parts.{
-  AcceptRefines,
-  EndRefines,
-  WholeRefines,
-  EndFirsts,
-  AcceptedFirsts,
-};
+ghost use Rattle.segment.specs.Answer.{ChecksIn};
+ghost use Rattle.segment.specs.Parts.{askedIn, AcceptRefines, EndRefines, EndChecks, ChecksInOrder};
 use descriptor::Edition;
 use descriptor::Named;
 use packet::PACKET_LENGTH;
@@ -66,6 +60,20 @@ fn length_wrong(segment: &[u8]) -> bool
     MOST_PACKETS < length / PACKET_LENGTH
 }
 
+// The edition of this number, for a segment of a right length: 44, then 20.
+fn asked(edition: u64, segment: &[u8]) -> Named
+    ensures { λ r. ⌜ namedSays r ≡ askedIn edition (now (segment .entry)) ⌝ }
+{
+    let named = Edition::named(edition);
+    let Named::Edition(_) = named else {
+        return named;
+    };
+    if length_wrong(segment) {
+        return Named::Refused(Refusal::SEGMENT_LENGTH.at(0));
+    }
+    named
+}
+
 fn refuse(refused: Refused) -> Checked
     ensures { λ r. ⌜ r ≡ record { answer = SegmentCheck.Refused refused; map = noMap } ⌝ }
 {
@@ -113,10 +121,8 @@ fn finish(
     firsts: &mut [usize],
 ) -> Checked
     ensures { λ r. ⌜ ((edition : Edition·rules) → EndRefines edition ran packets
-        (outputsOf (now (out .entry)) (now (lens .entry)) (now (times .entry))) r
-        (outputsOf (now (out .entry)) (now (lens .exit)) (now (times .exit)))) ⌝ }
-    ensures { λ _. ⌜ EndFirsts ran (outputsOf (now (out .entry)) (now (lens .entry)) (now (times .entry)))
-        (now (firsts .entry)) (now (firsts .exit)) ⌝ }
+        (outputsOf (now (out .entry)) (now (lens .entry)) (now (times .entry))) (now (firsts .entry)) r
+        (outputsOf (now (out .entry)) (now (lens .exit)) (now (times .exit))) (now (firsts .exit))) ⌝ }
 {
     let last = ran.extraction;
     let closed = close(last, out, lens, times);
@@ -133,7 +139,31 @@ fn finish(
     }
 }
 
-// The verdict on a segment, and its units in the outputs.
+// The same, and zeros throughout the outputs where that is a refusal.
+fn conclude(
+    ran: RunResult,
+    packets: usize,
+    out: &mut [u8],
+    lens: &mut [usize],
+    times: &mut [u64],
+    firsts: &mut [usize],
+) -> Checked
+    ensures { λ r. ⌜ ((edition : Edition·rules) → EndChecks edition ran packets
+        (outputsOf (now (out .entry)) (now (lens .entry)) (now (times .entry))) (now (firsts .entry)) r
+        (outputsOf (now (out .exit)) (now (lens .exit)) (now (times .exit))) (now (firsts .exit))) ⌝ }
+{
+    let checked = finish(ran, packets, out, lens, times, firsts);
+    let answer = checked.answer;
+    match answer {
+        SegmentCheck::Accepted(_) => checked,
+        SegmentCheck::Refused(_) => {
+            clear(out, lens, times, firsts);
+            checked
+        }
+    }
+}
+
+// The packets of a segment in order, and the end.
 fn judge(
     edition: Edition,
     segment: &[u8],
@@ -142,45 +172,15 @@ fn judge(
     times: &mut [u64],
     firsts: &mut [usize],
 ) -> Checked
-    ensures { λ r. ⌜ WholeRefines (editionSays edition) (now (segment .entry))
-        (outputsOf (now (out .entry)) (now (lens .entry)) (now (times .entry))) r
-        (outputsOf (now (out .exit)) (now (lens .exit)) (now (times .exit))) ⌝ }
-    ensures { λ _. ⌜ AcceptedFirsts (now (firsts .entry)) (checkSegment (editionSays edition)
-        (roomsOf (outputsOf (now (out .entry)) (now (lens .entry)) (now (times .entry)))) (now (segment .entry)))
-        (now (firsts .exit)) ⌝ }
+    ensures { λ r. ⌜ ChecksInOrder (editionSays edition) (now (segment .entry))
+        (outputsOf (now (out .entry)) (now (lens .entry)) (now (times .entry))) (now (firsts .entry)) r
+        (outputsOf (now (out .exit)) (now (lens .exit)) (now (times .exit))) (now (firsts .exit)) ⌝ }
 {
-    if length_wrong(segment) {
-        return refuse(Refusal::SEGMENT_LENGTH.at(0));
-    }
     let ran = run(edition, segment, out, lens, times, firsts);
     let outcome = ran.outcome;
     match outcome {
         Outcome::Refused(refused) => refuse(refused),
-        Outcome::Passed => finish(ran, segment.len() / PACKET_LENGTH, out, lens, times, firsts),
-    }
-}
-
-// The check of a segment in this edition.
-fn check_in(
-    edition: Edition,
-    segment: &[u8],
-    out: &mut [u8],
-    lens: &mut [usize],
-    times: &mut [u64],
-    firsts: &mut [usize],
-) -> Checked
-    ensures { λ r. ⌜ ChecksSegment (editionSays edition) (now (segment .entry))
-        (outputsOf (now (out .entry)) (now (lens .entry)) (now (times .entry))) (now (firsts .entry)) r
-        (outputsOf (now (out .exit)) (now (lens .exit)) (now (times .exit))) (now (firsts .exit)) ⌝ }
-{
-    let checked = judge(edition, segment, out, lens, times, firsts);
-    let answer = checked.answer;
-    match answer {
-        SegmentCheck::Accepted(_) => checked,
-        SegmentCheck::Refused(_) => {
-            clear(out, lens, times, firsts);
-            checked
-        }
+        Outcome::Passed => conclude(ran, segment.len() / PACKET_LENGTH, out, lens, times, firsts),
     }
 }
 
@@ -199,12 +199,12 @@ pub fn check(
         (outputsOf (now (out .entry)) (now (lens .entry)) (now (times .entry))) (now (firsts .entry)) r
         (outputsOf (now (out .exit)) (now (lens .exit)) (now (times .exit))) (now (firsts .exit)) ⌝ }
 {
-    let named = Edition::named(edition);
-    match named {
-        Named::Edition(known) => check_in(known, segment, out, lens, times, firsts),
-        Named::Refused(unknown) => {
+    let asked = asked(edition, segment);
+    match asked {
+        Named::Edition(known) => judge(known, segment, out, lens, times, firsts),
+        Named::Refused(refused) => {
             clear(out, lens, times, firsts);
-            refuse(unknown)
+            refuse(refused)
         }
     }
 }

@@ -11,14 +11,12 @@ use crate::checking::check;
 use comparison::Disagreed;
 use comparison::compare_units;
 use descriptor::fields_of;
-use pmt::ProgramMap;
 use pmt::Video;
 
-// The answer of the check, the map beside it, and of an accepted segment the first disagreement of a sequence header
-// with the video descriptor; none where the segment is refused.
+// The answer of the check, and of an accepted segment the first disagreement of a sequence header with the video
+// descriptor; none where the segment is refused.
 pub struct Answered {
     pub answer: SegmentCheck,
-    pub map: ProgramMap,
     pub disagreement: Disagreed,
 }
 
@@ -68,7 +66,6 @@ pub fn check_compared(
     let disagreement = disagreement_of(answer, video, out, lens);
     Answered {
         answer,
-        map,
         disagreement,
     }
 }

@@ -68,7 +68,7 @@ use Rattle.units.specs.declared.units.Extraction.{Extraction}
 use Rattle.units.specs.Extraction.{UnitsRepresent}
 use Rattle.extraction.specs.Packets.{StateRepresents}
 use Rattle.units.specs.Extraction.{PayloadOf}
-use Rattle.segment_run.specs.Parts.{MayGoOn, lastAt, withLast, Pass}
+use Rattle.segment_run.specs.Parts.{MayGoOn, lastAt, withLast, Pass, GoesOn}
 use Rattle.units.proofs.Extracting.{adds-right}
 use Rattle.segment_run.proofs.Passing.{cons-first, cons-rest}
 
@@ -504,7 +504,7 @@ pub lent-many : (n last : ℕ) (l : List Bytes) (out : List ℕ) (at m : ℕ) �
 lent-many n last l out at m h e = e ∙ ap (λ (x : ℕ). goingOn x n last l) (ap length (tail-lent at out h) ∙ length-drop at out)
 
 -- no packet goes on
-pub none-kept : (out : List ℕ) (at : ℕ) (l : List Bytes) (m : ℕ) → m ≡ 0 → placed out at (payloads m l) ≡ out
+none-kept : (out : List ℕ) (at : ℕ) (l : List Bytes) (m : ℕ) → m ≡ 0 → placed out at (payloads m l) ≡ out
 unfolding flatten
 none-kept out at l m z = ap (λ (x : ℕ). placed out at (payloads x l)) z ∙ take-append-drop at out
 
@@ -516,25 +516,34 @@ gone-some i (suc m) c last k h =
     let z : k + m ≡ k + suc m - 1 = omega arith in
     ap (λ (x : ℕ). withLast c i ((last + suc m) % 16) (x * packetLength)) z
 
-module _ (segment : Bytes) (k : ℕ) (c : Tables) (e : Extraction) (n i last : ℕ) (may : MayGoOn c e n i last) (out : List ℕ)
-    (within : k ≤ length segment / packetLength) (fits : e .start + e .bytes ≤ length out)
-    (m : ℕ) (many : m ≡ goingOn (length out - (e .start + e .bytes)) n last (drop k (packets segment))) where
+-- what is known once they are counted, and copied behind what is there of the unit
+pub record Followed (segment : Bytes) (k : ℕ) (c : Tables) (e : Extraction) (n i last : ℕ) (out : List ℕ) (m : ℕ) : Type 0 where
+  pub may : MayGoOn c e n i last
+  pub within : k ≤ length segment / packetLength
+  pub fits : e .start + e .bytes ≤ length out
+  pub many : m ≡ goingOn (length out - (e .start + e .bytes)) n last (drop k (packets segment))
+
+module _ {segment : Bytes} {k : ℕ} {c : Tables} {e : Extraction} {n i last : ℕ} {out : List ℕ} {m : ℕ}
+    (f : Followed segment k c e n i last out m) where
+  -- they lie within the segment, and their payloads within the output
   pub bounded : (k + m ≤ length segment / packetLength) × (e .start + e .bytes + m * payloadLength ≤ length out)
   bounded =
       let b = going-bounded (length out - (e .start + e .bytes)) n last (drop k (packets segment)) in
       let size = length-drop k (packets segment) ∙ ap (λ (x : ℕ). x - k) (length-packets (length segment / packetLength) segment) in
-      (omega (arith, b .0, size, many, within), omega (arith, b .1, many, fits))
+      (omega (arith, b .0, size, f .many, f .within), omega (arith, b .1, f .many, f .fits))
 
+  -- each passes by its rules
   module _ (some : m ≡ 0 → ⊥) (edition : Edition) (lens times : List ℕ) (before : Outputs) (st : State) (named : Named (st .tables))
       (s : StateRepresents edition segment before (outputsOf out lens times) c e st) where
     abbrev l : List Bytes
     l = drop k (packets segment)
 
-    pub went : (out′ : List ℕ) (c′ : Tables) → out′ ≡ placed out (e .start + e .bytes) (payloads m l)
-        → c′ ≡ withLast c i ((last + m) % 16) ((k + m - 1) * packetLength)
+    went : (out′ : List ℕ) → out′ ≡ placed out (e .start + e .bytes) (payloads m l)
         → (st′ : State) × Pass edition segment (roomsOf before) state.Av1 m k st st′
-        × StateRepresents edition segment before (outputsOf out′ lens times) c′ (longer e (m * payloadLength)) st′
-    went out′ c′ f g =
+        × StateRepresents edition segment before (outputsOf out′ lens times) (withLast c i ((last + m) % 16) ((k + m - 1) * packetLength))
+        (longer e (m * payloadLength)) st′
+    went out′ put =
+        let may = f .may in
         let kind = may .kind edition segment (st .tables) named (s .tables) in
         let r : Ready c e st n i last (may .opened .0) =
         record {
@@ -546,14 +555,23 @@ module _ (segment : Bytes) (k : ℕ) (c : Tables) (e : Extraction) (n i last : �
           repeat = may .seen .1;
           last = may .seen .2;
         } in
-        let w = goes edition segment before lens times n i (may .opened .0) l k out c e st s last r refl within fits in
-        let x = subst (λ (y : ℕ). Gone edition segment before lens times n i (may .opened .0) y k out c e st last l) (sym many) w in (
+        let w = goes edition segment before lens times n i (may .opened .0) l k out c e st s last r refl (f .within) (f .fits) in
+        let x = subst (λ (y : ℕ). Gone edition segment before lens times n i (may .opened .0) y k out c e st last l) (sym (f .many)) w in (
           x .reached,
           x .passes,
-          subst (λ (y : List ℕ). StateRepresents edition segment before (outputsOf y lens times) c′ (longer e (m * payloadLength))
-              (x .reached))
-              (sym f)
+          subst (λ (y : List ℕ). StateRepresents edition segment before (outputsOf y lens times)
+              (withLast c i ((last + m) % 16) ((k + m - 1) * packetLength)) (longer e (m * payloadLength)) (x .reached))
+              (sym put)
               (subst (λ (y : Tables). StateRepresents edition segment before
               (outputsOf (placed out (e .start + e .bytes) (payloads m l)) lens times) y (longer e (m * payloadLength)) (x .reached))
-              (gone-some i m c last k some ∙ sym g) (x .stands)),
+              (gone-some i m c last k some) (x .stands)),
         )
+
+  pub all-went : (out′ : List ℕ) → out′ ≡ placed out (e .start + e .bytes) (payloads m (drop k (packets segment)))
+      → GoesOn segment k c e out (record { packets = m; slot = i; counter = (last + m) % 16 }) out′
+  all-went out′ put =
+      record {
+        passes = λ edition lens times some before st named s. went some edition lens times before st named s out′ put;
+        within = bounded .0;
+        unmoved = λ z. put ∙ none-kept out (e .start + e .bytes) (drop k (packets segment)) m z;
+      }

@@ -1,3 +1,4 @@
+pub mod Clearing
 pub mod Continuing
 pub mod Looping
 pub mod Passing

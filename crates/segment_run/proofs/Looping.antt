@@ -4,7 +4,7 @@ use mathlib.Core.Path.{_≡_, refl, sym, ap, subst, _∙_}
 use mathlib.Core.List.{List}
 use native.Mathlib.Numerals.{add-one}
 use lib.ListN.{length, drop}
-use Rattle.lists.specs.Lists.{Bytes, pick}
+use Rattle.lists.specs.Lists.{Bytes, zeros, pick}
 use Rattle.refusal.specs.Verdict.{Verdict, passed, _>>=_}
 use Rattle.refusal.specs.Number.{refusedBy}
 use Rattle.refusal.specs.declared.Refused.{Refused}
@@ -17,17 +17,18 @@ use Rattle.segment_rules.specs.State as state
 use Rattle.segment_rules.specs.State.{State, fresh, noneYet, counting, packetCount, kindOf}
 use Rattle.segment_rules.specs.Rules.{packetRules}
 use Rattle.packet.specs.Header.{packets}
-use Rattle.segment_rules.specs.Check.{Progress, Outputs, roomsOf, holdingFirsts, start, step, run}
+use Rattle.segment_rules.specs.Check.{Progress, Outputs, roomsOf, holdingFirsts, cleared, start, step, run}
 use Rattle.segment_rules.specs.Named.{Named}
 use Rattle.segment_rules.proofs.Keeping.{Holds}
 use Rattle.segment_rules.proofs.Naming.{packet-named}
 use Rattle.segment_rules.proofs.Growing.{packet-grows}
 use Rattle.plain.proofs.Places as places
 use Rattle.segment_rules.proofs.Running.{counting-one}
+use Rattle.tables.specs.declared.state.Outcome.{Outcome}
 use Rattle.tables.specs.declared.state.Outcome.the-variants as outcome
 use Rattle.tables.specs.declared.tables.Tables.{Tables}
 use Rattle.tables.specs.Tables.{Refines, freshTables, kindSays, packetAt}
-use Rattle.tables.proofs.Refining.{refines-refused, refused-refines, passed-refines}
+use Rattle.tables.proofs.Refining.{never-passed, refines-refused, refused-refines, passed-refines}
 use Rattle.tables.proofs.Standing.{tables-start}
 use Rattle.units.specs.declared.units.Extraction.{Extraction}
 use Rattle.extraction.specs.declared.packets.Stepped.{Stepped}
@@ -36,7 +37,7 @@ use Rattle.descriptor.specs.Naming.{editionSays}
 use Rattle.descriptor.specs.declared.edition.Edition.{Edition as EditionName}
 use Rattle.units.specs.Extraction.{freshExtraction, firstNoted}
 use Rattle.extraction.specs.Packets.{StateRepresents, PacketRefines}
-use Rattle.segment_run.specs.Run.{RunRefines, RunFirsts}
+use Rattle.segment_run.specs.Run.{Runs, freshResult}
 use Rattle.units.proofs.Holding.{units-start}
 use Rattle.units.proofs.Firsts.{none-held, notes}
 
@@ -64,15 +65,15 @@ running-start edition segment before old =
     }
 
 pub begins : (edition : EditionName) (segment : Bytes) (before : Outputs) (old : List ℕ) (c : Tables) (e : Extraction) (n : Totals)
-    → c ≡ freshTables edition → e ≡ freshExtraction → n ≡ noneYet → Running (editionSays (c .edition)) segment before before old old c e n 0
+    → c ≡ freshTables edition → e ≡ freshExtraction → n ≡ noneYet → Running (editionSays edition) segment before before old old c e n 0
 begins edition segment before old c e n f g h =
-    subst (λ (y : Tables). Running (editionSays (y .edition)) segment before before old old y e n 0) (sym f)
+    subst (λ (y : Tables). Running (editionSays edition) segment before before old old y e n 0) (sym f)
     (subst (λ (y : Extraction). Running (editionSays edition) segment before before old old (freshTables edition) y n 0) (sym g)
     (subst (λ (y : Totals). Running (editionSays edition) segment before before old old (freshTables edition) freshExtraction y 0) (sym h)
     (running-start edition segment before old)))
 
-module _ (edition : Edition) (segment : Bytes) (before now : Outputs) (old firsts : List ℕ) (c : Tables) (e : Extraction) (totals : Totals)
-    (k : ℕ) (inv : Running edition segment before now old firsts c e totals k) (h : k < length segment / packetLength) where
+module _ {edition : Edition} {segment : Bytes} {before now : Outputs} {old firsts : List ℕ} {c : Tables} {e : Extraction} {totals : Totals}
+    {k : ℕ} (inv : Running edition segment before now old firsts c e totals k) (h : k < length segment / packetLength) where
   abbrev here : State
   here = inv .state
 
@@ -125,34 +126,43 @@ module _ (edition : Edition) (segment : Bytes) (before now : Outputs) (old first
               (sym (add-one k));
         }
 
-    refused-there : (q : Refused) → r .outcome ≡ outcome.Refused q → run edition (roomsOf before) start (packets segment) ≡ refusedBy q
+    pub refused-there : (q : Refused) → r .outcome ≡ outcome.Refused q → run edition (roomsOf before) start (packets segment) ≡ refusedBy q
     unfolding _>>=_
     refused-there q w = next-packet ∙ ap then-on (refused-refines stepped _ (r .outcome) q w turned)
 
-    pub stops-there : (q : Refused) → r .outcome ≡ outcome.Refused q → (ran : RunResult) (last : Outputs) → ran .outcome ≡ r .outcome
-        → RunRefines
-        edition segment before ran last
-    stops-there q w ran last f =
-        refines-refused (run edition (roomsOf before) start (packets segment)) _ (ran .outcome) q (f ∙ w) (sym (refused-there q w))
+-- ---- what the run promises
+-- where a packet was refused, and the outputs are cleared
+pub stops : (edition : EditionName) (segment : Bytes) (before : Outputs) (old : List ℕ) (o : Outcome) (q : Refused) → o ≡ outcome.Refused q
+    → run (editionSays edition) (roomsOf before) start (packets segment) ≡ refusedBy q
+    → (ran : RunResult) → ran ≡ freshResult edition o → (after : Outputs) → after ≡ cleared before → (firsts : List ℕ) → firsts ≡ zeros old
+    → Runs edition segment before old ran after firsts
+stops edition segment before old o q told there ran made after left firsts none =
+    let same : ran .outcome ≡ o = ap (λ (r : RunResult). r .outcome) made in
+    record {
+      verdict = refines-refused _ _ (ran .outcome) q (same ∙ told) (sym there);
+      noted = λ g p. never (sym there ∙ p);
+      refused = λ _ _. record { result = made ∙ ap (freshResult edition) (sym same); leaves = left; began = none };
+    }
 
-    pub none-noted : (q : Refused) → r .outcome ≡ outcome.Refused q → (last : List ℕ) → RunFirsts edition segment (roomsOf before) old last
-    none-noted q w last g p = never (sym (refused-there q w) ∙ p)
-
-module _ (edition : Edition) (segment : Bytes) (before now : Outputs) (old firsts : List ℕ) (c : Tables) (e : Extraction) (totals : Totals)
-    (k : ℕ) (inv : Running edition segment before now old firsts c e totals k) (h : length segment / packetLength ≤ k) where
+-- where all passed
+module _ (edition : EditionName) (segment : Bytes) (before now : Outputs) (old firsts : List ℕ) (c : Tables) (e : Extraction)
+    (totals : Totals) (k : ℕ) (inv : Running (editionSays edition) segment before now old firsts c e totals k)
+    (h : length segment / packetLength ≤ k) where
   abbrev last : Progress
   last = record { index = k; state = inv .state; totals = totals }
 
-  all-passed : run edition (roomsOf before) start (packets segment) ≡ passed last
+  all-passed : run (editionSays edition) (roomsOf before) start (packets segment) ≡ passed last
   unfolding run
   all-passed =
       inv .rest
-      ∙ ap (run edition (roomsOf before) last) (places.no-packet segment k h)
+      ∙ ap (run (editionSays edition) (roomsOf before) last) (places.no-packet segment k h)
 
-  pub comes-to-end : RunRefines edition segment before
-      (record { tables = c; extraction = e; totals = totals; outcome = outcome.Passed }) now
-  comes-to-end = (last, all-passed, (inv .stands, refl))
-
-  pub all-noted : RunFirsts edition segment (roomsOf before) old firsts
-  all-noted g p =
-      inv .noted ∙ ap (λ (x : Progress). holdingFirsts (x .state .extraction .units) old) (passed-same last g (sym all-passed ∙ p))
+  pub ends : Runs edition segment before old (record { tables = c; extraction = e; totals = totals; outcome = outcome.Passed }) now firsts
+  ends =
+      record {
+        verdict = (last, all-passed, (inv .stands, refl));
+        noted =
+            λ g p. inv .noted
+            ∙ ap (λ (x : Progress). holdingFirsts (x .state .extraction .units) old) (passed-same last g (sym all-passed ∙ p));
+        refused = λ q w. never-passed q w refl;
+      }

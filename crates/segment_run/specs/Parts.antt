@@ -1,8 +1,10 @@
 -- What the promises of private functions cite; no public promise does: what the code's state stands for. No rule is
 -- said again here: a private function is promised by the rules of segment_rules that it carries out. Assumes nothing.
-use Prim.Native.Nat.{ℕ, zero, suc, _+_, _-_, _*_, _<_, _^_}
+use Prim.Native.Nat.{ℕ, zero, suc, _+_, _-_, _*_, _/_, _≤_, _<_, _^_}
 use mathlib.Core.Bool.{Bool, true, false}
 use mathlib.Core.Path.{_≡_}
+use mathlib.Core.List.{List}
+use lib.ListN.{length}
 use Rattle.lists.specs.Lists.{Bytes}
 use Rattle.refusal.specs.Verdict as verdict
 use Rattle.descriptor.specs.Edition.{Edition}
@@ -15,7 +17,7 @@ use Rattle.segment_rules.specs.declared.Totals.{Totals}
 use Rattle.segment_rules.specs.State as state
 use Rattle.segment_rules.specs.State.{State, kindOf, packetCount}
 use Rattle.segment_rules.specs.Rules.{Rooms, isPcr, packetRules}
-use Rattle.segment_rules.specs.Check.{Outputs, roomsOf}
+use Rattle.segment_rules.specs.Check.{Outputs, outputsOf, roomsOf}
 use Rattle.segment_rules.specs.Named.{Named}
 use Rattle.tables.specs.declared.tables.Tables.{Tables}
 use Rattle.tables.specs.declared.state.Kind.the-variants as kinds
@@ -84,6 +86,15 @@ module _ (edition : Edition) (segment : Bytes) where
       → StateRepresents edition segment before now c e st
       → (st′ : State) × Pass (roomsOf before) state.Av1 (r .packets) i st st′
       × StateRepresents edition segment before after (wentTables i c r) (wentUnits e r) st′
+
+-- in every edition, whatever the other outputs hold; the packets lie within the segment, and where there are none, the
+-- output is as it was
+pub record GoesOn (segment : Bytes) (i : ℕ) (c : Tables) (e : Extraction) (out : Bytes) (r : Went) (out′ : Bytes)
+    : Type 0 where
+  pub passes : (edition : Edition) (lens times : List ℕ)
+      → GoOnRefines edition segment i c e (outputsOf out lens times) r (outputsOf out′ lens times)
+  pub within : i + r .packets ≤ length segment / packetLength
+  pub unmoved : r .packets ≡ 0 → out′ ≡ out
 
 -- there is room for one more packet in each total
 abbrev pub CountsUpTo : Totals → Type 0

@@ -2,13 +2,20 @@
 use Prim.Native.Nat.{ℕ}
 use mathlib.Core.Path.{_≡_}
 use mathlib.Core.List.{List}
-use Rattle.lists.specs.Lists.{Bytes}
+use Rattle.lists.specs.Lists.{Bytes, zeros}
 use Rattle.refusal.specs.Verdict as verdict
+use Rattle.refusal.specs.declared.Refused.{Refused}
 use Rattle.descriptor.specs.Edition.{Edition}
+use Rattle.descriptor.specs.Naming.{editionSays}
+use Rattle.descriptor.specs.declared.edition.Edition.{Edition as EditionName}
 use Rattle.packet.specs.Header.{packets}
+use Rattle.segment_rules.specs.State.{noneYet}
 use Rattle.segment_rules.specs.Rules.{Rooms}
-use Rattle.segment_rules.specs.Check.{Outputs, Progress, roomsOf, holdingFirsts, start, run}
-use Rattle.tables.specs.Tables.{Refines}
+use Rattle.segment_rules.specs.Check.{Outputs, Progress, roomsOf, holdingFirsts, cleared, start, run}
+use Rattle.tables.specs.declared.state.Outcome.{Outcome}
+use Rattle.tables.specs.declared.state.Outcome.the-variants as outcome
+use Rattle.tables.specs.Tables.{Refines, freshTables}
+use Rattle.units.specs.Extraction.{freshExtraction}
 use Rattle.extraction.specs.Packets.{StateRepresents}
 use Rattle.segment_run.specs.declared.running.RunResult.{RunResult}
 
@@ -25,3 +32,23 @@ module _ (edition : Edition) (segment : Bytes) where
   RunFirsts rooms old firsts =
       (g : Progress) → run edition rooms start (packets segment) ≡ verdict.passed g
       → firsts ≡ holdingFirsts (g .state .extraction .units) old
+
+-- what there is before the first packet, beside a verdict
+abbrev pub freshResult : EditionName → Outcome → RunResult
+freshResult edition outcome =
+    record { tables = freshTables edition; extraction = freshExtraction; totals = noneYet; outcome = outcome }
+
+-- nothing is kept of the packets: zeros throughout the outputs, which held `before`, and throughout the list of first
+-- packets, which held `old`
+pub record Afresh (edition : EditionName) (before : Outputs) (old : List ℕ) (r : RunResult) (after : Outputs)
+    (firsts : List ℕ) : Type 0 where
+  pub result : r ≡ freshResult edition (r .outcome)
+  pub leaves : after ≡ cleared before
+  pub began : firsts ≡ zeros old
+
+-- what the run promises
+pub record Runs (edition : EditionName) (segment : Bytes) (before : Outputs) (old : List ℕ) (r : RunResult)
+    (after : Outputs) (firsts : List ℕ) : Type 0 where
+  pub verdict : RunRefines (editionSays edition) segment before r after
+  pub noted : RunFirsts (editionSays edition) segment (roomsOf before) old firsts
+  pub refused : (q : Refused) → r .outcome ≡ outcome.Refused q → Afresh edition before old r after firsts

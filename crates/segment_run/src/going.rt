@@ -1,11 +1,8 @@
 // Packets that go on with the open PES, without the tables being asked of each.
 ghost use mathlib.Core.Path.{_≡_};
-ghost use mathlib.Core.List.{List};
-ghost use Prim.Native.Nat.{ℕ, _+_, _/_, _≤_};
+ghost use Prim.Native.Nat.{_+_, _/_, _≤_};
 ghost use lib.ListN.{length};
-ghost use Rattle.descriptor.specs.Edition.{Edition};
-ghost use Rattle.segment_rules.specs.Check.{outputsOf};
-ghost use Rattle.segment_run.specs.Parts.{withLast, DueRefines, GoOnRefines};
+ghost use Rattle.segment_run.specs.Parts.{withLast, DueRefines, GoesOn};
 use lists::part;
 use packet::Last;
 use packet::PACKET_LENGTH;
@@ -98,11 +95,7 @@ pub(crate) fn go_on(
     out: &mut [u8],
 ) -> Went
     requires { ⌜ (index ≤ length (now segment) / 188) × (extraction .start + extraction .bytes ≤ length (now out)) ⌝ }
-    ensures { λ r. ⌜ ((edition : Edition) (lens times : List ℕ)
-        → GoOnRefines edition (now (segment .entry)) index tables
-        extraction (outputsOf (now (out .entry)) lens times) r (outputsOf (now (out .exit)) lens times)) ⌝ }
-    ensures { λ r. ⌜ index + r .packets ≤ length (now (segment .entry)) / 188 ⌝ }
-    ensures { λ r. ⌜ (r .packets ≡ 0 → now (out .exit) ≡ now (out .entry)) ⌝ }
+    ensures { λ r. ⌜ GoesOn (now (segment .entry)) index tables extraction (now (out .entry)) r (now (out .exit)) ⌝ }
 {
     let pid = pid_of(part(segment, index * PACKET_LENGTH, PACKET_LENGTH));
     let may = due_after(pid, tables, extraction);

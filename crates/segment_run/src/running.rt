@@ -1,9 +1,7 @@
 // The packets of a segment in order, those of some runs at once.
 ghost use mathlib.Core.Path.{_≡_};
-ghost use Rattle.descriptor.specs.Naming.{editionSays};
 ghost use Rattle.segment_rules.specs.Check.{outputsOf};
-ghost use Rattle.units.specs.Extraction.{roomsIn};
-ghost use Rattle.segment_run.specs.Run.{RunRefines, RunFirsts};
+ghost use Rattle.segment_run.specs.Run.{Runs, freshResult};
 use crate::going::go_on;
 use crate::going::with_last;
 use crate::totals::count_packet;
@@ -18,10 +16,11 @@ use tables::Outcome;
 use tables::Tables;
 use tables::fresh_tables;
 use units::Extraction;
+use units::clear;
 use units::fresh_extraction;
 use units::note_first;
 
-// What the packets have said, with the verdict on them.
+// What the packets have said, with the verdict on them; where one was refused, what there was before the first.
 pub struct RunResult {
     pub tables: Tables,
     pub extraction: Extraction,
@@ -42,7 +41,20 @@ fn all_passed(tables: Tables, extraction: Extraction, totals: Totals) -> RunResu
     }
 }
 
-// The packets in order. Bytes behind the last whole packet are none of them.
+// A packet was refused: nothing is kept of those before it.
+fn stopped(edition: Edition, outcome: Outcome) -> RunResult
+    ensures { λ r. ⌜ r ≡ freshResult edition outcome ⌝ }
+{
+    RunResult {
+        tables: fresh_tables(edition),
+        extraction: fresh_extraction(),
+        totals: none_yet(),
+        outcome,
+    }
+}
+
+// The packets in order, and in the outputs what is extracted of them; where one is refused, zeros throughout the four
+// outputs. Bytes behind the last whole packet are none of them.
 pub fn run(
     edition: Edition,
     segment: &[u8],
@@ -51,12 +63,9 @@ pub fn run(
     times: &mut [u64],
     firsts: &mut [usize],
 ) -> RunResult
-    ensures { λ r. ⌜ RunRefines (editionSays edition) (now (segment .entry))
-        (outputsOf (now (out .entry)) (now (lens .entry)) (now (times .entry))) r
-        (outputsOf (now (out .exit)) (now (lens .exit)) (now (times .exit))) ⌝ }
-    ensures { λ _. ⌜ RunFirsts (editionSays edition) (now (segment .entry))
-        (roomsIn (now (out .entry)) (now (lens .entry)) (now (times .entry))) (now (firsts .entry))
-        (now (firsts .exit)) ⌝ }
+    ensures { λ r. ⌜ Runs edition (now (segment .entry))
+        (outputsOf (now (out .entry)) (now (lens .entry)) (now (times .entry))) (now (firsts .entry)) r
+        (outputsOf (now (out .exit)) (now (lens .exit)) (now (times .exit))) (now (firsts .exit)) ⌝ }
 {
     let count = segment.len() / PACKET_LENGTH;
     let mut tables = fresh_tables(edition);
@@ -82,12 +91,8 @@ pub fn run(
         let stepped = step(segment, index, tables, extraction, out, lens, times);
         let outcome = stepped.outcome;
         let Outcome::Passed = outcome else {
-            return RunResult {
-                tables,
-                extraction,
-                totals,
-                outcome,
-            };
+            clear(out, lens, times, firsts);
+            return stopped(edition, outcome);
         };
         let kind = stepped.kind;
         let next = stepped.extraction;

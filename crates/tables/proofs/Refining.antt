@@ -1,13 +1,20 @@
 -- Laws of `Refines`: from an outcome and the verdict to a step that is carried out, and back. Assumes nothing.
 use Prim.Native.Nat.{ℕ}
-use mathlib.Core.Path.{_≡_, sym, ap, subst}
+use mathlib.Core.Path.{_≡_, refl, sym, ap, ap₂, subst, _∙_}
 use native.Mathlib.Omega.{arith}
+use Rattle.lists.specs.Lists.{Bytes}
 use Rattle.refusal.specs.Verdict.{Verdict, passed, _>>=_, atPlace}
 use Rattle.refusal.specs.Number.{refusedBy}
 use Rattle.refusal.specs.declared.Refused.{Refused}
+use Rattle.descriptor.specs.Edition.{Edition}
+use Rattle.descriptor.specs.declared.edition.Edition.{Edition as EditionName}
+use Rattle.segment_rules.specs.State as state
 use Rattle.tables.specs.declared.state.Outcome.{Outcome}
 use Rattle.tables.specs.declared.state.Outcome.the-variants as outcome
-use Rattle.tables.specs.Tables.{Refines, placedAt}
+use Rattle.tables.specs.declared.tables.Tables.{Tables}
+use Rattle.tables.specs.declared.tables.TablesResult.{TablesResult}
+use Rattle.tables.specs.Tables.{Refines, placedAt, TablesRepresent, freshTables}
+use Rattle.tables.specs.Parts.{handedBack}
 
 -- it did not pass
 pub never-passed : {P : Type 0} {o : Outcome} (q : Refused) → o ≡ outcome.Refused q → o ≡ outcome.Passed → P
@@ -47,3 +54,33 @@ module _ {A : Type 0} (v : Verdict A) (S : A → Type 0) where
   unfolding _>>=_
   refines-then {B} T f outcome.Passed t k = (f (t .0), ap (λ (w : Verdict A). w >>= λ a. passed (f a)) (t .1), k (t .0) (t .1) (t .2))
   refines-then {B} T f (outcome.Refused q) t k = ap (λ (w : Verdict A). w >>= λ a. passed (f a)) t
+
+-- ---- what a turn hands back
+-- where it refuses
+pub fresh-back : (edition : EditionName) (o : Outcome) (c : Tables) (q : Refused) → o ≡ outcome.Refused q → (fresh : Tables)
+    → fresh ≡ freshTables edition → record { tables = fresh; outcome = o } ≡ handedBack edition o c
+fresh-back edition o c q e fresh f =
+    ap₂ (λ (t : Tables) (x : Outcome). record { tables = t; outcome = x }) f e
+    ∙ sym (ap (λ (x : Outcome). handedBack edition x c) e)
+
+module _ (r : TablesResult) (edition : EditionName) (o : Outcome) (c : Tables) (back : r ≡ handedBack edition o c) where
+  -- it carries out the step that the turn carried out
+  pub hands-back : (rules : Edition) (segment : Bytes) (v : Verdict state.Tables) → Refines o v (TablesRepresent rules segment c)
+      → Refines (r .outcome) v (TablesRepresent rules segment (r .tables))
+  hands-back rules segment v t =
+      subst (λ (x : TablesResult). Refines (x .outcome) v (TablesRepresent rules segment (x .tables))) (sym back) (either o t)
+    where
+      either : (x : Outcome) → Refines x v (TablesRepresent rules segment c)
+          → Refines (handedBack edition x c .outcome) v (TablesRepresent rules segment (handedBack edition x c .tables))
+      either outcome.Passed u = u
+      either (outcome.Refused q) u = u
+
+  -- and where it refuses, the tables are fresh
+  pub hands-fresh : (q : Refused) → r .outcome ≡ outcome.Refused q
+      → r ≡ record { tables = freshTables edition; outcome = outcome.Refused q }
+  hands-fresh q e = back ∙ either o (sym (ap (λ (x : TablesResult). x .outcome) back) ∙ e)
+    where
+      either : (x : Outcome) → handedBack edition x c .outcome ≡ outcome.Refused q
+          → handedBack edition x c ≡ record { tables = freshTables edition; outcome = outcome.Refused q }
+      either outcome.Passed u = never-passed q u refl
+      either (outcome.Refused p) u = ap (λ (x : Outcome). record { tables = freshTables edition; outcome = x }) u

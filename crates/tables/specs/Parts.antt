@@ -3,6 +3,7 @@ use Prim.Native.Nat.{ℕ}
 use mathlib.Core.Path.{_≡_}
 use Rattle.lists.specs.Lists.{Bytes}
 use Rattle.descriptor.specs.Edition.{Edition}
+use Rattle.descriptor.specs.declared.edition.Edition.{Edition as EditionName}
 use Rattle.packet.specs.Header.{fields}
 use Rattle.packet.specs.declared.header.Header.{Header}
 use Rattle.packet.specs.declared.header.Clock.{Clock}
@@ -26,7 +27,8 @@ use Rattle.tables.specs.declared.state.Outcome.the-variants.{Passed, Ref
 use Rattle.tables.specs.declared.counters.Counters.{Counters}
 use Rattle.tables.specs.declared.counters.CountersResult.{CountersResult}
 use Rattle.tables.specs.declared.tables.Tables.{Tables}
-use Rattle.tables.specs.Tables.{Refines, recordIn, packetAt, TablesRepresent, kindSays, SlotOf}
+use Rattle.tables.specs.declared.tables.TablesResult.{TablesResult}
+use Rattle.tables.specs.Tables.{Refines, recordIn, packetAt, TablesRepresent, freshTables, kindSays, SlotOf}
 
 -- ---- the records of the counters
 -- the outcome of a counter's check
@@ -66,6 +68,11 @@ CountedRefines segment k c r =
     → Represents segment (recordIn (k .kind) c) t → CountedAs segment t p r
 
 -- ---- the tables
+-- after a turn with this outcome, in this edition
+abbrev pub handedBack : EditionName → Outcome → Tables → TablesResult
+handedBack edition Passed c = record { tables = c; outcome = Passed }
+handedBack edition (Refused q) c = record { tables = freshTables edition; outcome = Refused q }
+
 -- what a PID is that is none of 0x1FFF, 0 and the map PID
 abbrev pub ListedRefines : Edition → Tables → ℕ → Kind → Type 0
 ListedRefines edition c n k =

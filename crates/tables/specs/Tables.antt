@@ -11,6 +11,7 @@ use Rattle.lists.specs.Lists.{Bytes}
 use Rattle.refusal.specs.Verdict.{Verdict}
 use Rattle.refusal.specs.Verdict as verdict
 use Rattle.refusal.specs.Number.{refusedBy}
+use Rattle.refusal.specs.declared.Refused as refusal
 use Rattle.descriptor.specs.Edition.{Edition}
 use Rattle.descriptor.specs.Naming.{editionSays}
 use Rattle.descriptor.specs.declared.edition.Edition.{Edition as EditionName}
@@ -168,6 +169,12 @@ abbrev pub CarriesOut : Edition → Bytes → Tables → TablesResult → (state
 CarriesOut edition segment c r step =
     (t : state.Tables) → Named t → TablesRepresent edition segment c t
     → Refines (r .outcome) (step t) (TablesRepresent edition segment (r .tables))
+
+-- where it refuses, nobody goes on from it: the tables before the first packet are handed back, with the refusal
+abbrev pub TurnRefused : Tables → TablesResult → Type 0
+TurnRefused c r =
+    (q : refusal.Refused) → r .outcome ≡ Refused q
+    → r ≡ record { tables = freshTables (c .edition); outcome = Refused q }
 
 -- the kind's slot is where the lookup finds the PID among the records
 abbrev pub SlotOf : Tables → ℕ → Kind → Type 0

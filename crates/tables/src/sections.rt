@@ -8,7 +8,7 @@ ghost use Rattle.refusal.specs.Number.{numberOf};
 ghost use Rattle.descriptor.specs.Edition.{Edition};
 ghost use Rattle.segment_rules.specs.State as state;
 ghost use Rattle.segment_rules.specs.Rules.{laterSection, patSection, pmtSection, sectionRead};
-ghost use Rattle.tables.specs.Tables.{Refines, LiesAt, CarriesOut, kindSays};
+ghost use Rattle.tables.specs.Tables.{Refines, LiesAt, CarriesOut, TurnRefused, kindSays};
 use crate::counters::Counters;
 use crate::state::Kind;
 use crate::state::Outcome;
@@ -18,6 +18,7 @@ use crate::state::PmtFound;
 use crate::state::PmtSeen;
 use crate::tables::Tables;
 use crate::tables::TablesResult;
+use crate::tables::handed_back;
 use lists::part;
 use packet::Stream;
 use packet::Streams;
@@ -243,7 +244,7 @@ fn within(segment: &[u8], at: usize) -> usize
 }
 
 // The payload of a packet whose PID is of this kind, which lies at this place of the segment; 25 to 28.
-pub fn read_section(
+fn read_payload(
     segment: &[u8],
     at: usize,
     payload: &[u8],
@@ -264,4 +265,26 @@ pub fn read_section(
         Kind::Listed(_) => pass(tables),
         Kind::Unlisted => pass(tables),
     }
+}
+
+// The payload of a packet whose PID is of this kind, which lies at this place of the segment; 25 to 28. Where it
+// refuses, the tables before the first packet are handed back.
+pub fn read_section(
+    segment: &[u8],
+    at: usize,
+    payload: &[u8],
+    start: bool,
+    kind: Kind,
+    tables: Tables,
+) -> TablesResult
+    ensures { λ r. ⌜ (LiesAt (now (segment .entry)) at (now (payload .entry)) → (edition : Edition) →
+        CarriesOut edition (now (segment .entry)) tables r
+        (sectionRead edition (kindSays kind) start (now (payload .entry)))) ⌝ }
+    ensures { λ r. ⌜ TurnRefused tables r ⌝ }
+{
+    let edition = tables.edition;
+    let turn = read_payload(segment, at, payload, start, kind, tables);
+    let outcome = turn.outcome;
+    let read = turn.tables;
+    handed_back(edition, outcome, read)
 }

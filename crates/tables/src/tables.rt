@@ -3,8 +3,8 @@ ghost use mathlib.Core.Path.{_≡_};
 ghost use Rattle.pmt.specs.Answer.{noEntry};
 ghost use lib.ListN.{getD};
 ghost use Rattle.descriptor.specs.Edition.{Edition as Edition·rules};
-ghost use Rattle.tables.specs.Tables.{freshTables, KindRefines, CounterRefines};
-ghost use Rattle.tables.specs.Parts.{ListedRefines, PcrRefines};
+ghost use Rattle.tables.specs.Tables.{freshTables, KindRefines, CounterRefines, TurnRefused};
+ghost use Rattle.tables.specs.Parts.{handedBack, ListedRefines, PcrRefines};
 ghost use Rattle.segment_rules.specs.Rules.{isPcr};
 use crate::counters::Counters;
 use crate::counters::fresh_counters;
@@ -140,9 +140,28 @@ fn last_pcr(tables: Tables, header: Header) -> Clock
     }
 }
 
-// The packet's PCR counts, and its counter is checked; 24.
+// The tables after a turn; where it refuses, those before the first packet.
+pub(crate) fn handed_back(edition: Edition, outcome: Outcome, tables: Tables) -> TablesResult
+    ensures { λ r. ⌜ r ≡ handedBack edition outcome tables ⌝ }
+{
+    let Outcome::Passed = outcome else {
+        let fresh = fresh_tables(edition);
+        return TablesResult {
+            tables: fresh,
+            outcome,
+        };
+    };
+    TablesResult {
+        tables,
+        outcome: Outcome::Passed,
+    }
+}
+
+// The packet's PCR counts, and its counter is checked; 24. Where it refuses, the tables before the first packet are
+// handed back.
 pub fn check_counter(segment: &[u8], packet: Packet, tables: Tables) -> TablesResult
     ensures { λ r. ⌜ ((edition : Edition·rules) → CounterRefines edition (now (segment .entry)) packet tables r) ⌝ }
+    ensures { λ r. ⌜ TurnRefused tables r ⌝ }
 {
     let header = packet.header;
     let pcr = last_pcr(tables, header);
@@ -163,8 +182,6 @@ pub fn check_counter(segment: &[u8], packet: Packet, tables: Tables) -> TablesRe
         counters,
         pcr,
     };
-    TablesResult {
-        tables: counted,
-        outcome: at_place(packet.index, outcome),
-    }
+    let verdict = at_place(packet.index, outcome);
+    handed_back(edition, verdict, counted)
 }

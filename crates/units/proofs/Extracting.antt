@@ -7,7 +7,7 @@ use mathlib.Core.Option.{Option, some}
 use native.Mathlib.Omega.{arith}
 use borrow.Author.Tests.{lt-ltb, le-ltb}
 use lib.Dec.{ltb}
-use lib.ListN.{length, take, drop, set}
+use lib.ListN.{length, take, drop}
 use Rattle.lists.specs.Lists.{Bytes, pick, placed}
 use Rattle.lists.proofs.Tests.{case, or-by-true, or-by-false}
 use Rattle.refusal.specs.Verdict.{Verdict, passed, refused, _>>=_, _>>_, given, atPlace}
@@ -26,25 +26,25 @@ use Rattle.unit.specs.Answer.{checking}
 use Rattle.unit.specs.declared.reading.Counts.{Counts}
 use Rattle.segment_rules.specs.State as state
 use Rattle.segment_rules.specs.State.{OpenPes, State, withExtraction, withPes, withUnit}
-use Rattle.segment_rules.specs.Rules.{Rooms, inSequence, onUnits, rule, rule29, rule30, rule31, rule34, rule8, carried, addedTo, av1Start}
-use Rattle.segment_rules.specs.Rules.{av1More, closeOpen, closeIfOpen, closePes, unitOf, lengthWrong, isOpen, isPcr, openBytes}
+use Rattle.segment_rules.specs.Rules.{Rooms, Rule, inSequence, onUnits, rule, rule29, rule30, rule31, rule34, rule8, carried, addedTo}
+use Rattle.segment_rules.specs.Rules.{av1Start, av1More, closeOpen, closeIfOpen, closePes, unitOf, lengthWrong, isOpen, isPcr, openBytes}
 use Rattle.segment_rules.specs.Rules.{carriedSoFar, mostUnits, withNext, payloadRules, pesRules}
-use Rattle.segment_rules.specs.Check.{Outputs, outputsOf, roomsOf, ptsAndDts}
+use Rattle.segment_rules.specs.Check.{Outputs, outputsOf, roomsOf}
 use Rattle.segment_rules.proofs.Sequence.{bind-same, then-same, sequence-append, rule-then, starts, adds}
 use Rattle.tables.specs.declared.state.Outcome.{Outcome}
 use Rattle.tables.specs.declared.state.Outcome.the-variants as outcome
 use Rattle.tables.specs.Tables.{Refines}
-use Rattle.tables.proofs.Refining.{refines-refused, refused-refines, passed-refines, refines-as}
+use Rattle.tables.proofs.Refining.{refines-refused, refused-refines, passed-refines, refines-as, refines-also}
 use Rattle.units.specs.declared.state.PesFound.{PesFound}
 use Rattle.units.specs.declared.state.PesSeen.{PesSeen}
 use Rattle.units.specs.declared.state.PesSeen.the-variants as seen
 use Rattle.units.specs.declared.outputs.Rooms as code
 use Rattle.units.specs.declared.units.Extraction.{Extraction}
 use Rattle.units.specs.declared.units.ExtractionResult.{ExtractionResult}
-use Rattle.units.specs.Extraction.{openPes, pesOf, unitsBegun, Fits, UnitsRepresent, PayloadOf, PesRefines}
-use Rattle.units.specs.Parts.{isAbsent, RoomsRepresent}
+use Rattle.units.specs.Extraction.{openPes, pesOf, freshExtraction, unitsBegun, UnitsRepresent, PayloadOf, PesRefines, UnitsRefused}
+use Rattle.units.specs.Parts.{isAbsent, closedUnits, lensClosed, timesClosed, JudgedRefines, RoomsRepresent, OpeningRefines}
 use Rattle.units.proofs.Holding.{written, same-bytes, same-lens, same-times, unit-bytes, stands-opened, stands-added}
-use Rattle.units.proofs.Holding.{stands-closed}
+use Rattle.units.proofs.Holding.{stands-already, stands-put, stands-as, lens-kept, times-kept}
 
 -- ---- the unit of a PES that closes
 module _ (o : OpenPes) (x : state.Extraction) where
@@ -71,18 +71,20 @@ module _ (o : OpenPes) (x : state.Extraction) where
 
 -- ---- the open PES closes
 -- its unit's length and times have their places
-pub unit-fits : {e : Extraction} {rooms : Rooms} (f : PesFound) → Fits e rooms → e .pes ≡ seen.Open f → (e .units < rooms .lens) ×
-    (2 * e .units + 1 < rooms .times)
-unit-fits {e} f fits o =
+pub unit-placed : (e : Extraction) (f : PesFound) → e .pes ≡ seen.Open f → (m n : ℕ) → unitsBegun (e .pes) (e .units) ≤ m
+    → 2 * unitsBegun (e .pes) (e .units) ≤ n → (e .units < m) × (2 * e .units + 1 < n)
+unit-placed e f o m n inLens inTimes =
     let begun : unitsBegun (e .pes) (e .units) ≡ e .units + 1 = ap (λ (p : PesSeen). unitsBegun p (e .units)) o in
-    (omega (arith, begun, fits .inLens), omega (arith, begun, fits .inTimes))
+    (omega (arith, begun, inLens), omega (arith, begun, inTimes))
 
 module _ {before : Outputs} {out lens times : List ℕ} {e : Extraction} {x : state.Extraction}
     (s : UnitsRepresent before (outputsOf out lens times) e x) where
   -- there is none
-  pub none-closes : e .pes ≡ seen.Closed → Refines outcome.Passed (closePes x) (UnitsRepresent before (outputsOf out lens times) e)
+  pub none-closes : e .pes ≡ seen.Closed → Refines outcome.Passed (closePes x)
+      (UnitsRepresent before (outputsOf out (lensClosed e lens) (timesClosed e times)) (closedUnits e))
   unfolding closeIfOpen
-  none-closes c = (x, ap (λ (p : Option OpenPes). closeIfOpen p x) (s .pes ∙ ap (pesOf (openBytes (x .pes))) c), s)
+  none-closes c =
+      (x, ap (λ (p : Option OpenPes). closeIfOpen p x) (s .pes ∙ ap (pesOf (openBytes (x .pes))) c), stands-already s c)
 
   module _ (f : PesFound) (o : e .pes ≡ seen.Open f) where
     is-open : x .pes ≡ some (openPes f (openBytes (x .pes)))
@@ -101,28 +103,29 @@ module _ {before : Outputs} {out lens times : List ℕ} {e : Extraction} {x : st
             (subst (λ (b : Bytes). Refines judged (closeOpen (openPes f b) x) (λ z. z ≡ withUnit (unitOf (openPes f b)) x))
             (lent ∙ unit-bytes s) (says x))
 
-        -- it was refused
-        pub refused-closes : (q : Refused) → judged ≡ outcome.Refused q → Refines judged (closePes x)
-            (UnitsRepresent before (outputsOf out lens times) e)
-        refused-closes q k = refines-refused (closePes x) _ judged q k (sym (refused-refines (closePes x) _ judged q k closes))
+        -- is that on the closing; where it passes, its length and times are in their places
+        pub unit-closes : Refines judged (closePes x)
+            (UnitsRepresent before (outputsOf out (lensClosed e lens) (timesClosed e times)) (closedUnits e))
+        unit-closes =
+            refines-also (closePes x) (λ z. z ≡ withUnit (unitOf (openPes f (openBytes (x .pes)))) x)
+            (UnitsRepresent before (outputsOf out (lensClosed e lens) (timesClosed e times)) (closedUnits e)) judged closes
+            (λ z _ k. subst (UnitsRepresent before (outputsOf out (lensClosed e lens) (timesClosed e times)) (closedUnits e)) (sym k)
+            (stands-put s f o))
 
-        -- it passed, and its length and times are in their places
-        pub passed-closes : (p d : ℕ) (lens′ times′ : List ℕ) → judged ≡ outcome.Passed → p ∷ d ∷ [] ≡ ptsAndDts (f .header .times) → lens′
-            ≡
-            set lens (e .units) (e .bytes)
-            → times′ ≡ set (set times (2 * e .units) p) (2 * e .units + 1) d
-            → Refines outcome.Passed (closePes x)
-            (UnitsRepresent before (outputsOf out lens′ times′) (record
-            { pes = seen.Closed; units = e .units + 1; start = e .start + e .bytes; bytes = 0 }))
-        passed-closes p d lens′ times′ k pair l t =
-            let e′ : Extraction = record { pes = seen.Closed; units = e .units + 1; start = e .start + e .bytes; bytes = 0 } in
-            let c = passed-refines (closePes x) _ judged k closes in
-            let x′ = withUnit (unitOf (openPes f (openBytes (x .pes)))) x in
-            let stands =
-            subst (λ (ls : List ℕ). UnitsRepresent before (outputsOf out ls times′) e′ x′) (sym l)
-            (subst (λ (ts : List ℕ). UnitsRepresent before (outputsOf out (set lens (e .units) (e .bytes)) ts) e′ x′) (sym t)
-            (stands-closed s f o p d pair)) in
-            (x′, c .1 ∙ ap passed (c .2), stands)
+-- its verdict; where that passes, the unit's length and times stand in their places
+module _ {e : Extraction} {out : Bytes} (o : Outcome) (says : JudgedRefines e out o) (before : Outputs) (lens times : List ℕ)
+    (x : state.Extraction) (s : UnitsRepresent before (outputsOf out lens times) e x) where
+  pub closes-refused : (q : Refused) → o ≡ outcome.Refused q → (r : Outcome) → r ≡ o → (S : state.Extraction → Type 0)
+      → Refines r (closePes x) S
+  closes-refused q k r same S =
+      refines-refused (closePes x) S r q (same ∙ k) (sym (refused-refines (closePes x) _ o q k (says lens times before x s)))
+
+  pub closes-passed : o ≡ outcome.Passed → (lens′ times′ : List ℕ) (e′ : Extraction) → lens′ ≡ lensClosed e lens
+      → times′ ≡ timesClosed e times → e′ ≡ closedUnits e
+      → Refines outcome.Passed (closePes x) (UnitsRepresent before (outputsOf out lens′ times′) e′)
+  closes-passed k lens′ times′ e′ l t m =
+      let c = passed-refines (closePes x) _ o k (says lens times before x s) in
+      (c .0, c .1, stands-as (c .2) l t m)
 
 -- ---- the rooms, from the code's places
 module _ {before now : Outputs} {e : Extraction} {x : state.Extraction} (s : UnitsRepresent before now e x) where
@@ -367,39 +370,63 @@ module _ (edition : Edition) (i : ℕ) (p w : Bytes) (st : State) (before : Outp
               ),
             )
 
+-- a refusal says nothing of the outputs
+pub refused-also : (before : Outputs) (rules : List Rule) (st : State) (r : ExtractionResult) (q : Refused) → r .outcome ≡ outcome.Refused q
+    → (after other : Outputs) → PesRefines before rules st r after → PesRefines before rules st r other
+refused-also before rules st r q k after other t =
+    refines-refused (inSequence rules st) _ (r .outcome) q k (sym (refused-refines (inSequence rules st) _ (r .outcome) q k t))
+
+-- ---- what is handed back
+pub fresh-refused : {A : Type 0} (r : ExtractionResult) (o : Outcome) → r ≡ record { extraction = freshExtraction; outcome = o } → (now : A)
+    → UnitsRefused now r now
+fresh-refused r o e now q k = (
+  e ∙ ap (λ (x : Outcome). record { extraction = freshExtraction; outcome = x }) (sym (ap (λ (x : ExtractionResult). x .outcome) e) ∙ k),
+  refl,
+)
+
 -- ---- a payload that starts a PES
 module _ (edition : Edition) (i : ℕ) (p w : Bytes) (st : State) (before : Outputs) (is : PayloadOf p true w) where
   abbrev all : Verdict State
   all = inSequence (pesRules edition (roomsOf before) i p state.Av1) st
 
-  module _ (v : ExtractionResult) (mid : Outputs) (closed : Refines (v .outcome) (closePes (st .extraction))
-      (UnitsRepresent before mid (v .extraction))) where
-    -- the closing refused
-    pub starts-refused : (q : Refused) → v .outcome ≡ outcome.Refused q → (after : Outputs) → PesRefines before
-        (pesRules edition (roomsOf before) i p state.Av1) st v after
-    unfolding onUnits _>>=_
-    starts-refused q k after =
-        refines-refused all _ (v .outcome) q k
-        (sym (starts edition (roomsOf before) i p st (is .carries) (is .starts)
-        ∙ ap (λ (y : Verdict state.Extraction). (y >>= λ x. passed (withExtraction x st)) >>= inSequence
-        (payloadRules edition (roomsOf before) i p state.Av1))
-        (refused-refines (closePes (st .extraction)) (UnitsRepresent before mid (v .extraction)) (v .outcome) q k closed)))
+  -- what follows the closing
+  abbrev rest : Verdict state.Extraction → Verdict State
+  rest v = (v >>= λ x. passed (withExtraction x st)) >>= inSequence (payloadRules edition (roomsOf before) i p state.Av1)
 
-    -- it passed, and the opening follows from the state that it left
-    pub starts-opens : (r : ExtractionResult) (after : Outputs) → v .outcome ≡ outcome.Passed
-        → ((st1 : State) → st1 .tables ≡ st .tables → UnitsRepresent before mid (v .extraction) (st1 .extraction)
-        → PesRefines before (payloadRules edition (roomsOf before) i p state.Av1) st1 r after)
+  starts-with : all ≡ rest (closePes (st .extraction))
+  unfolding onUnits
+  starts-with = starts edition (roomsOf before) i p st (is .carries) (is .starts)
+
+  module _ {e : Extraction} {out lens times : List ℕ} (s : UnitsRepresent before (outputsOf out lens times) e (st .extraction))
+      (o : Outcome) (says : JudgedRefines e out o) where
+    -- the closing refused
+    pub starts-refused : (q : Refused) → o ≡ outcome.Refused q → (r : ExtractionResult) → r .outcome ≡ o → (after : Outputs)
         → PesRefines before (pesRules edition (roomsOf before) i p state.Av1) st r after
-    unfolding onUnits _>>=_
-    starts-opens r after k opened =
-        let c = passed-refines (closePes (st .extraction)) (UnitsRepresent before mid (v .extraction)) (v .outcome) k closed in
-        let st1 = withExtraction (c .0) st in
-        refines-as (inSequence (payloadRules edition (roomsOf before) i p state.Av1) st1)
+    unfolding _>>=_
+    starts-refused q k r same after =
+        refines-refused all _ (r .outcome) q (same ∙ k)
+        (sym (starts-with
+        ∙ ap rest (refused-refines (closePes (st .extraction)) _ o q k (says lens times before (st .extraction) s))))
+
+    -- it passed, and the opening follows from the state that it leaves
+    pub starts-opens : o ≡ outcome.Passed → (next : Extraction) → next ≡ closedUnits e → (rooms : code.Rooms)
+        → RoomsRepresent rooms (outputsOf out lens times) → (pcrSeen : Bool) → isPcr (st .tables .pcr) ≡ pcrSeen
+        → (r : ExtractionResult) (out′ : Bytes) → OpeningRefines edition i w pcrSeen next rooms out r out′
+        → PesRefines before (pesRules edition (roomsOf before) i p state.Av1) st r
+        (outputsOf out′ (lensClosed e lens) (timesClosed e times))
+    unfolding _>>=_
+    starts-opens k next is-next rooms room pcrSeen pcr r out′ opened =
+        let after = outputsOf out′ (lensClosed e lens) (timesClosed e times) in
+        let c = passed-refines (closePes (st .extraction)) _ o k (says lens times before (st .extraction) s) in
+        refines-as (inSequence (payloadRules edition (roomsOf before) i p state.Av1) (withExtraction (c .0) st))
         (λ st′. (st′ .tables ≡ st .tables) × UnitsRepresent before after (r .extraction) (st′ .extraction)) all (r .outcome)
-        (sym (starts edition (roomsOf before) i p st (is .carries) (is .starts)
-        ∙ ap (λ (y : Verdict state.Extraction). (y >>= λ x. passed (withExtraction x st)) >>= inSequence
-        (payloadRules edition (roomsOf before) i p state.Av1)) (c .1)))
-        (opened st1 refl (c .2))
+        (sym (starts-with ∙ ap rest (c .1)))
+        (opened before (lensClosed e lens) (timesClosed e times) p (withExtraction (c .0) st)
+        (record {
+          bytes = room .bytes;
+          lens = room .lens ∙ sym (lens-kept (e .pes) (e .units) (e .bytes) lens);
+          times = room .times ∙ sym (times-kept (e .pes) (e .units) times);
+        }) is pcr (ap (λ (y : Extraction). y .pes) is-next) (stands-as (c .2) refl refl is-next))
 
 -- ---- a payload that goes on with the open PES
 module _ (edition : Edition) (i : ℕ) (p w : Bytes) (st : State) {before : Outputs} {out lens times : List ℕ} {e : Extraction}

@@ -5,14 +5,15 @@
 use Prim.Native.Nat.{ℕ, suc, _+_, _*_, _≤_, _<_}
 use mathlib.Core.Path.{_≡_, refl, sym, ap, ap₂, subst, _∙_}
 use mathlib.Core.List.{List, [], _∷_, _++_, map, flatten, append-nil, append-assoc}
+use mathlib.Core.Option.{Option, none}
 use native.Mathlib.Omega.{arith}
-use lib.ListN.{length, take, drop, set, length-append, length-drop}
+use lib.ListN.{length, take, drop, set, getD, length-append, length-drop, length-set}
 use lib.Seq.{take-append-seam, drop-append-seam, drop-drop, drop-cons, set-append-seam}
 use Rattle.lists.specs.Lists.{Bytes, over, placed}
 use Rattle.pes.specs.declared.header.Times.{Times}
 use Rattle.pes.specs.declared.header.Times.the-variants.{Absent, Stamps}
 use Rattle.segment_rules.specs.State as state
-use Rattle.segment_rules.specs.State.{AccessUnit, withPes, withUnit, noUnits}
+use Rattle.segment_rules.specs.State.{OpenPes, AccessUnit, withPes, withUnit, noUnits}
 use Rattle.segment_rules.specs.Rules.{openBytes, carriedUnits, carriedSoFar, unitOf}
 use Rattle.segment_rules.specs.Check.{Outputs, outputsOf, roomsOf, lengths, ptsAndDts, timesInTurn, holding}
 use Rattle.units.specs.declared.state.PesFound.{PesFound}
@@ -20,6 +21,7 @@ use Rattle.units.specs.declared.state.PesSeen.{PesSeen}
 use Rattle.units.specs.declared.state.PesSeen.the-variants as seen
 use Rattle.units.specs.declared.units.Extraction.{Extraction}
 use Rattle.units.specs.Extraction.{openPes, pesOf, freshExtraction, unitsBegun, Fits, UnitsRepresent}
+use Rattle.units.specs.Parts.{closedUnits, lensPut, timesPut, lensClosed, timesClosed}
 
 -- ---- what stands over the front of an output
 pub length-over : (w b : List ℕ) → length w ≤ length b → length (over w b) ≡ length b
@@ -194,6 +196,34 @@ module _ {before : Outputs} {out lens times : List ℕ} {e : Extraction} {x : st
             };
       }
 
+-- ---- the open PES closes
+-- the outputs keep their lengths
+pub lens-kept : (p : PesSeen) (unit bytes : ℕ) (lens : List ℕ) → length (lensPut p unit bytes lens) ≡ length lens
+lens-kept seen.Closed unit bytes lens = refl
+lens-kept (seen.Open f) unit bytes lens = length-set lens unit bytes
+
+pub times-kept : (p : PesSeen) (unit : ℕ) (times : List ℕ) → length (timesPut p unit times) ≡ length times
+times-kept seen.Closed unit times = refl
+times-kept (seen.Open f) unit times =
+    length-set (set times (2 * unit) (getD (ptsAndDts (f .header .times)) 0 0)) (2 * unit + 1) (getD (ptsAndDts (f .header .times)) 1 0)
+    ∙ length-set times (2 * unit) (getD (ptsAndDts (f .header .times)) 0 0)
+
+-- there is none
+pub stands-already : {before : Outputs} {out lens times : List ℕ} {e : Extraction} {x : state.Extraction}
+    → UnitsRepresent before (outputsOf out lens times) e x → e .pes ≡ seen.Closed
+    → UnitsRepresent before (outputsOf out (lensClosed e lens) (timesClosed e times)) (closedUnits e) x
+stands-already {before} {out} {lens} {times} {e} {x} s c =
+    let none-is : x .pes ≡ none = s .pes ∙ ap (pesOf (openBytes (x .pes))) c in
+    record {
+      pes = none-is;
+      units = ap (λ (p : PesSeen). unitsBegun p (e .units)) c ∙ s .units;
+      start = written s ∙ ap length (none-open s c);
+      bytes = sym (ap (λ (p : Option OpenPes). length (openBytes p)) none-is);
+      outputs =
+          ap (λ (p : PesSeen). outputsOf out (lensPut p (e .units) (e .bytes) lens) (timesPut p (e .units) times)) c ∙ s .outputs;
+      fits = record { inBytes = omega (arith, s .fits .inBytes); inLens = s .fits .inLens; inTimes = s .fits .inTimes };
+    }
+
 -- ---- a unit's end
 module _ {before : Outputs} {out lens times : List ℕ} {e : Extraction} {x : state.Extraction}
     (s : UnitsRepresent before (outputsOf out lens times) e x) (f : PesFound)
@@ -224,7 +254,7 @@ module _ {before : Outputs} {out lens times : List ℕ} {e : Extraction} {x : st
       ∙ ap (λ (l : List ℕ). over l (before .times))
       (append-assoc t (p ∷ []) (d ∷ []) ∙ ap (λ (l : List ℕ). t ++ l) pair ∙ sym (flatten-last (λ u. ptsAndDts (u .times)) (x .units) unit))
 
-  pub stands-closed : UnitsRepresent before (outputsOf out (set lens (e .units) (e .bytes))
+  stands-closed : UnitsRepresent before (outputsOf out (set lens (e .units) (e .bytes))
       (set (set times (2 * e .units) p) (2 * e .units + 1) d))
       (record { pes = seen.Closed; units = e .units + 1; start = e .start + e .bytes; bytes = 0 }) (withUnit unit x)
   stands-closed =
@@ -248,3 +278,41 @@ module _ {before : Outputs} {out lens times : List ℕ} {e : Extraction} {x : st
                   (arith, begun, s .fits .inTimes);
             };
       }
+
+-- the same as the code has it
+two-of : (t : Times) → getD (ptsAndDts t) 0 0 ∷ getD (ptsAndDts t) 1 0 ∷ [] ≡ ptsAndDts t
+unfolding ptsAndDts
+two-of Absent = refl
+two-of (Stamps pts dts) = refl
+
+pub stands-put : {before : Outputs} {out lens times : List ℕ} {e : Extraction} {x : state.Extraction}
+    → UnitsRepresent before (outputsOf out lens times) e x → (f : PesFound) → e .pes ≡ seen.Open f
+    → UnitsRepresent before (outputsOf out (lensClosed e lens) (timesClosed e times)) (closedUnits e)
+    (withUnit (unitOf (openPes f (openBytes (x .pes)))) x)
+stands-put {before} {out} {lens} {times} {e} {x} s f o =
+    subst (λ (p : PesSeen). UnitsRepresent before (outputsOf out (lensPut p (e .units) (e .bytes) lens) (timesPut p (e .units) times))
+    (record { pes = seen.Closed; units = unitsBegun p (e .units); start = e .start + e .bytes; bytes = 0 })
+    (withUnit (unitOf (openPes f (openBytes (x .pes)))) x)) (sym o)
+    (stands-closed s f o (getD (ptsAndDts (f .header .times)) 0 0) (getD (ptsAndDts (f .header .times)) 1 0) (two-of (f .header .times)))
+
+-- what the code puts in place is that
+module _ (e : Extraction) (f : PesFound) (o : e .pes ≡ seen.Open f) where
+  pub lens-put : (lens lens′ : List ℕ) → lens′ ≡ set lens (e .units) (e .bytes) → lens′ ≡ lensClosed e lens
+  lens-put lens lens′ k = k ∙ sym (ap (λ (p : PesSeen). lensPut p (e .units) (e .bytes) lens) o)
+
+  pub times-put : (times times′ : List ℕ) (p d : ℕ) → p ∷ d ∷ [] ≡ ptsAndDts (f .header .times)
+      → times′ ≡ set (set times (2 * e .units) p) (2 * e .units + 1) d → times′ ≡ timesClosed e times
+  times-put times times′ p d pair k =
+      k
+      ∙ ap₂ (λ (x y : ℕ). set (set times (2 * e .units) x) (2 * e .units + 1) y) (ap (λ (l : List ℕ). getD l 0 0) pair)
+      (ap (λ (l : List ℕ). getD l 1 0) pair)
+      ∙ sym (ap (λ (q : PesSeen). timesPut q (e .units) times) o)
+
+-- the same under other names
+pub stands-as : {before : Outputs} {out lens times lens′ times′ : List ℕ} {e e′ : Extraction} {x : state.Extraction}
+    → UnitsRepresent before (outputsOf out lens times) e x → lens′ ≡ lens → times′ ≡ times → e′ ≡ e
+    → UnitsRepresent before (outputsOf out lens′ times′) e′ x
+stands-as {before} {out} {lens} {times} {lens′} {times′} {e} {e′} {x} s l t k =
+    subst (λ (ls : List ℕ). UnitsRepresent before (outputsOf out ls times′) e′ x) (sym l)
+    (subst (λ (ts : List ℕ). UnitsRepresent before (outputsOf out lens ts) e′ x) (sym t)
+    (subst (λ (y : Extraction). UnitsRepresent before (outputsOf out lens times) y x) (sym k) s))

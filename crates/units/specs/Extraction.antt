@@ -9,6 +9,7 @@ use mathlib.Core.Option.{Option, none, some}
 use lib.Dec.{ltb}
 use lib.ListN.{length, set}
 use Rattle.lists.specs.Lists.{Bytes, over, pick}
+use Rattle.refusal.specs.declared.Refused as refusal
 use Rattle.descriptor.specs.Edition.{Edition}
 use Rattle.packet.specs.Header.{hasPayload, payload, payloadUnitStartIndicator}
 use Rattle.segment_rules.specs.State as state
@@ -17,7 +18,7 @@ use Rattle.segment_rules.specs.Rules.{Rooms, Rule, inSequence, isPcr, closePes,
 use Rattle.segment_rules.specs.Rules.{pesRules}
 use Rattle.segment_rules.specs.Check.{Outputs, outputsOf, roomsOf, lengths, timesInTurn}
 use Rattle.tables.specs.declared.state.Outcome.{Outcome}
-use Rattle.tables.specs.declared.state.Outcome.the-variants.{Refused}
+use Rattle.tables.specs.declared.state.Outcome.the-variants.{Passed, Refused}
 use Rattle.tables.specs.Tables.{Refines}
 use Rattle.units.specs.declared.state.PesFound.{PesFound}
 use Rattle.units.specs.declared.state.PesSeen.{PesSeen}
@@ -113,10 +114,31 @@ isBeyond e rooms =
     ltb (rooms .bytes) (e .start + e .bytes)
     || (ltb (rooms .lens) (unitsBegun (e .pes) (e .units)) || ltb (rooms .times) (2 * unitsBegun (e .pes) (e .units)))
 
--- then the answer is 8 at a place, and everything stays as it was
+-- then the answer is 8 at a place
 abbrev pub noRoom : ℕ → Outcome
 noRoom place = Refused (record { why = record { number = 8 }; place = place })
 
-abbrev pub StaysBeyond : ℕ → Extraction → Outputs → ExtractionResult → Outputs → Type 0
-StaysBeyond place e now r after =
-    isBeyond e (roomsOf now) ≡ true → (r ≡ record { extraction = e; outcome = noRoom place }) × (after ≡ now)
+abbrev pub RefusesBeyond : ℕ → Extraction → Rooms → ExtractionResult → Type 0
+RefusesBeyond place e rooms r = isBeyond e rooms ≡ true → r .outcome ≡ noRoom place
+
+-- ---- what is handed back where a function refuses
+-- nobody goes on from it: the units before the first packet, with the refusal
+abbrev pub refusedUnits : refusal.Refused → ExtractionResult
+refusedUnits q = record { extraction = freshExtraction; outcome = Refused q }
+
+-- and what was lent stays as it was
+abbrev pub UnitsRefused : {A : Type 0} → A → ExtractionResult → A → Type 0
+UnitsRefused now r after = (q : refusal.Refused) → r .outcome ≡ Refused q → (r ≡ refusedUnits q) × (after ≡ now)
+
+-- ---- what the public functions do
+abbrev pub TakesPayload : Edition → Bool → ℕ → Bytes → Bool → Extraction → Outputs → ExtractionResult → Outputs → Type 0
+TakesPayload edition startFlag i w pcrSeen e now r after =
+    PayloadRefines edition startFlag i w pcrSeen e now r after
+    × (RefusesBeyond i e (roomsOf now) r × UnitsRefused now r after)
+
+-- after the closing no PES is open
+abbrev pub Closes : Extraction → Outputs → ExtractionResult → Outputs → Type 0
+Closes e now r after =
+    ClosingRefines e now r after
+    × ((r .outcome ≡ Passed → r .extraction .pes ≡ seen.Closed)
+    × (RefusesBeyond 0 e (roomsOf now) r × UnitsRefused now r after))

@@ -1,13 +1,9 @@
 // The access units: a PES opens, takes payload and closes.
 ghost use mathlib.Core.Path.{_≡_};
-ghost use mathlib.Core.Bool.{true, false, _&&_};
-ghost use mathlib.Core.List.{List};
-ghost use Prim.Native.Nat.{ℕ, _+_, _≤_, _<_, _^_};
+ghost use mathlib.Core.Bool.{_&&_};
+ghost use Prim.Native.Nat.{ℕ, _+_, _*_, _≤_, _<_, _^_};
 ghost use lib.Dec.{ltb};
 ghost use lib.ListN.{length};
-ghost use Rattle.refusal.specs.Verdict.{passed};
-ghost use Rattle.pes.specs.Pes.{pesData, reading};
-ghost use Rattle.descriptor.specs.Edition.{Edition as Edition·rules};
 ghost use Rattle.descriptor.specs.Naming.{editionSays};
 ghost use Rattle.segment_rules.specs.Rules.{lengthDiffers};
 ghost use Rattle.segment_rules.specs.Check.{outputsOf};
@@ -20,17 +16,25 @@ ghost use Rattle.units.specs.Extraction.{
   Fits,
   openPes,
   isBeyond,
-  PayloadRefines,
-  ClosingRefines,
-  StaysBeyond,
+  refusedUnits,
+  UnitsRefused,
+  TakesPayload,
+  Closes,
 };
 ghost use Rattle.units.specs.Parts.{
   roomsSay,
   HasRoom,
   isAbsent,
   JudgeRefines,
+  closedUnits,
+  lensClosed,
+  timesClosed,
+  JudgedRefines,
   MayOpenRefines,
   OpeningRefines,
+  AddsPayload,
+  OpensWith,
+  StartsPes,
 };
 use crate::outputs::Rooms;
 use crate::outputs::put_unit;
@@ -47,7 +51,6 @@ use pes::Times;
 use refusal::Refusal;
 use refusal::Refused;
 use tables::Outcome;
-use tables::at_place;
 use unit::UnitRead;
 
 // The most units of a segment.
@@ -88,14 +91,21 @@ pub fn fresh_extraction() -> Extraction
     }
 }
 
-fn refuse(why: Refusal, place: usize, extraction: Extraction) -> ExtractionResult
-    ensures { λ r. ⌜ r
-        ≡ record { extraction = extraction; outcome = Outcome.Refused (record { why = why; place = place }) } ⌝ }
+// With a verdict that refuses: nobody goes on from it, so the units are those before the first packet.
+fn refused_with(outcome: Outcome) -> ExtractionResult
+    ensures { λ r. ⌜ r ≡ record { extraction = freshExtraction; outcome = outcome } ⌝ }
 {
+    let extraction = fresh_extraction();
     ExtractionResult {
         extraction,
-        outcome: Outcome::Refused(Refused { why, place }),
+        outcome,
     }
+}
+
+fn refuse(why: Refusal, place: usize) -> ExtractionResult
+    ensures { λ r. ⌜ r ≡ refusedUnits (record { why = why; place = place }) ⌝ }
+{
+    refused_with(Outcome::Refused(Refused { why, place }))
 }
 
 // The PES length is not 0 and not the number of PES bytes after that field, where the unit has so many bytes.
@@ -131,46 +141,17 @@ fn judge_unit(found: PesFound, unit: &[u8]) -> Outcome
     }
 }
 
-// The open PES closes, if there is one: 32, then the reading of its unit.
-fn close_open(
-    extraction: Extraction,
-    out: &[u8],
-    lens: &mut [usize],
-    times: &mut [u64],
-) -> ExtractionResult
-    requires { ⌜ Fits extraction (roomsIn (now out) (now lens) (now times)) ⌝ }
-    ensures { λ r. ⌜ ClosingRefines extraction (outputsOf (now (out .entry)) (now (lens .entry)) (now (times .entry))) r
-        (outputsOf (now (out .entry)) (now (lens .exit)) (now (times .exit))) ⌝ }
-    ensures { λ r. ⌜ (r .outcome ≡ Outcome.Passed → r .extraction .pes ≡ PesSeen.Closed)
-        × (r .extraction .start + r .extraction .bytes ≡ extraction .start + extraction .bytes) ⌝ }
+// The verdict on the open PES where it closes, if there is one: 32, then the reading of its unit.
+fn judge_open(extraction: Extraction, out: &[u8]) -> Outcome
+    ensures { λ r. ⌜ JudgedRefines extraction (now (out .entry)) r ⌝ }
 {
     let pes = extraction.pes;
-    let PesSeen::Open(found) = pes else {
-        return ExtractionResult {
-            extraction,
-            outcome: Outcome::Passed,
-        };
-    };
-    let outcome = judge_unit(found, part(out, extraction.start, extraction.bytes));
-    let Outcome::Passed = outcome else {
-        return ExtractionResult {
-            extraction,
-            outcome,
-        };
-    };
-    let header = found.header;
-    let stamps = header.times;
-    let pair = time_pair(stamps);
-    put_unit(extraction.units, extraction.bytes, pair, lens, times);
-    let closed = Extraction {
-        pes: PesSeen::Closed,
-        units: extraction.units + 1,
-        start: extraction.start + extraction.bytes,
-        bytes: 0,
-    };
-    ExtractionResult {
-        extraction: closed,
-        outcome: Outcome::Passed,
+    match pes {
+        PesSeen::Closed => Outcome::Passed,
+        PesSeen::Open(found) => {
+            let unit = part(out, extraction.start, extraction.bytes);
+            judge_unit(found, unit)
+        }
     }
 }
 
@@ -194,6 +175,38 @@ fn opened(pes: PesSeen) -> usize
     }
 }
 
+// The units once the open PES has closed, if there is one.
+fn closed(extraction: Extraction) -> Extraction
+    requires { ⌜ (unitsBegun (extraction .pes) (extraction .units) < 2 ^ 64)
+        × (extraction .start + extraction .bytes < 2 ^ 64) ⌝ }
+    ensures { λ r. ⌜ r ≡ closedUnits extraction ⌝ }
+{
+    let pes = extraction.pes;
+    Extraction {
+        pes: PesSeen::Closed,
+        units: extraction.units + opened(pes),
+        start: extraction.start + extraction.bytes,
+        bytes: 0,
+    }
+}
+
+// The length and the times of the PES that closes, if there is one, in its unit's place.
+fn put_closed(extraction: Extraction, lens: &mut [usize], times: &mut [u64])
+    requires { ⌜ (unitsBegun (extraction .pes) (extraction .units) ≤ length (now lens))
+        × (2 * unitsBegun (extraction .pes) (extraction .units) ≤ length (now times)) ⌝ }
+    ensures { λ _. ⌜ now (lens .exit) ≡ lensClosed extraction (now (lens .entry)) ⌝ }
+    ensures { λ _. ⌜ now (times .exit) ≡ timesClosed extraction (now (times .entry)) ⌝ }
+{
+    let pes = extraction.pes;
+    let PesSeen::Open(found) = pes else {
+        return;
+    };
+    let header = found.header;
+    let stamps = header.times;
+    let pair = time_pair(stamps);
+    put_unit(extraction.units, extraction.bytes, pair, lens, times);
+}
+
 // A place that is kept lies beyond the outputs.
 fn beyond(extraction: Extraction, rooms: Rooms) -> bool
     ensures { λ r. ⌜ r ≡ isBeyond extraction (roomsSay rooms) ⌝ }
@@ -210,17 +223,14 @@ fn beyond(extraction: Extraction, rooms: Rooms) -> bool
 }
 
 // The open PES closes, if there is one: 32, then the reading of its unit. Where a place that is kept lies beyond the
-// outputs, 8.
+// outputs, 8. Where it refuses, the outputs stay as they were, and the units before the first packet are handed back.
 pub fn close(
     extraction: Extraction,
     out: &[u8],
     lens: &mut [usize],
     times: &mut [u64],
 ) -> ExtractionResult
-    ensures { λ r. ⌜ ClosingRefines extraction (outputsOf (now (out .entry)) (now (lens .entry)) (now (times .entry))) r
-        (outputsOf (now (out .entry)) (now (lens .exit)) (now (times .exit))) ⌝ }
-    ensures { λ r. ⌜ (r .outcome ≡ Outcome.Passed → r .extraction .pes ≡ PesSeen.Closed) ⌝ }
-    ensures { λ r. ⌜ StaysBeyond 0 extraction (outputsOf (now (out .entry)) (now (lens .entry)) (now (times .entry))) r
+    ensures { λ r. ⌜ Closes extraction (outputsOf (now (out .entry)) (now (lens .entry)) (now (times .entry))) r
         (outputsOf (now (out .entry)) (now (lens .exit)) (now (times .exit))) ⌝ }
 {
     let rooms = Rooms {
@@ -229,9 +239,18 @@ pub fn close(
         times: times.len(),
     };
     if beyond(extraction, rooms) {
-        return refuse(Refusal::NO_ROOM, 0, extraction);
+        return refuse(Refusal::NO_ROOM, 0);
     }
-    close_open(extraction, out, lens, times)
+    let outcome = judge_open(extraction, out);
+    let Outcome::Passed = outcome else {
+        return refused_with(outcome);
+    };
+    let next = closed(extraction);
+    put_closed(extraction, lens, times);
+    ExtractionResult {
+        extraction: next,
+        outcome: Outcome::Passed,
+    }
 }
 
 // The packet that began the open PES; 0 where none is open.
@@ -313,22 +332,19 @@ fn open_with(
     rooms: Rooms,
 ) -> ExtractionResult
     requires { ⌜ (extraction .start + extraction .bytes ≤ length (now out)) × (rooms .bytes ≡ length (now out)) ⌝ }
-    ensures { λ r. ⌜ ((w : List ℕ) → reading w ≡ passed header → now (bytes .entry) ≡ pesData w →
-        OpeningRefines (editionSays (arrival .edition)) (arrival .index) w (arrival .«pcr_seen») extraction rooms
-        (now (out .entry)) r (now (out .exit))) ⌝ }
+    ensures { λ r. ⌜ OpensWith (editionSays (arrival .edition)) (arrival .index) header (now (bytes .entry))
+        (arrival .«pcr_seen») extraction rooms (now (out .entry)) r (now (out .exit)) ⌝ }
+    ensures { λ r. ⌜ UnitsRefused (now (out .entry)) r (now (out .exit)) ⌝ }
 {
     let edition = arrival.edition;
     let index = arrival.index;
     let times = header.times;
     if untimed(edition, times) {
-        return refuse(Refusal::NO_TIMES, index, extraction);
+        return refuse(Refusal::NO_TIMES, index);
     }
     let outcome = may_open(index, bytes.len(), arrival.pcr_seen, extraction, rooms);
     let Outcome::Passed = outcome else {
-        return ExtractionResult {
-            extraction,
-            outcome,
-        };
+        return refused_with(outcome);
     };
     let written = extraction.start + extraction.bytes;
     copy(bytes, &mut out[written..]);
@@ -359,13 +375,14 @@ fn open(
     requires { ⌜ (extraction .start + extraction .bytes ≤ length (now out)) × (rooms .bytes ≡ length (now out)) ⌝ }
     ensures { λ r. ⌜ OpeningRefines (editionSays (arrival .edition)) (arrival .index) (now (payload .entry))
         (arrival .«pcr_seen») extraction rooms (now (out .entry)) r (now (out .exit)) ⌝ }
+    ensures { λ r. ⌜ UnitsRefused (now (out .entry)) r (now (out .exit)) ⌝ }
 {
     let read = pes::read(payload);
     match read {
-        PesRead::Refused(refused) => ExtractionResult {
-            extraction,
-            outcome: at_place(arrival.index, Outcome::Refused(refused)),
-        },
+        PesRead::Refused(refused) => {
+            let why = refused.why;
+            refuse(why, arrival.index)
+        }
         PesRead::Header(header) => {
             let bytes = rest(payload, header.size as usize);
             open_with(arrival, header, bytes, extraction, out, rooms)
@@ -373,7 +390,8 @@ fn open(
     }
 }
 
-// The payload of a packet that starts a PES: the open one closes, and another opens.
+// The payload of a packet that starts a PES: the open one closes, and another opens. The length and the times of the
+// unit that closes are put in place once the other PES may open.
 fn start(
     arrival: Arrival,
     payload: &[u8],
@@ -383,42 +401,46 @@ fn start(
     times: &mut [u64],
 ) -> ExtractionResult
     requires { ⌜ Fits extraction (roomsIn (now out) (now lens) (now times)) ⌝ }
-    ensures { λ r. ⌜ PayloadRefines (editionSays (arrival .edition)) true (arrival .index) (now (payload .entry))
-        (arrival .«pcr_seen») extraction
-        (outputsOf (now (out .entry)) (now (lens .entry)) (now (times .entry))) r
+    ensures { λ r. ⌜ StartsPes (editionSays (arrival .edition)) (arrival .index) (now (payload .entry))
+        (arrival .«pcr_seen») extraction (outputsOf (now (out .entry)) (now (lens .entry)) (now (times .entry))) r
         (outputsOf (now (out .exit)) (now (lens .exit)) (now (times .exit))) ⌝ }
 {
-    let closed = close_open(extraction, out, lens, times);
-    let outcome = closed.outcome;
-    let Outcome::Passed = outcome else {
-        return closed;
+    let judged = judge_open(extraction, out);
+    let Outcome::Passed = judged else {
+        return refused_with(judged);
     };
-    let next = closed.extraction;
+    let next = closed(extraction);
     let rooms = Rooms {
         bytes: out.len(),
         lens: lens.len(),
         times: times.len(),
     };
-    open(arrival, payload, next, out, rooms)
+    let begun = open(arrival, payload, next, out, rooms);
+    let outcome = begun.outcome;
+    let Outcome::Passed = outcome else {
+        return begun;
+    };
+    put_closed(extraction, lens, times);
+    begun
 }
 
 // The payload of a packet that goes on with the open PES; 29, 31, 8.
 fn add(arrival: Arrival, payload: &[u8], extraction: Extraction, out: &mut [u8]) -> ExtractionResult
     requires { ⌜ extraction .start + extraction .bytes ≤ length (now out) ⌝ }
-    ensures { λ r. ⌜ ((edition : Edition·rules) (lens times : List ℕ) →
-        PayloadRefines edition false (arrival .index) (now (payload .entry)) (arrival .«pcr_seen») extraction
-        (outputsOf (now (out .entry)) lens times) r (outputsOf (now (out .exit)) lens times)) ⌝ }
+    ensures { λ r. ⌜ AddsPayload (arrival .index) (now (payload .entry)) (arrival .«pcr_seen») extraction
+        (now (out .entry)) r (now (out .exit)) ⌝ }
+    ensures { λ r. ⌜ UnitsRefused (now (out .entry)) r (now (out .exit)) ⌝ }
 {
     let pes = extraction.pes;
     let PesSeen::Open(found) = pes else {
-        return refuse(Refusal::PES_HEADER, arrival.index, extraction);
+        return refuse(Refusal::PES_HEADER, arrival.index);
     };
     if !arrival.pcr_seen {
-        return refuse(Refusal::NO_PCR, arrival.index, extraction);
+        return refuse(Refusal::NO_PCR, arrival.index);
     }
     let written = extraction.start + extraction.bytes;
     if out.len() - written < payload.len() {
-        return refuse(Refusal::NO_ROOM, arrival.index, extraction);
+        return refuse(Refusal::NO_ROOM, arrival.index);
     }
     copy(payload, &mut out[written..]);
     let longer = Extraction {
@@ -434,7 +456,7 @@ fn add(arrival: Arrival, payload: &[u8], extraction: Extraction, out: &mut [u8])
 }
 
 // The AV1 payload of a packet, which starts a PES or goes on with one. Where a place that is kept lies beyond the
-// outputs, 8.
+// outputs, 8. Where it refuses, the outputs stay as they were, and the units before the first packet are handed back.
 pub fn take_payload(
     arrival: Arrival,
     starts: bool,
@@ -444,12 +466,8 @@ pub fn take_payload(
     lens: &mut [usize],
     times: &mut [u64],
 ) -> ExtractionResult
-    ensures { λ r. ⌜ PayloadRefines (editionSays (arrival .edition)) starts (arrival .index) (now (payload .entry))
-        (arrival .«pcr_seen») extraction
-        (outputsOf (now (out .entry)) (now (lens .entry)) (now (times .entry))) r
-        (outputsOf (now (out .exit)) (now (lens .exit)) (now (times .exit))) ⌝ }
-    ensures { λ r. ⌜ StaysBeyond (arrival .index) extraction
-        (outputsOf (now (out .entry)) (now (lens .entry)) (now (times .entry))) r
+    ensures { λ r. ⌜ TakesPayload (editionSays (arrival .edition)) starts (arrival .index) (now (payload .entry))
+        (arrival .«pcr_seen») extraction (outputsOf (now (out .entry)) (now (lens .entry)) (now (times .entry))) r
         (outputsOf (now (out .exit)) (now (lens .exit)) (now (times .exit))) ⌝ }
 {
     let rooms = Rooms {
@@ -458,7 +476,7 @@ pub fn take_payload(
         times: times.len(),
     };
     if beyond(extraction, rooms) {
-        return refuse(Refusal::NO_ROOM, arrival.index, extraction);
+        return refuse(Refusal::NO_ROOM, arrival.index);
     }
     if starts {
         return start(arrival, payload, extraction, out, lens, times);

@@ -1,68 +1,17 @@
--- The header is read; a packet that passed 21, 22 and 23 goes on with its counter and content. Of a state that stands, the packet is
--- there.
+-- What the packet does is `step_at`; `handed_back` leaves its verdict, and the rest where it passes.
 use borrow.Author.Needs.{needs}
-use native.Mathlib.Omega.{arith}
-use mathlib.Core.Bool.{false}
-use mathlib.Core.Path.{_≡_, refl}
-use lib.ListN.{length}
-use Rattle.lists.proofs.Tests.{clash}
-use Rattle.segment_rules.specs.Check.{roomsOf}
-use Rattle.tables.specs.Tables.{packetAt}
-use Rattle.extraction.specs.Packets.{noPacket}
-use Rattle.extraction.proofs.Stepping.{header-refused, header-right, packet-kind, packet-within, packet-there, refused-outside}
+use mathlib.Core.Path.{sym, ap, _∙_}
+use Rattle.segment_rules.specs.Check.{outputsOf}
+use Rattle.extraction.specs.declared.packets.Stepped.{Stepped}
+use Rattle.extraction.proofs.Stepping.{back-outcome, back-passed, back-refines, back-refused}
 use Rattle.extraction.proofs.packets.step.Statement.{statement}
 use Rattle.extraction.proofs.packets.step.Tie as tie
 
-inside : (c : tie.Else1) → let a = c .before .before .before .before .before .args in noPacket (length (a .segment .now)) (a .index) ≡ false
-inside c =
-    let a = c .before .before .before .before .before .args in
-    packet-there (length (a .segment .now)) (a .index) (c .if1 .left)
+step-at-requires : tie.Need-step-at-requires
+step-at-requires c κs = search needs
 
-at-requires : tie.Need-at-requires
-at-requires c κs = search needs
-
-returns : tie.Need-returns
-returns c =
-    let a = c .before .before .before .before .before .before .args in (
-      (λ there edition before st n s. absurd (omega (arith, there, c .before .if1 .taken))),
-      (
-        (λ k. (refused-outside (a .tables) (a .extraction) (a .index) (c .at .result) (c .at .ensures), refl)),
-        (λ k. (refl, refl)),
-      ),
-    )
-
-packet-at-requires : tie.Need-packet-at-requires
-packet-at-requires c κs = packet-within _ _ (c .if1 .left)
-
-read-requires : tie.Need-read-requires
-read-requires c κs = search needs
-
-enum-known-read : tie.Need-enum-known-read
-enum-known-read c = search needs
-
-at-place-requires : tie.Need-at-place-requires
-at-place-requires c κs = search needs
-
-enum-known-read-2 : tie.Need-enum-known-read-2
-enum-known-read-2 c = search needs
-
-kind-of-requires : tie.Need-kind-of-requires
-kind-of-requires c κs = search needs
-
-step-read-requires : tie.Need-step-read-requires
-step-read-requires c κs = packet-within _ _ (c .before .before .before .before .before .before .before .before .before .if1 .left)
-
-returns-2 : tie.Need-returns-2
-returns-2 c =
-    let test = c .before .before .before .before .before .before in
-    let a = test .before .before .before .before .before .args in
-    let lent = c .before .before .before .before .before .packet-at in
-    let read = c .before .before .before .before .read in (
-      (λ there edition before st n s.
-          header-refused edition (roomsOf before) (a .segment .now) (a .index) st (read .result) (lent .result .now) (lent .ensures)
-          (read .ensures) _ _ (c .before .before .read2 .given .1) (c .at-place .result) (c .at-place .ensures) _),
-      ((λ k. clash k (inside test)), (λ k. (refl, refl))),
-    )
+handed-back-requires : tie.Need-handed-back-requires
+handed-back-requires c κs = search needs
 
 same-length : tie.Need-same-length
 same-length c = search needs
@@ -73,40 +22,41 @@ same-length-2 c = search needs
 same-length-3 : tie.Need-same-length-3
 same-length-3 c = search needs
 
-returns-3 : tie.Need-returns-3
-returns-3 c =
-    let known = c .before .before .before .before .before .before .before .before .before .before .before .before in
-    let test = known .before .before .before .before in
-    let a = test .before .before .before .before .before .args in
-    let p = packetAt (a .segment .now) (a .index) in
-    let lent = known .before .before .before .packet-at in
-    let read = known .before .before .read in
-    let named = c .before .before .before .before .before .before .before .before .before .before .kind-of in
-    let done = c .before .before .before .before .before .before .step-read in (
-      (λ there edition before st n s.
-          let right = header-right edition (roomsOf before) (a .segment .now) (a .index) st (read .result) (lent .result .now)
-          (lent .ensures) (read .ensures) _ (known .read3 .given .1) in
-          let kind = named .ensures edition (a .segment .now) (st .tables) n (s .tables) in
-          packet-kind edition (roomsOf before) p (a .index) st _ (named .result) (done .result) _ right (kind .0) (done .ensures .1 .0)
-          (done .ensures .0 edition before p refl right (kind .1) st n s)),
-      ((λ k. clash k (inside test)), done .ensures .1 .1),
+returns : tie.Need-returns
+returns c =
+    let call = c .before .before .before .before .before .before .before in
+    let done = call .step-at in
+    let a = call .before .before .before .before .before .before .before .before .args in
+    let back = c .handed-back in
+    let after = outputsOf (done .last .1 .1 .1 .1 .0) (done .last .1 .1 .1 .1 .1 .0) (done .last .1 .1 .1 .1 .1 .1 .0) in
+    let edition = a .tables .edition in
+    let same = back-outcome (back .result) edition (done .result) (back .ensures) in (
+      (λ there rules before st n s.
+          back-refines (back .result) edition (done .result) (back .ensures) rules (a .segment .now) before after _ _
+          (done .ensures .0 there rules before st n s)),
+      (
+        (λ k. same ∙ done .ensures .1 .0 k),
+        (
+          (λ k p.
+              let u = done .ensures .1 .1 .0 k (sym same ∙ p) in (
+                ap (λ (x : Stepped). x .extraction) (back-passed (back .result) edition (done .result) (back .ensures) p) ∙ u .0,
+                u .1,
+              )),
+          (λ q k. (
+            back-refused (back .result) edition (done .result) (back .ensures) q k,
+            done .ensures .1 .1 .1 q (sym same ∙ k),
+          )),
+        ),
+      ),
     )
 
 pub step-spec : {M : Type 1} → statement M
 step-spec =
     tie.close
     (tie.spec
-    at-requires
-    returns
-    packet-at-requires
-    read-requires
-    enum-known-read
-    at-place-requires
-    enum-known-read-2
-    kind-of-requires
-    step-read-requires
-    returns-2
+    step-at-requires
+    handed-back-requires
     same-length
     same-length-2
     same-length-3
-    returns-3)
+    returns)

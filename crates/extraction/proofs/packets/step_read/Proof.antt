@@ -19,15 +19,16 @@ is-taken-requires c κs = search needs
 
 returns : tie.Need-returns
 returns c =
-    let one = c .before .before .before .before .before .check-counter in
-    let k = c .before .before .before .before .before .before .before .before .before .before .before .args .packet in (
+    let count = c .before .before .before .before .before in
+    let one = count .check-counter in
+    let k = count .before .before .before .before .before .before .args .packet in (
       (λ edition before p same right there st n s.
           let fits = passed-fields p _ right in
           not-taken s n (k .index) p (k .kind) (k .header) right (one .result)
-          (one .ensures edition p same fits there (st .tables) n (s .tables)) there (k .header .«has_payload»)
+          (one .ensures .0 edition p same fits there (st .tables) n (s .tables)) there (k .header .«has_payload»)
           (c .before .before .repeats .result) (sym (ap (λ (h : Header). h .«has_payload») fits)) (c .before .before .repeats .ensures)
           (sym (c .before .is-taken .ensures) ∙ not-true _ (c .if1 .taken))),
-      (refl, (λ k. (refl, refl))),
+      (refl, ((λ k p. (refl, refl)), (λ q k. refl))),
     )
 
 take-content-requires : tie.Need-take-content-requires
@@ -44,16 +45,18 @@ same-length-3 c = search needs
 
 returns-2 : tie.Need-returns-2
 returns-2 c =
-    let test = c .before .before .before .before .before .before .before .before .before .before in
-    let one = test .before .before .before .before .before .check-counter in
-    let k = test .before .before .before .before .before .before .before .before .before .before .before .args .packet in
-    let done = c .before .before .before .before .before .before .take-content in
+    let call = c .before .before .before .before .before .before in
+    let test = call .before .before .before .before in
+    let count = test .before .before .before .before .before in
+    let one = count .check-counter in
+    let k = count .before .before .before .before .before .before .args .packet in
+    let done = call .take-content in
     let taken = taken-all (one .result .outcome) (k .header .«has_payload») (test .before .before .repeats .result)
     (sym (test .before .is-taken .ensures) ∙ not-false _ (test .if1 .left)) in
     let went = taken .0 in (
       (λ edition before p same right there st n s.
           let fits = passed-fields p _ right in
-          let counts = one .ensures edition p same fits there (st .tables) n (s .tables) in
+          let counts = one .ensures .0 edition p same fits there (st .tables) n (s .tables) in
           with-content s n (k .index) p (k .kind) (k .header) right (one .result) counts went
           (sym (next-repeats s n (k .index) p (k .kind) (k .header) right (one .result) counts went there)
           ∙ sym (test .before .before .repeats .ensures) ∙ taken .2)

@@ -6,7 +6,7 @@ use Rattle.packet.specs.declared.header.Header.{Header}
 use Rattle.descriptor.specs.Edition.{Edition}
 use Rattle.segment_rules.specs.Rules.{isPcr}
 use Rattle.segment_rules.specs.Check.{outputsOf}
-use Rattle.units.specs.declared.units.ExtractionResult.{ExtractionResult}
+use Rattle.tables.proofs.Refining.{never-passed}
 use Rattle.units.specs.Extraction.{PayloadRefines}
 use Rattle.extraction.proofs.Stepping.{payload-length, payload-lies, payload-same, content-taken, content-read}
 use Rattle.extraction.proofs.packets.take_content.Statement.{statement}
@@ -38,20 +38,19 @@ same-length-3 c = search needs
 
 returns : tie.Need-returns
 returns c =
-    let a = c .before .before .before .before .before .before .before .before .before .before .before .before .before .before .before
-    .before .before .before .before .before .before .args in
+    let call = c .before .before .before .before .before .before .before in
+    let test = call .before .before .before .before .before in
+    let part = test .before .before in
+    let a = part .before .before .before .before .before .before .before .args in
+    let taken = call .take-payload in
+    let lent = part .before .packet-at in
+    let w = part .rest in
+    let pcr = call .before .before .before .before .is-pcr in
     let k = a .packet in
-    let taken = c .before .before .before .before .before .before .before .take-payload in
-    let lent = c .before .before .before .before .before .before .before .before .before .before .before .before .before .before .before
-    .packet-at in
-    let w = c .before .before .before .before .before .before .before .before .before .before .before .before .before .before .rest in
-    let pcr = c .before .before .before .before .before .before .before .before .before .before .before .is-pcr in
     let after = outputsOf (taken .last .1 .1 .1 .1 .0) (taken .last .1 .1 .1 .1 .1 .0) (taken .last .1 .1 .1 .1 .1 .1 .0) in (
       (λ edition before p same e h st n s.
           content-taken s (k .index) p h (k .kind) (taken .result) after
-          (sym (c .before .before .before .before .before .before .before .before .before .before .before .before .before .is-av1 .ensures)
-          ∙ c
-          .before .before .before .before .before .before .before .before .before .before .before .before .if1 .taken)
+          (sym (test .before .is-av1 .ensures) ∙ test .if1 .taken)
           (subst (λ (x : Edition). PayloadRefines x (k .header .start) (k .index) (w .result .now) (pcr .result) (a .extraction)
           (outputsOf (a .out .now) (a .lens .now) (a .times .now)) (taken .result) after) (s .tables .follows) (taken .ensures .0) before
           p st
@@ -61,34 +60,33 @@ returns c =
             same = payload-same p (k .header) (lent .result .now) (w .result .now) e (lent .ensures ∙ sym same) (w .ensures) h;
           })
           (ap isPcr (sym (s .tables .pcr)) ∙ sym (pcr .ensures)) (s .extraction))),
-      (refl, (λ k. (ap (λ (x : ExtractionResult). x .extraction) (taken .ensures .1 k .0), taken .ensures .1 k .1))),
+      (refl, ((λ k p. never-passed _ (taken .ensures .1 .0 k) p), (λ q k. taken .ensures .1 .1 q k .1))),
     )
 
 mul-at : tie.Need-mul-at
 mul-at c =
-    omega (
-      arith,
-      c .before .before .before .before .before .before .before .before .before .before .pre,
-      c .before .before .before .before .before .before .before .before .before .before .good .0 .0,
-    )
+    let test = c .before in
+    let begin = test .before .before .before .before .before .before .before .before .before in
+    omega (arith, begin .pre, begin .good .0 .0)
 
 add-at : tie.Need-add-at
 add-at c =
-    omega (
-      arith,
-      c .before .before .before .before .before .before .before .before .before .before .pre,
-      c .before .before .before .before .before .before .before .before .before .before .good .0 .0,
-    )
+    let test = c .before in
+    let begin = test .before .before .before .before .before .before .before .before .before in
+    omega (arith, begin .pre, begin .good .0 .0)
 
 sub-at : tie.Need-sub-at
 sub-at c =
-    let a = c .before .before .before .before .before .before .before .before .before .before .args in
-    let lent = c .before .before .before .before .packet-at in
-    let w = c .before .before .before .rest in
+    let test = c .before in
+    let part = test .before .before in
+    let begin = part .before .before .before .before .before .before .before in
+    let a = begin .args in
+    let lent = part .before .packet-at in
+    let w = part .rest in
     omega (
       arith,
       payload-length (a .segment .now) (lent .result .now) (w .result .now) (a .packet .index) (a .packet .header .payload)
-          (c .before .before .before .before .before .before .before .before .before .before .pre) (lent .ensures) (w .ensures),
+          (begin .pre) (lent .ensures) (w .ensures),
     )
 
 read-section-requires : tie.Need-read-section-requires
@@ -99,21 +97,23 @@ at-place-requires c κs = search needs
 
 returns-2 : tie.Need-returns-2
 returns-2 c =
-    let begin = c .before .before .before .before .before .before .before .before .before .before .before .before .before in
+    let read = c .before .before .read-section in
+    let test = c .before .before .before .before in
+    let part = test .before .before in
+    let begin = part .before .before .before .before .before .before .before in
     let a = begin .args in
     let k = a .packet in
-    let read = c .before .before .read-section in
-    let lent = c .before .before .before .before .before .before .before .packet-at in
-    let w = c .before .before .before .before .before .before .rest in (
+    let lent = part .before .packet-at in
+    let w = part .rest in (
       (λ edition before p same e h st n s.
           content-read s (k .index) p h (k .kind) n (read .result) (k .header .start) (w .result .now) (c .at-place .result)
-          (sym (c .before .before .before .before .before .is-av1 .ensures) ∙ c .before .before .before .before .if1 .left)
+          (sym (test .before .is-av1 .ensures) ∙ test .if1 .left)
           (ap (λ (x : Header). x .start) e) (payload-same p (k .header) (lent .result .now) (w .result .now) e (lent .ensures ∙ sym same)
           (w .ensures) h) (c .at-place .ensures)
-          (read .ensures (payload-lies (a .segment .now) (lent .result .now) (w .result .now) (k .index) (k .header .payload)
+          (read .ensures .0 (payload-lies (a .segment .now) (lent .result .now) (w .result .now) (k .index) (k .header .payload)
           (begin .pre)
           (lent .ensures) (w .ensures)) edition)),
-      (refl, (λ k. (refl, refl))),
+      (refl, ((λ k p. (refl, refl)), (λ q k. refl))),
     )
 
 pub take-content-spec : {M : Type 1} → statement M

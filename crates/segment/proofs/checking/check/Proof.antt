@@ -1,26 +1,31 @@
--- By the edition of the number; 44 before everything else.
+-- The number names an edition and the length is right, so that the check is `judge`'s; or 44 or 20 refuses before a packet is read.
 use borrow.Author.Needs.{needs}
-use mathlib.Core.Path.{sym, ap, _∙_}
-use Rattle.segment_rules.specs.Check.{outputsOf, roomsOf}
+use mathlib.Core.Path.{refl, sym, ap, _∙_}
+use Rattle.segment_rules.specs.Check.{Outputs, outputsOf}
 use Rattle.descriptor.specs.Naming.{namedSays}
-use Rattle.segment.specs.Answer.{checkSays}
-use Rattle.segment.specs.declared.checking.Checked.{Checked}
-use Rattle.segment.proofs.Editions.{known-checks, known-map, known-leaves, known-firsts}
-use Rattle.segment.proofs.Editions.{unknown-checks, unknown-map, unknown-leaves, unknown-firsts}
+use Rattle.segment_run.proofs.Clearing.{cleared-as}
+use Rattle.segment.proofs.Editions.{known-checks, refused-checks}
 use Rattle.segment.proofs.checking.check.Statement.{statement}
 use Rattle.segment.proofs.checking.check.Tie as tie
 
-named-requires : tie.Need-named-requires
-named-requires c κs = search needs
+-- where the function began, and the outputs as they were lent
+abbrev begun : tie.After-asked → tie.Start
+begun c = c .before .before .before .before .before .before
 
-enum-known-named : tie.Need-enum-known-named
-enum-known-named c = search needs
+abbrev lent : tie.After-asked → Outputs
+lent c = let a = begun c .args in outputsOf (a .out .now) (a .lens .now) (a .times .now)
 
-check-in-requires : tie.Need-check-in-requires
-check-in-requires c κs = search needs
+asked-requires : tie.Need-asked-requires
+asked-requires c κs = search needs
 
-enum-known-named-2 : tie.Need-enum-known-named-2
-enum-known-named-2 c = search needs
+enum-known-asked : tie.Need-enum-known-asked
+enum-known-asked c = search needs
+
+judge-requires : tie.Need-judge-requires
+judge-requires c κs = search needs
+
+enum-known-asked-2 : tie.Need-enum-known-asked-2
+enum-known-asked-2 c = search needs
 
 clear-requires : tie.Need-clear-requires
 clear-requires c κs = search needs
@@ -42,19 +47,12 @@ same-length-4 c = search needs
 
 returns : tie.Need-returns
 returns c =
-    let a = c .before .before .before .before .before .before .before .before .before .before .before .before .before .before .before
-    .before .before .before .before .before .before .before .args in
-    let rooms = roomsOf (outputsOf (a .out .now) (a .lens .now) (a .times .now)) in
-    let done = c .before .before .before .before .before .before .before .before .check-in in
-    let known = sym (ap namedSays (c .before .before .before .before .before .before .before .before .before .before .before .before
-    .before .before .named2 .given .1)) ∙ c .before .before .before .before .before .before .before .before .before .before .before
-    .before .before .before .before .before .named .ensures in
-    record {
-      answers = done .ensures .answers ∙ known-checks (a .edition) _ rooms (a .segment .now) known;
-      beside = done .ensures .beside ∙ known-map (a .edition) _ rooms (a .segment .now) known;
-      leaves = done .ensures .leaves ∙ known-leaves (a .edition) _ rooms (a .segment .now) known _;
-      began = done .ensures .began ∙ known-firsts (a .edition) _ rooms (a .segment .now) known _;
-    }
+    let done = c .before .before .before .before .before .before .before .before in
+    let told = done .before .before .before .before .before .before in
+    let start = told .before .before in
+    let a = begun start .args in
+    known-checks (a .edition) _ (a .segment .now) (sym (ap namedSays (told .asked2 .given .1)) ∙ start .asked .ensures)
+    (lent start) (a .firsts .now) (done .judge .result) _ _ (done .judge .ensures)
 
 same-length-5 : tie.Need-same-length-5
 same-length-5 c = search needs
@@ -70,34 +68,24 @@ same-length-8 c = search needs
 
 returns-2 : tie.Need-returns-2
 returns-2 c =
-    let a = c .before .before .before .before .before .before .before .before .before .before .before .before .before .before .before
-    .before .before .before .before .before .before .before .before .args in
-    let before = outputsOf (a .out .now) (a .lens .now) (a .times .now) in
-    let cleared = c .before .before .before .before .before .before .before .before .before .clear in
-    let unknown = sym (ap namedSays (c .before .before .before .before .before .before .before .before .before .before .before .before
-    .before .before .before .named3 .given .1)) ∙ c .before .before .before .before .before .before .before .before .before .before
-    .before .before .before .before .before .before .before .named .ensures in
-    record {
-      answers =
-          ap (λ (x : Checked). checkSays (x .answer)) (c .refuse .ensures)
-          ∙ unknown-checks (a .edition) _ _ (roomsOf before) (a .segment .now) unknown;
-      beside =
-          ap (λ (x : Checked). x .map) (c .refuse .ensures) ∙ unknown-map (a .edition) _ _ (roomsOf before) (a .segment .now) unknown;
-      leaves =
-          unknown-leaves (a .edition) _ _ (roomsOf before) (a .segment .now) unknown before (cleared .last .0) (cleared .last .1 .0)
-          (cleared .last .1 .1 .0) (cleared .ensures .0) (cleared .ensures .1 .0) (cleared .ensures .1 .1 .0);
-      began =
-          unknown-firsts (a .edition) _ _ (roomsOf before) (a .segment .now) unknown (a .firsts .now) _ (cleared .ensures .1 .1 .1);
-    }
+    let cleared = c .before .before .before .before .before .before .before .before .before in
+    let told = cleared .before .before .before .before .before .before in
+    let start = told .before .before in
+    let a = begun start .args in
+    let zero = cleared .clear .ensures in
+    refused-checks (a .edition) _ (a .segment .now) (sym (ap namedSays (told .asked3 .given .1)) ∙ start .asked .ensures)
+    (lent start) (a .firsts .now) (c .refuse .result) (c .refuse .ensures) _
+    (cleared-as (lent start) (a .out .now) (a .lens .now) (a .times .now) (zero .0) (zero .1 .0) (zero .1 .1 .0) refl refl refl) _
+    (zero .1 .1 .1)
 
 pub check-spec : {M : Type 1} → statement M
 check-spec =
     tie.close
     (tie.spec
-    named-requires
-    enum-known-named
-    check-in-requires
-    enum-known-named-2
+    asked-requires
+    enum-known-asked
+    judge-requires
+    enum-known-asked-2
     clear-requires
     refuse-requires
     same-length

@@ -1,13 +1,15 @@
--- The open PES closes; where that passed, its first packet is noted, and 33 or the summary follows.
+-- The open PES closes; where that passed, its first packet is noted, and 33 or the summary follows. Both are laws of the end (Ending.antt).
 use borrow.Author.Needs.{needs}
-use Prim.Native.Nat.{ℕ}
-use mathlib.Core.Path.{ap₂, _∙_}
-use Rattle.segment_rules.specs.Check.{outputsOf, accepted}
-use Rattle.segment_rules.specs.declared.Totals.{Totals}
-use Rattle.segment.specs.Answer.{summarised, mapAfter}
-use Rattle.segment.proofs.Ending.{end-refused, end-closed, end-refused-firsts, end-closed-firsts}
+use Rattle.segment_rules.specs.Check.{Outputs, outputsOf}
+use Rattle.segment.proofs.Ending.{end-refused, end-closed}
 use Rattle.segment.proofs.checking.finish.Statement.{statement}
 use Rattle.segment.proofs.checking.finish.Tie as tie
+
+-- the outputs where the PES has closed
+abbrev outputs-then : tie.After-close → Outputs
+outputs-then c =
+    let begun = c .before .before .before .before .before .before .before .before in
+    outputsOf (begun .args .out .now) (c .close .last .1 .1 .0) (c .close .last .1 .1 .1 .0)
 
 close-requires : tie.Need-close-requires
 close-requires c κs = search needs
@@ -34,17 +36,11 @@ same-length-2 : tie.Need-same-length-2
 same-length-2 c = search needs
 
 returns : tie.Need-returns
-returns c =
-    let closed = c .before .before .before .before .before .before .before .before .close in
-    let after = outputsOf (c .before .before .before .before .before .before .before .before .before .before .before .before .before
-    .before .before .before .args .out .now) (closed .last .1 .1 .0) (closed .last .1 .1 .1 .0) in (
-      (λ edition segment before g n m s.
-          end-refused edition before after g (closed .result) (closed .ensures .0 before (g .state .extraction) (s .extraction)) _
-          (c .before .before .outcome .given .1) (c .refuse .result) (c .refuse .ensures)),
-      (λ before g old s h.
-          end-refused-firsts before after g (closed .result) (closed .ensures .0 before (g .state .extraction) s) _
-          (c .before .before .outcome .given .1) old _),
-    )
+returns c edition segment before old g at =
+    let done = c .before .before .before .before .before .before .before .before in
+    end-refused at (outputs-then done) (done .close .result)
+    (done .close .ensures .0 before (g .state .extraction) (at .stands .extraction)) _
+    (c .before .before .outcome .given .1) (c .refuse .result) (c .refuse .ensures) _
 
 same-length-3 : tie.Need-same-length-3
 same-length-3 c = search needs
@@ -56,26 +52,13 @@ same-length-5 : tie.Need-same-length-5
 same-length-5 c = search needs
 
 returns-2 : tie.Need-returns-2
-returns-2 c =
-    let closed = c .before .before .before .before .before .before .before .before .before .before .before .before .before .before .close
-    in
-    let told = c .before .before .before .before .before .before .before .before .enum-told .given .1 in
-    let after = outputsOf (c .before .before .before .before .before .before .before .before .before .before .before .before .before
-    .before .before .before .before .before .before .before .before .before .args .out .now) (closed .last .1 .1 .0) (closed .last .1 .1
-    .1 .0) in (
-      (λ edition segment before g n m s.
-          end-closed edition before after g (closed .result) (closed .ensures .0 before (g .state .extraction) (s .extraction))
-          (c .accept .result) told (closed .ensures .1 .0 told)
-          (λ us u.
-          let says = c .accept .ensures edition segment (g .state .tables) us u (s .tables) in (
-            says .0 ∙ ap₂ (λ (x : ℕ) (y : Totals). summarised (accepted x (g .state .tables .pat) (g .state .tables .pmt) us y)) n m,
-            says .1 ∙ ap₂ (λ (x : ℕ) (y : Totals). mapAfter edition (accepted x (g .state .tables .pat) (g .state .tables .pmt) us y)) n
-                m,
-          ))),
-      (λ before g old s h.
-          end-closed-firsts before after g (closed .result) (closed .ensures .0 before (g .state .extraction) s) s told old _ _ h
-          (c .before .before .before .before .before .note-first .ensures)),
-    )
+returns-2 c edition segment before old g at =
+    let told = c .before .before .before .before .before .before .before .before in
+    let done = told .before .before .before .before .before .before in
+    end-closed at (outputs-then done) (done .close .result)
+    (done .close .ensures .0 before (g .state .extraction) (at .stands .extraction))
+    (told .enum-told .given .1) (done .close .ensures .1 .0 (told .enum-told .given .1)) (c .accept .result) (c .accept .ensures edition) _
+    (c .before .before .before .before .before .note-first .ensures)
 
 pub finish-spec : {M : Type 1} → statement M
 finish-spec =

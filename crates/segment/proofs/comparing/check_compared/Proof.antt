@@ -1,4 +1,4 @@
--- The answer, the map and the outputs are the check's; what is compared are the units that the outputs then hold.
+-- The answer and the outputs are the check's; what is compared are the units that the outputs then hold.
 use borrow.Author.Needs.{needs}
 use mathlib.Core.Path.{_∙_}
 use Rattle.segment_rules.specs.Check.{outputsOf, roomsOf}
@@ -26,14 +26,14 @@ same-length-3 c = search needs
 
 returns : tie.Need-returns
 returns c =
-    let done = c .before .before .before .before .before .before .before .before .before .before .before in
+    let told = c .before .before .before in
+    let done = told .before .before .before .before .before .before .before .before in
     let a = done .before .before .before .before .before .before .before .before .before .args in
     let before = outputsOf (a .out .now) (a .lens .now) (a .times .now) in
     let now = outputsOf (done .check .last .1 .1 .0) (done .check .last .1 .1 .1 .0) (done .check .last .1 .1 .1 .1 .0) in
     let e = done .check .ensures in
     record {
       answers = e .answers;
-      beside = e .beside;
       compared =
           c .disagreement-of .ensures
           ∙ found-beside (roomsOf before) (a .segment .now) (done .check .result .answer) (done .check .result .map) before now

@@ -1,34 +1,45 @@
 -- The packets that `follow` counts and copies pass one after the other, each by its rules (`goes` in Continuing.antt).
 use borrow.Author.Needs.{needs}
 use native.Mathlib.Omega.{arith}
-use Prim.Native.Nat.{_+_, _*_, _/_, _≤_}
-use mathlib.Core.Path.{refl, subst, _∙_}
-use lib.ListN.{length, drop}
+use Prim.Native.Nat.{_+_}
+use mathlib.Core.Path.{refl, subst}
+use lib.ListN.{drop}
 use Rattle.lists.proofs.Parts.{tail-placed}
-use Rattle.packet.specs.Header.{packetLength, packets}
-use Rattle.plain.specs.Runs.{payloads, payloadLength}
+use Rattle.packet.specs.Header.{packets}
+use Rattle.plain.specs.Runs.{payloads}
 use Rattle.segment_run.specs.declared.going.Due.{Due}
 use Rattle.segment_run.specs.Parts.{DueRefines}
-use Rattle.segment_run.proofs.Continuing.{lent-many, none-kept, bounded, went}
+use Rattle.segment_run.proofs.Continuing.{lent-many, Followed, bounded, all-went}
 use Rattle.segment_run.proofs.going.go_on.Statement.{statement}
 use Rattle.segment_run.proofs.going.go_on.Tie as tie
 
--- the packets that go on lie within the segment, and their payloads within the output
-within-both : (c : tie.After-slice-known2)
-    → let a = c .before .before .before .before .before .before .before .before .before .before .before .before .before .args in
-    let m = c .before .before .follow .result in
-    (a .index + m ≤ length (a .segment .now) / packetLength)
-    × (a .extraction .start + a .extraction .bytes + m * payloadLength ≤ length (a .out .now))
-within-both c =
-    let at-may = c .before .before .before .before .before .before in
-    let begin = at-may .before .before .before .before .before .before .before in
-    let a = begin .args in
-    let may = subst (λ (d : Due). DueRefines (a .tables) (a .extraction) (at-may .before .before .before .pid-of .result) d)
-    (at-may .may .given .1) (at-may .before .before .due-after .ensures) in
-    let many = lent-many _ _ (drop (a .index) (packets (a .segment .now))) (a .out .now) (a .extraction .start + a .extraction .bytes)
-    (c .before .before .follow .result) (begin .pre .1) (c .before .before .follow .ensures .0) in
-    bounded (a .segment .now) (a .index) (a .tables) (a .extraction) _ _ _ may (a .out .now) (begin .pre .0) (begin .pre .1)
-    (c .before .before .follow .result) many
+-- where it is told that packets may go on, and where the function began
+abbrev behind-may : tie.After-follow → tie.After-may
+behind-may c = c .before .before .before .before
+
+abbrev begun : tie.After-may → tie.Start
+begun c = c .before .before .before .before .before .before .before
+
+-- so many do
+followed : (c : tie.After-follow)
+    → let told = behind-may c in
+    let a = begun told .args in
+    Followed (a .segment .now) (a .index) (a .tables) (a .extraction) (told .before .before .before .pid-of .result)
+    (told .may .given .0 .0) (told .may .given .0 .1 .0) (a .out .now) (c .follow .result)
+followed c =
+    let told = behind-may c in
+    let a = begun told .args in
+    let pre = begun told .pre in
+    record {
+      may =
+          subst (λ (d : Due). DueRefines (a .tables) (a .extraction) (told .before .before .before .pid-of .result) d) (told .may .given .1)
+          (told .before .before .due-after .ensures);
+      within = pre .0;
+      fits = pre .1;
+      many =
+          lent-many _ _ (drop (a .index) (packets (a .segment .now))) (a .out .now) (a .extraction .start + a .extraction .bytes)
+          (c .follow .result) (pre .1) (c .follow .ensures .0);
+    }
 
 mul-part : tie.Need-mul-part
 mul-part c = search needs
@@ -51,7 +62,11 @@ enum-told c = search needs
 returns : tie.Need-returns
 returns c =
     let start = c .before .before .before .before .before .before .before in
-    ((λ edition lens times some. absurd (some refl)), (omega (arith, start .pre .0), (λ z. refl)))
+    record {
+      passes = λ edition lens times some. absurd (some refl);
+      within = omega (arith, start .pre .0);
+      unmoved = λ z. refl;
+    }
 
 add-written : tie.Need-add-written
 add-written c = search needs
@@ -73,12 +88,8 @@ cast-last c = search needs
 
 add-last : tie.Need-add-last
 add-last c =
-    omega (
-      arith,
-      within-both c .0,
-      within-both c .1,
-      c .before .before .before .before .before .before .before .before .before .before .before .before .before .good,
-    )
+    let b = bounded (followed (c .before .before)) in
+    omega (arith, b .0, b .1, begun (behind-may (c .before .before)) .good)
 
 cast-last-2 : tie.Need-cast-last-2
 cast-last-2 c = search needs
@@ -88,22 +99,12 @@ same-length c = search needs
 
 returns-2 : tie.Need-returns-2
 returns-2 c =
-    let at-follow = c .before .before in
-    let at-may = at-follow .before .before .before .before in
-    let begin = at-may .before .before .before .before .before .before .before in
-    let a = begin .args in
-    let pre = begin .pre in
-    let at = a .extraction .start + a .extraction .bytes in
-    let l = drop (a .index) (packets (a .segment .now)) in
-    let m = at-follow .follow .result in
-    let may = subst (λ (d : Due). DueRefines (a .tables) (a .extraction) (at-may .before .before .before .pid-of .result) d)
-    (at-may .may .given .1) (at-may .before .before .due-after .ensures) in
-    let many = lent-many _ _ l (a .out .now) at m (pre .1) (at-follow .follow .ensures .0) in
-    let put = tail-placed at (a .out .now) (payloads m l) _ (pre .1) (at-follow .follow .ensures .1) in (
-      λ edition lens times some before st named s. went (a .segment .now) (a .index) (a .tables) (a .extraction) _ _ _ may
-          (a .out .now) (pre .0) (pre .1) m many some edition lens times before st named s _ _ put refl,
-      (within-both c .0, (λ z. put ∙ none-kept (a .out .now) at l m z)),
-    )
+    let done = c .before .before in
+    let start = begun (behind-may done) in
+    let a = start .args in
+    let put = tail-placed (a .extraction .start + a .extraction .bytes) (a .out .now)
+    (payloads (done .follow .result) (drop (a .index) (packets (a .segment .now)))) _ (start .pre .1) (done .follow .ensures .1) in
+    all-went (followed done) _ put
 
 pub go-on-spec : {M : Type 1} → statement M
 go-on-spec =

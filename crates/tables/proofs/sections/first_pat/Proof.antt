@@ -28,12 +28,14 @@ returns c segment lies e edition t h s = pat-refused h s _ e _ _ (c .before .rea
 
 returns-2 : tie.Need-returns-2
 returns-2 c segment lies e edition t h s =
-    let a = c .before .before .before .before .before .before .before .before .before .before .before .args in
+    let program = c .before .before .before .before .before .before .before in
+    let begin = program .before .before in
+    let a = begin .before .before .args in
     subst (λ (x : TablesResult). Refines (x .outcome) (patSection (t .pat) (a .section .now) t) (TablesRepresent edition segment
     (x .tables)))
     (sym (c .pass .ensures))
-    (pat-read h s (a .section .now) e (a .at) _ _ _ lies (c .before .before .before .before .before .before .before .read2 .given .1)
-    (c .before .before .before .before .before .before .before .before .before .read-pat .ensures)
+    (pat-read h s (a .section .now) e (a .at) _ _ _ lies (program .read2 .given .1)
+    (begin .read-pat .ensures)
     (c .before .before .before .named .ensures .1 segment))
 
 pub first-pat-spec : {M : Type 1} → statement M

@@ -35,13 +35,15 @@ returns c segment lies k e edition t h s =
 
 returns-2 : tie.Need-returns-2
 returns-2 c segment lies k e edition t h s =
-    let a = c .before .before .before .before .before .before .before .before .before .before .before .before .before .args in
-    let read = c .before .before .before .before .before .before .before .before .before .before .read-pmt in
+    let told = c .before .before .before .before .before .before .before in
+    let begin = told .before .before .before in
+    let a = begin .before .before .before .args in
+    let read = begin .read-pmt in
     subst (λ (x : TablesResult). Refines (x .outcome) (pmtSection edition (t .pat) (t .pmt) (a .section .now) t)
     (TablesRepresent edition segment (x .tables))) (sym (c .pass .ensures))
     (pmt-read s (a .section .now) (a .pat) e k (read .result .answer) (read .result .map) (read .ensures .0) (a .at)
     (c .before .before .pids-of .result) (c .before .of .result) lies
-    (c .before .before .before .before .before .before .before .enum-told .given .1) (c .before .before .pids-of .ensures)
+    (told .enum-told .given .1) (c .before .before .pids-of .ensures)
     (c .before .of .ensures))
 
 pub first-pmt-spec : {M : Type 1} → statement M

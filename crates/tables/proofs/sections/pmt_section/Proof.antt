@@ -40,8 +40,9 @@ returns-2 c lies = c .first-pmt .ensures _ lies (c .before .enum-told2 .given .1
 
 returns-3 : tie.Need-returns-3
 returns-3 c lies edition t h s =
-    pmt-later s (c .before .before .before .before .before .before .before .before .before .before .args .section .now) _ _ _
-    (c .later-section .result) (c .before .before .before .before .before .before .pat .given .1) (c .before .before .before .pmt .given .1)
+    let first = c .before .before .before .before .before .before in
+    pmt-later s (first .before .before .before .before .args .section .now) _ _ _
+    (c .later-section .result) (first .pat .given .1) (c .before .before .before .pmt .given .1)
     (c .before .part .ensures) (c .later-section .ensures t)
 
 pub pmt-section-spec : {M : Type 1} → statement M

@@ -27,9 +27,11 @@ pid-in-requires c κs = search needs
 
 returns-2 : tie.Need-returns-2
 returns-2 c edition segment t f e h s b d =
-    as-av1 h s _ f e b d _ (c .before .before .before .before .before .before .before .before .before .before .enum-told .given .1) _
-    (c .before .before .before .before .before .before .before .look-up .ensures) _
-    (c .before .before .before .before .before .slot .given .1) _ (c .before .pid-in .ensures) (c .if1 .taken)
+    let found = c .before .before .before .before .before in
+    let look = found .before .before in
+    as-av1 h s _ f e b d _ (look .before .before .before .enum-told .given .1) _
+    (look .look-up .ensures) _
+    (found .slot .given .1) _ (c .before .pid-in .ensures) (c .if1 .taken)
 
 returns-3 : tie.Need-returns-3
 returns-3 c edition segment t f e h s b d =
@@ -38,9 +40,11 @@ returns-3 c edition segment t f e h s b d =
 
 returns-4 : tie.Need-returns-4
 returns-4 c edition segment t f e h s b d =
-    as-other h s _ f e b d _ (c .before .before .before .before .before .before .before .before .before .before .enum-told .given .1) _
-    (c .before .before .before .before .before .before .before .look-up .ensures) _
-    (c .before .before .before .before .before .slot .given .1) _ (c .before .pid-in .ensures) (c .if1 .left)
+    let found = c .before .before .before .before .before in
+    let look = found .before .before in
+    as-other h s _ f e b d _ (look .before .before .before .enum-told .given .1) _
+    (look .look-up .ensures) _
+    (found .slot .given .1) _ (c .before .pid-in .ensures) (c .if1 .left)
 
 pub listed-as-spec : {M : Type 1} → statement M
 listed-as-spec =

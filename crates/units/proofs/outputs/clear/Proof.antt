@@ -28,18 +28,12 @@ same-length-4 : tie.Need-same-length-4
 same-length-4 c = search needs
 
 returns : tie.Need-returns
-returns c = (
-  c .before .before .before .before .before .before .before .before .before .before .before .before .before .before .clear
-      .ensures,
-  (
-    c .before .before .before .before .before .before .before .before .before .before .clear-lengths .ensures,
-    (
-      c .before .before
-          .before .before .before .before .clear-numbers .ensures,
-      c .before .before .clear-lengths2 .ensures,
-    ),
-  ),
-)
+returns c =
+    let numbers = c .before .before .before .before .before .before in
+    let lengths = numbers .before .before .before .before in
+    let bytes = lengths .before .before .before .before in
+    let last = c .before .before .clear-lengths2 in
+    (bytes .clear .ensures, (lengths .clear-lengths .ensures, (numbers .clear-numbers .ensures, last .ensures)))
 
 pub clear-spec : {M : Type 1} → statement M
 clear-spec =

@@ -68,20 +68,24 @@ at-requires-5 : tie.Need-at-requires-5
 at-requires-5 c κs = search needs
 
 returns-5 : tie.Need-returns-5
-returns-5 c = (
-  (λ before now p w st r is long k s. may-times _ p w st r is s
-      (k ∙ not-false _ (c .before .before .before .before .before .before .before .before .before .before .before .before .if1 .left))
-      (omega arith) _ long (omega arith) (omega arith) (omega arith) ∙ ap (λ (q : Refused). refusedBy q) (sym (c .at5 .ensures))),
-  (λ e. never-passed _ refl e),
-)
+returns-5 c =
+    let seen = c .before .before .before .before in
+    let first = seen .before .before .before .before .before .before .before .before in (
+      (λ before now p w st r is long k s. may-times _ p w st r is s
+          (k ∙ not-false _ (first .if1 .left))
+          (omega arith) _ long (omega arith) (omega arith) (omega arith) ∙ ap (λ (q : Refused). refusedBy q) (sym (c .at5 .ensures))),
+      (λ e. never-passed _ refl e),
+    )
 
 returns-6 : tie.Need-returns-6
-returns-6 c = (
-  (λ before now p w st r is long k s. may-all _ p w st r is s
-      (k ∙ not-false _ (c .before .before .before .before .before .before .before .before .before .before .before .if1 .left)) (omega arith)
-      _ long (omega arith) (omega arith) (omega arith)),
-  (λ e. record { inBytes = omega arith; inLens = omega arith; inTimes = omega arith }),
-)
+returns-6 c =
+    let seen = c .before .before .before in
+    let first = seen .before .before .before .before .before .before .before .before in (
+      (λ before now p w st r is long k s. may-all _ p w st r is s
+          (k ∙ not-false _ (first .if1 .left)) (omega arith)
+          _ long (omega arith) (omega arith) (omega arith)),
+      (λ e. record { inBytes = omega arith; inLens = omega arith; inTimes = omega arith }),
+    )
 
 pub may-open-spec : {M : Type 1} → statement M
 may-open-spec =
