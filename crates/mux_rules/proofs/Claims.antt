@@ -27,15 +27,16 @@ use Rattle.comparison.specs.Comparison.{sequenceHeaders, firstFrom}
 use Rattle.segment_rules.specs.Comparison.{comparedWith, compared, checkCompared}
 use Rattle.segment_rules.specs.Rules.{Rooms, carriedUnits}
 use Rattle.segment_rules.proofs.Running.{run-append}
+use Rattle.segment_rules.proofs.Accepting.{all-append}
 use Rattle.mux_rules.specs.declared.Channel.{Channel}
 use Rattle.mux_rules.specs.declared.Written.{Written}
-use Rattle.packet.proofs.Packets.{packets-flatten}
+use Rattle.packet.proofs.Packets.{Whole, packets-flatten}
 use Rattle.mux_rules.specs.Packets.{packetsFor, segmentPackets, segment, packetsForUnits}
 use Rattle.mux_rules.specs.Sending.{channelWrong, sending, unitsLeft, Sends}
 use Rattle.mux_rules.specs.declared.Sent.{Sent}
 use Rattle.mux_rules.specs.Claim.{accessUnits, acceptedAs, LongEnough, unitLengths, unitTimes, handedBack, Claim}
 use Rattle.mux_rules.specs.Claim.{channelThen, acceptedTwice, TwoSends}
-use Rattle.mux_rules.proofs.Counts.{all-append, Whole, flat-append, whole-segment, length-segment}
+use Rattle.mux_rules.proofs.Counts.{flat-append, whole-segment, length-segment}
 use Rattle.mux_rules.proofs.Reaching.{Allowed, allowed, each-whole, reached, renamed, send-first, send-again, ends}
 
 -- ---- the same units and times

@@ -11,22 +11,17 @@ use Rattle.lists.specs.Lists.{Bytes}
 use Rattle.refusal.specs.Verdict.{passed}
 use Rattle.refusal.proofs.Verdicts.{All, not-given}
 use Rattle.packet.specs.Writing.{most, counterAfter}
+use Rattle.packet.proofs.Packets.{Whole, length-flatten}
 use Rattle.packet.proofs.Writing.{length-carrying}
 use Rattle.psi.specs.Writing.{sectionPayload}
 use Rattle.psi.proofs.Writing.{length-payload}
 use Rattle.queue.specs.Queue.{TimedUnit}
 use Rattle.segment_rules.specs.Check.{rule20, segmentLengthWrong}
+use Rattle.segment_rules.proofs.Accepting.{all-append}
 use Rattle.mux_rules.specs.declared.Channel.{Channel}
 use Rattle.mux_rules.specs.Packets.{othersFor, firstPart, otherParts, firstFlags, others, packetsFor, unitPackets, unitsPackets}
 use Rattle.mux_rules.specs.Packets.{sectionPacket, segmentPackets, packetsForUnits}
 use Rattle.mux_rules.proofs.Cuts.{first-short}
-
-abbrev pub Whole : Bytes → Type 0
-Whole p = length p ≡ 188
-
-pub all-append : {A : Type 0} (P : A → Type 0) (l m : List A) → All P l → All P m → All P (l ++ m)
-all-append P [] m h k = k
-all-append P (a ∷ l) m h k = (h .0, all-append P l m (h .1) k)
 
 pub section-whole : (pid counter : ℕ) (s : Bytes) → length s ≤ 183 → Whole (sectionPacket pid counter s)
 unfolding sectionPacket
@@ -79,9 +74,7 @@ length-segment c d us = omega (arith, length-units (c .«av1_pid») (c .«av1_co
 
 -- ---- the bytes as packets
 pub flat-length : (ps : List Bytes) → All Whole ps → length (flatten ps) ≡ 188 * length ps
-unfolding flatten
-flat-length [] h = refl
-flat-length (p ∷ ps) h = omega (arith, length-append p (flatten ps), flat-length ps (h .1), h .0)
+flat-length ps h = omega (arith, length-flatten ps h)
 
 pub flat-append : (ps qs : List Bytes) → flatten (ps ++ qs) ≡ flatten ps ++ flatten qs
 unfolding flatten

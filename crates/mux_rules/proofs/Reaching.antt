@@ -17,7 +17,8 @@ use Rattle.descriptor.specs.Edition.{current}
 use Rattle.ticks.specs.declared.Ticks27.{Ticks27}
 use Rattle.packet.specs.Header as packet
 use Rattle.packet.specs.Header.{continuityCounter}
-use Rattle.packet.specs.Writing.{counterAfter, counterBefore, pcrPacket}
+use Rattle.packet.specs.Writing.{counterAfter, counterBefore}
+use Rattle.packet.proofs.Packets.{Whole}
 use Rattle.packet.proofs.Writing.{Reads}
 use Rattle.packet.proofs.WritingClocks.{length-pcr}
 use Rattle.psi.specs.Writing.{patRest, pat}
@@ -31,14 +32,14 @@ use Rattle.segment_rules.specs.Rules.{Rooms, closePes, closeIfOpen, carriedUnit
 use Rattle.segment_rules.specs.Check.{Progress, start, run, ending, accepted}
 use Rattle.segment_rules.proofs.Running.{run-append}
 use Rattle.mux_rules.specs.declared.Channel.{Channel}
-use Rattle.mux_rules.specs.Packets.{packetsFor, unitPackets, unitsPackets, sectionPacket, segmentPackets, packetsForUnits}
+use Rattle.mux_rules.specs.Packets.{packetsFor, unitPackets, unitsPackets, segmentPackets, packetsForUnits}
 use Rattle.mux_rules.specs.Sending.{mapPidWrong, av1PidWrong, programWrong, countersWrong, pcrWrong, channelWrong}
 use Rattle.mux_rules.specs.Claim.{accessUnits}
-use Rattle.mux_rules.proofs.Counts.{Whole, section-whole, units-whole}
+use Rattle.mux_rules.proofs.Counts.{section-whole, units-whole}
 use Rattle.mux_rules.proofs.States.{firstPat, firstPmt, afterPat, afterPmt, inTables, kind-map, kind-av1, step-by, run-next}
 use Rattle.mux_rules.proofs.States.{totalsAt}
 use Rattle.mux_rules.proofs.Tabling.{pat-reads, pmt-reads, clock-reads, pat-first, pmt-first, pcr-first, pat-again, pmt-again}
-use Rattle.mux_rules.proofs.Tabling.{pcr-again}
+use Rattle.mux_rules.proofs.Tabling.{pcr-again, patIs, pmtIs, pcrIs}
 use Rattle.mux_rules.proofs.Units.{extracted, going, openFor, unitAt, unit-run, unit-closes}
 
 -- ---- a unit that could be added
@@ -240,59 +241,60 @@ module _ (c : Channel) (d : Bytes) (ok : Allowed c d) (rooms : Rooms) where
   after = going c d rooms (ok .pid-some) (ok .pid-high) (ok .pid-other)
 
   module _ (na nb nl : ℕ) (ha : na < 16) (hb : nb < 16) (hl : nl < 16) (t : Ticks27) where
-    abbrev patIs : Bytes
-    patIs = sectionPacket 0 na (pat (c .program) (c .«map_pid»))
+    -- with these counters
+    abbrev p1 : Bytes
+    p1 = patIs c na
 
-    abbrev pmtIs : Bytes
-    pmtIs = sectionPacket (c .«map_pid») nb (pmt (c .program) (c .«av1_pid») d)
+    abbrev p2 : Bytes
+    p2 = pmtIs c d nb
 
-    abbrev pcrIs : Bytes
-    pcrIs = pcrPacket (c .«av1_pid») nl t
+    abbrev p3 : Bytes
+    p3 = pcrIs c nl t
 
-    pat-read : Reads patIs 0 true na false
+    pat-read : Reads p1 0 true na false
     pat-read = pat-reads c d rooms 0 (ok .program-some) (ok .map-low) (ok .map-high) na ha
 
-    pmt-read : Reads pmtIs (c .«map_pid») true nb false
+    pmt-read : Reads p2 (c .«map_pid») true nb false
     pmt-read = pmt-reads c d rooms 0 (ok .pid-some) (ok .pid-high) (ok .pid-other) (ok .fine) (ok .map-low) (ok .map-high) nb hb
 
-    pcr-read : Reads pcrIs (c .«av1_pid») false nl true
+    pcr-read : Reads p3 (c .«av1_pid») false nl true
     pcr-read = clock-reads c d rooms 0 (ok .pid-some) (ok .pid-high) (ok .pid-other) nl hl t
 
-    of-pat : (x : Tables) → kindOf x (packet.pid patIs) ≡ Pat
+    of-pat : (x : Tables) → kindOf x (packet.pid p1) ≡ Pat
     unfolding kindOf pick
     of-pat x = ap (kindOf x) (pat-read .pid)
 
-    of-map : (x : Tables) → x .pat ≡ some (firstPat c d) → kindOf x (packet.pid pmtIs) ≡ Map
+    of-map : (x : Tables) → x .pat ≡ some (firstPat c d) → kindOf x (packet.pid p2) ≡ Map
     of-map x e = ap (kindOf x) (pmt-read .pid) ∙ kind-map c d (ok .map-low) (ok .map-high) x e
 
-    of-av1 : (x : Tables) → x .pat ≡ some (firstPat c d) → x .pmt ≡ some (firstPmt c d) → kindOf x (packet.pid pcrIs) ≡ Av1
+    of-av1 : (x : Tables) → x .pat ≡ some (firstPat c d) → x .pmt ≡ some (firstPmt c d) → kindOf x (packet.pid p3) ≡ Av1
     of-av1 x e f = ap (kindOf x) (pcr-read .pid) ∙ kind-av1 c d (ok .pid-some) (ok .pid-high) (ok .pid-other) x e f
 
     -- as the first of a segment
     pub first-three : (ps : List Bytes)
-        → run current rooms start (patIs ∷ pmtIs ∷ pcrIs ∷ ps) ≡ run current rooms (after patIs pmtIs t pcrIs none [] 2 1) ps
+        → run current rooms start (p1 ∷ p2 ∷ p3 ∷ ps) ≡ run current rooms (after p1 p2 t p3 none [] 2 1) ps
     unfolding counting
     first-three ps =
-        run-next rooms start _ patIs _ _
-        (step-by rooms start _ patIs Pat (of-pat (fresh .tables))
+        run-next rooms start _ p1 _ _
+        (step-by rooms start _ p1 Pat (of-pat (fresh .tables))
         (pat-first c d rooms 0 (ok .program-some) (ok .map-low) (ok .map-high) na ha))
         (run-next rooms
-        (record { index = 1; state = record { tables = afterPat c d patIs; extraction = extracted none [] }; totals = totalsAt 1 0 }) _
-        pmtIs _ _
+        (record { index = 1; state = record { tables = afterPat c d p1; extraction = extracted none [] }; totals = totalsAt 1 0 }) _
+        p2 _ _
         (step-by rooms
-        (record { index = 1; state = record { tables = afterPat c d patIs; extraction = extracted none [] }; totals = totalsAt 1 0 }) _
-        pmtIs Map
-        (of-map (afterPat c d patIs) refl)
-        (pmt-first c d rooms 1 (ok .pid-some) (ok .pid-high) (ok .pid-other) (ok .fine) (ok .map-low) (ok .map-high) nb hb patIs
+        (record { index = 1; state = record { tables = afterPat c d p1; extraction = extracted none [] }; totals = totalsAt 1 0 }) _
+        p2 Map
+        (of-map (afterPat c d p1) refl)
+        (pmt-first c d rooms 1 (ok .pid-some) (ok .pid-high) (ok .pid-other) (ok .fine) (ok .map-low) (ok .map-high) nb hb p1
         (extracted none [])))
         (run-next rooms
-        (record { index = 2; state = record { tables = afterPmt c d patIs pmtIs; extraction = extracted none [] }; totals = totalsAt 2 0 })
-        _ pcrIs _ _
+        (record { index = 2; state = record { tables = afterPmt c d p1 p2; extraction = extracted none [] }; totals = totalsAt 2 0 })
+        _ p3 _ _
         (step-by rooms
-        (record { index = 2; state = record { tables = afterPmt c d patIs pmtIs; extraction = extracted none [] }; totals = totalsAt 2 0 })
-        _ pcrIs Av1
-        (of-av1 (afterPmt c d patIs pmtIs) refl refl)
-        (pcr-first c d rooms 2 (ok .pid-some) (ok .pid-high) (ok .pid-other) nl hl t patIs pmtIs (extracted none [])))
+        (record { index = 2; state = record { tables = afterPmt c d p1 p2; extraction = extracted none [] }; totals = totalsAt 2 0 })
+        _ p3 Av1
+        (of-av1 (afterPmt c d p1 p2) refl refl)
+        (pcr-first c d rooms 2 (ok .pid-some) (ok .pid-high) (ok .pid-other) nl hl t p1 p2 (extracted none [])))
         refl))
 
     -- after another send's
@@ -309,7 +311,7 @@ module _ (c : Channel) (d : Bytes) (ok : Allowed c d) (rooms : Rooms) where
       g1 =
           record {
             index = s + n + 1;
-            state = record { tables = inTables c d patIs b l earlier; extraction = x };
+            state = record { tables = inTables c d p1 b l earlier; extraction = x };
             totals = totalsAt (s + 1) n;
           }
 
@@ -317,7 +319,7 @@ module _ (c : Channel) (d : Bytes) (ok : Allowed c d) (rooms : Rooms) where
       g2 =
           record {
             index = s + n + 1 + 1;
-            state = record { tables = inTables c d patIs pmtIs l earlier; extraction = x };
+            state = record { tables = inTables c d p1 p2 l earlier; extraction = x };
             totals = totalsAt (s + 1 + 1) n;
           }
 
@@ -325,26 +327,26 @@ module _ (c : Channel) (d : Bytes) (ok : Allowed c d) (rooms : Rooms) where
       g3 i k =
           record {
             index = i;
-            state = record { tables = inTables c d patIs pmtIs pcrIs t; extraction = x };
+            state = record { tables = inTables c d p1 p2 p3 t; extraction = x };
             totals = totalsAt k (n + 1);
           }
 
       pub again-three : (ps : List Bytes)
-          → run current rooms g0 (patIs ∷ pmtIs ∷ pcrIs ∷ ps) ≡ run current rooms (after patIs pmtIs t pcrIs now before (s + 2) (n + 1)) ps
+          → run current rooms g0 (p1 ∷ p2 ∷ p3 ∷ ps) ≡ run current rooms (after p1 p2 t p3 now before (s + 2) (n + 1)) ps
       unfolding counting
       again-three ps =
           let i : s + n + 1 + 1 + 1 ≡ s + 2 + (n + 1) = omega arith in
           let k : s + 1 + 1 ≡ s + 2 = omega arith in
-          run-next rooms g0 g1 patIs _ _
-          (step-by rooms g0 _ patIs Pat (of-pat (g0 .state .tables))
+          run-next rooms g0 g1 p1 _ _
+          (step-by rooms g0 _ p1 Pat (of-pat (g0 .state .tables))
           (pat-again c d rooms (s + n) (ok .program-some) (ok .map-low) (ok .map-high) na ha a b l earlier x ea))
-          (run-next rooms g1 g2 pmtIs _ _
-          (step-by rooms g1 _ pmtIs Map (of-map (g1 .state .tables) refl)
+          (run-next rooms g1 g2 p2 _ _
+          (step-by rooms g1 _ p2 Map (of-map (g1 .state .tables) refl)
           (pmt-again c d rooms (s + n + 1) (ok .pid-some) (ok .pid-high) (ok .pid-other) (ok .fine) (ok .map-low)
-          (ok .map-high) nb hb patIs b l earlier x eb))
-          (run-next rooms g2 (g3 (s + n + 1 + 1 + 1) (s + 1 + 1)) pcrIs _ _
-          (step-by rooms g2 _ pcrIs Av1 (of-av1 (g2 .state .tables) refl refl)
-          (pcr-again c d rooms (s + n + 1 + 1) (ok .pid-some) (ok .pid-high) (ok .pid-other) nl hl t patIs pmtIs l earlier x el))
+          (ok .map-high) nb hb p1 b l earlier x eb))
+          (run-next rooms g2 (g3 (s + n + 1 + 1 + 1) (s + 1 + 1)) p3 _ _
+          (step-by rooms g2 _ p3 Av1 (of-av1 (g2 .state .tables) refl refl)
+          (pcr-again c d rooms (s + n + 1 + 1) (ok .pid-some) (ok .pid-high) (ok .pid-other) nl hl t p1 p2 l earlier x el))
           (ap₂ (λ (y z : ℕ). run current rooms (g3 y z) ps) i k)))
 
   -- ---- the end
@@ -379,14 +381,13 @@ module _ (c : Channel) (d : Bytes) (ok : Allowed c d) (rooms : Rooms) where
         (accessUnits 3 us) 2 (1 + packetsForUnits us)
     unfolding segmentPackets closeIfOpen
     send-first fits =
-        let g = after (patIs na nb (counterBefore nl) ha hb (omega arith) t) (pmtIs na nb (counterBefore nl) ha hb (omega arith) t) t
-        (pcrIs na nb (counterBefore nl) ha hb (omega arith) t) none [] 2 1 in
+        let g = after (patIs c na) (pmtIs c d nb) t (pcrIs c (counterBefore nl) t) none [] 2 1 in
         renamed
         (units-run us g na nb (counterBefore nl) [] 2 1
         (record {
-          a = patIs na nb (counterBefore nl) ha hb (omega arith) t;
-          b = pmtIs na nb (counterBefore nl) ha hb (omega arith) t;
-          last = pcrIs na nb (counterBefore nl) ha hb (omega arith) t;
+          a = patIs c na;
+          b = pmtIs c d nb;
+          last = pcrIs c (counterBefore nl) t;
           t = t;
           now = none;
           before = [];
@@ -410,9 +411,9 @@ module _ (c : Channel) (d : Bytes) (ok : Allowed c d) (rooms : Rooms) where
         (units ++ accessUnits (s + 2 + (n + 1)) us) (s + 2) (n + 1 + packetsForUnits us)
     unfolding segmentPackets
     send-again g ka kb kl units s n r ea eb el fits =
-        let p1 = patIs na nb (counterBefore nl) ha hb (omega arith) t in
-        let p2 = pmtIs na nb (counterBefore nl) ha hb (omega arith) t in
-        let p3 = pcrIs na nb (counterBefore nl) ha hb (omega arith) t in
+        let p1 = patIs c na in
+        let p2 = pmtIs c d nb in
+        let p3 = pcrIs c (counterBefore nl) t in
         let g3 = after p1 p2 t p3 (r .now) (r .before) (s + 2) (n + 1) in
         renamed
         (units-run us g3 na nb (counterBefore nl) units (s + 2) (n + 1)

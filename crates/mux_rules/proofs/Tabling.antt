@@ -90,38 +90,45 @@ unfolding onTables _>>=_
 section-taken rooms i p st st1 t read new e f =
     sym (go-on st1 _ e (sym (not-repeated p (onTables (λ x. atPlace i (read x))) st1 (none-repeats _ (st1 .tables .records) new) ∙ rw f)))
 
+-- the packets of PAT, PMT and PCR, with this counter
+abbrev pub patIs : Channel → ℕ → Bytes
+patIs c n = sectionPacket 0 n (pat (c .program) (c .«map_pid»))
+
+abbrev pub pmtIs : Channel → Bytes → ℕ → Bytes
+pmtIs c d n = sectionPacket (c .«map_pid») n (pmt (c .program) (c .«av1_pid») d)
+
+abbrev pub pcrIs : Channel → ℕ → Ticks27 → Bytes
+pcrIs c n t = pcrPacket (c .«av1_pid») n t
+
 module _ (c : Channel) (d : Bytes) (rooms : Rooms) (i : ℕ) where
   -- ---- the PAT
   module _ (some-program : c .program ≡ 0 → ⊥) (low : 0x0010 ≤ c .«map_pid») (high : c .«map_pid» ≤ 0x1FFE) (n : ℕ) (hn : n < 16) where
-    abbrev pub patIs : Bytes
-    patIs = sectionPacket 0 n (pat (c .program) (c .«map_pid»))
-
     abbrev rest : Bytes
     rest = patRest (c .program) (c .«map_pid»)
 
-    pub pat-reads : Reads patIs 0 true n false
+    pub pat-reads : Reads (patIs c n) 0 true n false
     pat-reads = section-reads 0 n 0 0 rest (omega arith) hn (omega arith)
 
-    pat-has : hasPayload patIs ≡ true
+    pat-has : hasPayload (patIs c n) ≡ true
     pat-has = section-carries 0 n 0 0 rest (omega arith) hn (omega arith)
 
     pat-said : (s : Bool) (w : Bytes) → misplaced s w ≡ false → sectionOf w ≡ pat (c .program) (c .«map_pid»)
-        → (t : Tables) → t .pat ≡ none → t .pmt ≡ none → t .records ≡ seen 0 patIs ∷ [] → t .pcr ≡ clock.None
-        → atPlace i (sectionRead current Pat s w t) ≡ passed (afterPat c d patIs)
+        → (t : Tables) → t .pat ≡ none → t .pmt ≡ none → t .records ≡ seen 0 (patIs c n) ∷ [] → t .pcr ≡ clock.None
+        → atPlace i (sectionRead current Pat s w t) ≡ passed (afterPat c d (patIs c n))
     unfolding sectionRead patSection atPlace given pick _>>_ _>>=_
     pat-said s w m e t ep em er ec = rw (ep, m, e, pat-read (c .program) (c .«map_pid») some-program low high, em, er, ec)
 
     -- the first of a segment
-    pub pat-first : packetRules current rooms i patIs Pat fresh
-        ≡ passed (record { tables = afterPat c d patIs; extraction = fresh .extraction })
+    pub pat-first : packetRules current rooms i (patIs c n) Pat fresh
+        ≡ passed (record { tables = afterPat c d (patIs c n); extraction = fresh .extraction })
     pat-first =
-        pat-packet current rooms i patIs fresh _ (pat-reads .passes) pat-has
-        ∙ section-taken rooms i patIs fresh _ (afterPat c d patIs)
-        (sectionRead current Pat (payloadUnitStartIndicator patIs) (payload patIs)) (refl, tt)
-        (counted-by i patIs fresh (seen 0 patIs ∷ []) clock.None
-        (checked-first (named 0) _ [] patIs (sym (pat-reads .pid)) (first-check 0 patIs))
-        (still patIs none clock.None (pat-reads .clock)))
-        (pat-said (payloadUnitStartIndicator patIs) (payload patIs) (section-placed 0 n 0 0 rest (omega arith) hn (omega arith))
+        pat-packet current rooms i (patIs c n) fresh _ (pat-reads .passes) pat-has
+        ∙ section-taken rooms i (patIs c n) fresh _ (afterPat c d (patIs c n))
+        (sectionRead current Pat (payloadUnitStartIndicator (patIs c n)) (payload (patIs c n))) (refl, tt)
+        (counted-by i (patIs c n) fresh (seen 0 (patIs c n) ∷ []) clock.None
+        (checked-first (named 0) _ [] (patIs c n) (sym (pat-reads .pid)) (first-check 0 (patIs c n)))
+        (still (patIs c n) none clock.None (pat-reads .clock)))
+        (pat-said (payloadUnitStartIndicator (patIs c n)) (payload (patIs c n)) (section-placed 0 n 0 0 rest (omega arith) hn (omega arith))
         (section-found 0 n 0 0 rest (omega arith) hn (omega arith)) _ refl refl refl refl)
 
     pat-same : (s : Bool) (w : Bytes) → misplaced s w ≡ false → sectionOf w ≡ pat (c .program) (c .«map_pid») → (t : Tables)
@@ -132,62 +139,60 @@ module _ (c : Channel) (d : Bytes) (rooms : Rooms) (i : ℕ) where
 
     -- after another send's
     pub pat-again : (a b l : Bytes) (t : Ticks27) (x : Extraction) → counterAfter (continuityCounter a) 1 ≡ n
-        → packetRules current rooms i patIs Pat (record { tables = inTables c d a b l t; extraction = x })
-        ≡ passed (record { tables = inTables c d patIs b l t; extraction = x })
+        → packetRules current rooms i (patIs c n) Pat (record { tables = inTables c d a b l t; extraction = x })
+        ≡ passed (record { tables = inTables c d (patIs c n) b l t; extraction = x })
     pat-again a b l t x e =
         let st : State = record { tables = inTables c d a b l t; extraction = x } in
         let r = pat-reads in
-        pat-packet current rooms i patIs st _ (r .passes) pat-has
-        ∙ section-taken rooms i patIs st _ (inTables c d patIs b l t)
-        (sectionRead current Pat (payloadUnitStartIndicator patIs) (payload patIs)) (refl, (refl, (refl, tt)))
-        (counted-by i patIs st _ (clock.Pcr t)
-        (checked-first (seen 0 a) _ _ patIs (sym (r .pid))
-        (next-check 0 a patIs (r .steady) (r .counter ∙ sym e ∙ due-next (continuityCounter a) (hasPayload patIs) pat-has)))
-        (still patIs (some (firstPmt c d)) (clock.Pcr t) (r .clock)))
-        (pat-same (payloadUnitStartIndicator patIs) (payload patIs) (section-placed 0 n 0 0 rest (omega arith) hn (omega arith))
+        pat-packet current rooms i (patIs c n) st _ (r .passes) pat-has
+        ∙ section-taken rooms i (patIs c n) st _ (inTables c d (patIs c n) b l t)
+        (sectionRead current Pat (payloadUnitStartIndicator (patIs c n)) (payload (patIs c n))) (refl, (refl, (refl, tt)))
+        (counted-by i (patIs c n) st _ (clock.Pcr t)
+        (checked-first (seen 0 a) _ _ (patIs c n) (sym (r .pid))
+        (next-check 0 a (patIs c n) (r .steady) (r .counter ∙ sym e ∙ due-next (continuityCounter a) (hasPayload (patIs c n)) pat-has)))
+        (still (patIs c n) (some (firstPmt c d)) (clock.Pcr t) (r .clock)))
+        (pat-same (payloadUnitStartIndicator (patIs c n)) (payload (patIs c n)) (section-placed 0 n 0 0 rest (omega arith) hn (omega arith))
         (section-found 0 n 0 0 rest (omega arith) hn (omega arith)) _ refl)
 
   -- ---- the PMT
   module _ (p0 : c .«av1_pid» ≡ 0 → ⊥) (high : c .«av1_pid» ≤ 0x1FFE) (p2 : c .«av1_pid» ≡ c .«map_pid» → ⊥) (fine : wrong d ≡ false)
       (low : 0x0010 ≤ c .«map_pid») (hm : c .«map_pid» ≤ 0x1FFE) (n : ℕ) (hn : n < 16) where
-    abbrev pub pmtIs : Bytes
-    pmtIs = sectionPacket (c .«map_pid») n (pmt (c .program) (c .«av1_pid») d)
-
     abbrev rests : Bytes
     rests = pmtRest (c .«av1_pid») d
 
     short : length rests ≤ 171
     short = omega (arith, video-length d fine)
 
-    pub pmt-reads : Reads pmtIs (c .«map_pid») true n false
+    pub pmt-reads : Reads (pmtIs c d n) (c .«map_pid») true n false
     pmt-reads = section-reads (c .«map_pid») n 2 (c .program) rests (omega arith) hn short
 
-    pmt-has : hasPayload pmtIs ≡ true
+    pmt-has : hasPayload (pmtIs c d n) ≡ true
     pmt-has = section-carries (c .«map_pid») n 2 (c .program) rests (omega arith) hn short
 
-    not-zero : 0 ≡ packet.pid pmtIs → ⊥
+    not-zero : 0 ≡ packet.pid (pmtIs c d n) → ⊥
     not-zero e = omega (arith, pmt-reads .pid)
 
     pmt-said : (s : Bool) (w : Bytes) → misplaced s w ≡ false → sectionOf w ≡ pmt (c .program) (c .«av1_pid») d
-        → (a : Bytes) (t : Tables) → t .pat ≡ some (firstPat c d) → t .pmt ≡ none → t .records ≡ seen 0 a ∷ seen (c .«map_pid») pmtIs ∷ []
-        → t .pcr ≡ clock.None → atPlace i (sectionRead current Map s w t) ≡ passed (afterPmt c d a pmtIs)
+        → (a : Bytes) (t : Tables) → t .pat ≡ some (firstPat c d) → t .pmt ≡ none
+        → t .records ≡ seen 0 a ∷ seen (c .«map_pid») (pmtIs c d n) ∷ [] → t .pcr ≡ clock.None
+        → atPlace i (sectionRead current Map s w t) ≡ passed (afterPmt c d a (pmtIs c d n))
     unfolding sectionRead pmtSection atPlace given pick _>>_ _>>=_
     pmt-said s w m e a t ep em er ec = rw (ep, em, m, e, pmt-read (c .program) (c .«map_pid») (c .«av1_pid») d p0 high p2 fine, er, ec)
 
     pub pmt-first : (a : Bytes) (x : Extraction)
-        → packetRules current rooms i pmtIs Map (record { tables = afterPat c d a; extraction = x })
-        ≡ passed (record { tables = afterPmt c d a pmtIs; extraction = x })
+        → packetRules current rooms i (pmtIs c d n) Map (record { tables = afterPat c d a; extraction = x })
+        ≡ passed (record { tables = afterPmt c d a (pmtIs c d n); extraction = x })
     pmt-first a x =
         let st : State = record { tables = afterPat c d a; extraction = x } in
         let r = pmt-reads in
-        map-packet current rooms i pmtIs st _ (r .passes) pmt-has
-        ∙ section-taken rooms i pmtIs st _ (afterPmt c d a pmtIs)
-        (sectionRead current Map (payloadUnitStartIndicator pmtIs) (payload pmtIs)) (refl, (refl, tt))
-        (counted-by i pmtIs st _ clock.None
-        (checked-later (seen 0 a) (seen 0 a) _ pmtIs _ not-zero
-        (checked-first (named (c .«map_pid»)) _ [] pmtIs (sym (r .pid)) (first-check (c .«map_pid») pmtIs)))
-        (still pmtIs none clock.None (r .clock)))
-        (pmt-said (payloadUnitStartIndicator pmtIs) (payload pmtIs)
+        map-packet current rooms i (pmtIs c d n) st _ (r .passes) pmt-has
+        ∙ section-taken rooms i (pmtIs c d n) st _ (afterPmt c d a (pmtIs c d n))
+        (sectionRead current Map (payloadUnitStartIndicator (pmtIs c d n)) (payload (pmtIs c d n))) (refl, (refl, tt))
+        (counted-by i (pmtIs c d n) st _ clock.None
+        (checked-later (seen 0 a) (seen 0 a) _ (pmtIs c d n) _ not-zero
+        (checked-first (named (c .«map_pid»)) _ [] (pmtIs c d n) (sym (r .pid)) (first-check (c .«map_pid») (pmtIs c d n))))
+        (still (pmtIs c d n) none clock.None (r .clock)))
+        (pmt-said (payloadUnitStartIndicator (pmtIs c d n)) (payload (pmtIs c d n))
         (section-placed (c .«map_pid») n 2 (c .program) rests (omega arith) hn short)
         (section-found (c .«map_pid») n 2 (c .program) rests (omega arith) hn short) a _ refl refl refl refl)
 
@@ -197,77 +202,75 @@ module _ (c : Channel) (d : Bytes) (rooms : Rooms) (i : ℕ) where
     pmt-same s w m e t ep em = rw (ep, em, m, e, same-self (pmt (c .program) (c .«av1_pid») d))
 
     pub pmt-again : (a b l : Bytes) (t : Ticks27) (x : Extraction) → counterAfter (continuityCounter b) 1 ≡ n
-        → packetRules current rooms i pmtIs Map (record { tables = inTables c d a b l t; extraction = x })
-        ≡ passed (record { tables = inTables c d a pmtIs l t; extraction = x })
+        → packetRules current rooms i (pmtIs c d n) Map (record { tables = inTables c d a b l t; extraction = x })
+        ≡ passed (record { tables = inTables c d a (pmtIs c d n) l t; extraction = x })
     pmt-again a b l t x e =
         let st : State = record { tables = inTables c d a b l t; extraction = x } in
         let r = pmt-reads in
-        map-packet current rooms i pmtIs st _ (r .passes) pmt-has
-        ∙ section-taken rooms i pmtIs st _ (inTables c d a pmtIs l t)
-        (sectionRead current Map (payloadUnitStartIndicator pmtIs) (payload pmtIs)) (refl, (refl, (refl, tt)))
-        (counted-by i pmtIs st _ (clock.Pcr t)
-        (checked-later (seen 0 a) (seen 0 a) _ pmtIs _ not-zero
-        (checked-first (seen (c .«map_pid») b) _ _ pmtIs (sym (r .pid))
-        (next-check (c .«map_pid») b pmtIs (r .steady) (r .counter ∙ sym e ∙ due-next (continuityCounter b) (hasPayload pmtIs) pmt-has))))
-        (still pmtIs (some (firstPmt c d)) (clock.Pcr t) (r .clock)))
-        (pmt-same (payloadUnitStartIndicator pmtIs) (payload pmtIs)
+        map-packet current rooms i (pmtIs c d n) st _ (r .passes) pmt-has
+        ∙ section-taken rooms i (pmtIs c d n) st _ (inTables c d a (pmtIs c d n) l t)
+        (sectionRead current Map (payloadUnitStartIndicator (pmtIs c d n)) (payload (pmtIs c d n))) (refl, (refl, (refl, tt)))
+        (counted-by i (pmtIs c d n) st _ (clock.Pcr t)
+        (checked-later (seen 0 a) (seen 0 a) _ (pmtIs c d n) _ not-zero
+        (checked-first (seen (c .«map_pid») b) _ _ (pmtIs c d n) (sym (r .pid))
+        (next-check (c .«map_pid») b (pmtIs c d n) (r .steady)
+        (r .counter ∙ sym e ∙ due-next (continuityCounter b) (hasPayload (pmtIs c d n)) pmt-has))))
+        (still (pmtIs c d n) (some (firstPmt c d)) (clock.Pcr t) (r .clock)))
+        (pmt-same (payloadUnitStartIndicator (pmtIs c d n)) (payload (pmtIs c d n))
         (section-placed (c .«map_pid») n 2 (c .program) rests (omega arith) hn short)
         (section-found (c .«map_pid») n 2 (c .program) rests (omega arith) hn short) _ refl refl)
 
   -- ---- the PCR
   module _ (p0 : c .«av1_pid» ≡ 0 → ⊥) (high : c .«av1_pid» ≤ 0x1FFE) (p2 : c .«av1_pid» ≡ c .«map_pid»
       → ⊥) (n : ℕ) (hn : n < 16) (t : Ticks27) where
-    abbrev pub pcrIs : Bytes
-    pcrIs = pcrPacket (c .«av1_pid») n t
-
-    pub clock-reads : Reads pcrIs (c .«av1_pid») false n true
+    pub clock-reads : Reads (pcrIs c n t) (c .«av1_pid») false n true
     clock-reads = pcr-reads (c .«av1_pid») n t (omega arith) hn
 
-    clock-empty : hasPayload pcrIs ≡ false
+    clock-empty : hasPayload (pcrIs c n t) ≡ false
     clock-empty = pcr-empty (c .«av1_pid») n t (omega arith) hn
 
     not-null : c .«av1_pid» ≡ nullPid → ⊥
     not-null e = omega arith
 
     -- it counts
-    counts : (earlier : Clock) → lastPcr earlier (countingPcr (some (firstPmt c d)) pcrIs) ≡ clock.Pcr t
+    counts : (earlier : Clock) → lastPcr earlier (countingPcr (some (firstPmt c d)) (pcrIs c n t)) ≡ clock.Pcr t
     unfolding countingPcr
     counts earlier =
         ap (lastPcr earlier)
-        (sym (by-true _ (eq-eqb (packet.pid pcrIs) (c .«av1_pid») (clock-reads .pid))
+        (sym (by-true _ (eq-eqb (packet.pid (pcrIs c n t)) (c .«av1_pid») (clock-reads .pid))
         (sym (pcr-is (c .«av1_pid») n t (omega arith) hn not-null))))
 
     -- it is neither on PID 0 nor on the map PID
-    not-first : 0 ≡ packet.pid pcrIs → ⊥
+    not-first : 0 ≡ packet.pid (pcrIs c n t) → ⊥
     not-first e = p0 (sym (clock-reads .pid) ∙ sym e)
 
-    not-map : c .«map_pid» ≡ packet.pid pcrIs → ⊥
+    not-map : c .«map_pid» ≡ packet.pid (pcrIs c n t) → ⊥
     not-map e = p2 (sym (clock-reads .pid) ∙ sym e)
 
     pub pcr-first : (a b : Bytes) (x : Extraction)
-        → packetRules current rooms i pcrIs Av1 (record { tables = afterPmt c d a b; extraction = x })
-        ≡ passed (record { tables = inTables c d a b pcrIs t; extraction = x })
+        → packetRules current rooms i (pcrIs c n t) Av1 (record { tables = afterPmt c d a b; extraction = x })
+        ≡ passed (record { tables = inTables c d a b (pcrIs c n t) t; extraction = x })
     pcr-first a b x =
         let st : State = record { tables = afterPmt c d a b; extraction = x } in
         let r = clock-reads in
-        av1-empty current rooms i pcrIs st _ (r .passes) clock-empty
-        ∙ counted-by i pcrIs st _ (clock.Pcr t)
-        (checked-later (seen 0 a) (seen 0 a) _ pcrIs _ not-first
-        (checked-later (seen (c .«map_pid») b) (seen (c .«map_pid») b) _ pcrIs _ not-map
-        (checked-first (named (c .«av1_pid»)) _ [] pcrIs (sym (r .pid)) (first-check (c .«av1_pid») pcrIs))))
+        av1-empty current rooms i (pcrIs c n t) st _ (r .passes) clock-empty
+        ∙ counted-by i (pcrIs c n t) st _ (clock.Pcr t)
+        (checked-later (seen 0 a) (seen 0 a) _ (pcrIs c n t) _ not-first
+        (checked-later (seen (c .«map_pid») b) (seen (c .«map_pid») b) _ (pcrIs c n t) _ not-map
+        (checked-first (named (c .«av1_pid»)) _ [] (pcrIs c n t) (sym (r .pid)) (first-check (c .«av1_pid») (pcrIs c n t)))))
         (counts clock.None)
 
     pub pcr-again : (a b l : Bytes) (earlier : Ticks27) (x : Extraction) → continuityCounter l ≡ n
-        → packetRules current rooms i pcrIs Av1 (record { tables = inTables c d a b l earlier; extraction = x })
-        ≡ passed (record { tables = inTables c d a b pcrIs t; extraction = x })
+        → packetRules current rooms i (pcrIs c n t) Av1 (record { tables = inTables c d a b l earlier; extraction = x })
+        ≡ passed (record { tables = inTables c d a b (pcrIs c n t) t; extraction = x })
     pcr-again a b l earlier x e =
         let st : State = record { tables = inTables c d a b l earlier; extraction = x } in
         let r = clock-reads in
-        av1-empty current rooms i pcrIs st _ (r .passes) clock-empty
-        ∙ counted-by i pcrIs st _ (clock.Pcr t)
-        (checked-later (seen 0 a) (seen 0 a) _ pcrIs _ not-first
-        (checked-later (seen (c .«map_pid») b) (seen (c .«map_pid») b) _ pcrIs _ not-map
-        (checked-first (seen (c .«av1_pid») l) _ [] pcrIs (sym (r .pid))
-        (next-check (c .«av1_pid») l pcrIs (r .steady)
-        (r .counter ∙ sym e ∙ due-same (continuityCounter l) (hasPayload pcrIs) clock-empty)))))
+        av1-empty current rooms i (pcrIs c n t) st _ (r .passes) clock-empty
+        ∙ counted-by i (pcrIs c n t) st _ (clock.Pcr t)
+        (checked-later (seen 0 a) (seen 0 a) _ (pcrIs c n t) _ not-first
+        (checked-later (seen (c .«map_pid») b) (seen (c .«map_pid») b) _ (pcrIs c n t) _ not-map
+        (checked-first (seen (c .«av1_pid») l) _ [] (pcrIs c n t) (sym (r .pid))
+        (next-check (c .«av1_pid») l (pcrIs c n t) (r .steady)
+        (r .counter ∙ sym e ∙ due-same (continuityCounter l) (hasPayload (pcrIs c n t)) clock-empty)))))
         (counts (clock.Pcr earlier))

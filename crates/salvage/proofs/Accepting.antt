@@ -10,7 +10,7 @@ use lib.Dec.{ltb, eqb}
 use lib.ListN.{length}
 use Rattle.lists.specs.Lists.{Bytes}
 use Rattle.lists.proofs.Tests.{case, clash, and-both}
-use Rattle.refusal.specs.Verdict.{Verdict, passed, refused, NoValue}
+use Rattle.refusal.specs.Verdict.{Verdict, passed, refused}
 use Rattle.refusal.proofs.Verdicts.{All}
 use Rattle.refusal.specs.declared.Refused.{Refused}
 use Rattle.obu.specs.Header.{obuRefusal}
@@ -22,6 +22,7 @@ use Rattle.unit.proofs.Theorem.{Fits, fits, accepts-carried}
 use Rattle.unit.proofs.Accepted.{accepted-by, carried-accepted}
 use Rattle.salvage.specs.Salvage.{passes}
 use Rattle.salvage.specs.Parts.{kindsOf, bytesOf, acceptable}
+use Rattle.salvage.proofs.Forms.{passes-true}
 
 -- ---- by the tests of the code
 module _ (count bytes : ℕ) (kinds : List ℕ) where
@@ -48,10 +49,6 @@ module _ (count bytes : ℕ) (kinds : List ℕ) where
       out-of-order q r e k = by-order false (ap passes (sym e ∙ ap orderedSays k))
 
 -- ---- of a list
-passes-true : (v : Verdict NoValue) → passes v ≡ true → v ≡ passed tt
-passes-true (passed a) e = refl
-passes-true (refused number place) e = clash e refl
-
 a-value : {A : Type 0} (v : Verdict A) → passes v ≡ true → (a : A) × (v ≡ passed a)
 a-value (passed a) e = (a, refl)
 a-value (refused number place) e = clash e refl

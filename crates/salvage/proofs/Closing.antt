@@ -1,17 +1,18 @@
 -- The writer's form of a legal payload is the payload, but for a closing 03 (`rewritten`). Assumes nothing.
 use Prim.Native.Nat.{ℕ, suc, _-_, _≤_, _<_}
-use mathlib.Core.Bool.{true, false, _&&_, and-false}
+use mathlib.Core.Bool.{true, false, and-false}
 use mathlib.Core.Path.{_≡_, refl, sym, ap, _∙_}
 use mathlib.Core.Logic.{_⊎_, inl, inr}
 use mathlib.Core.List.{[], _∷_, _++_}
 use native.Mathlib.Omega.{arith}
-use borrow.Author.Tests.{eqb-true, eq-eqb, ne-eqb}
+use borrow.Author.Tests.{eq-eqb, ne-eqb}
 use lib.Dec.{eqb}
 use lib.ListN.{length, take, getD, length-append}
 use lib.Seq.{take-at}
 use Rattle.lists.specs.Lists.{Bytes, pick}
-use Rattle.lists.proofs.Tests.{case, clash, and-both}
+use Rattle.lists.proofs.Tests.{case}
 use Rattle.emulation.specs.Payload.{legal, unescape, escape, escapeAfter, stuffed, marked3}
+use Rattle.emulation.proofs.Machine.{unmarked-of-plain, three-apart}
 use Rattle.emulation.proofs.Theorems.{legal-unescape}
 use Rattle.unit.proofs.Closings.{endsIn00, closing-ends}
 use Rattle.salvage.specs.Salvage.{closes}
@@ -35,18 +36,6 @@ unfolding closes
 open-step a b c [] e h = e
 open-step a b c (d ∷ s) e h = h
 
-not-marked : (p q b : ℕ) → stuffed p q b ≡ false → marked3 p q b ≡ false
-not-marked p q b e =
-    case (marked3 p q b)
-    (λ m.
-    let h = and-both (eqb p 0 && eqb q 0) (eqb b 3) m in
-    let three : b ≡ 3 = eqb-true b 3 (h .1) in
-    clash (rw (h .0, three)) e)
-    (λ m. m)
-
-no-second : (q b : ℕ) → marked3 q 3 b ≡ false
-no-second q b = rw (and-false (eqb q 0))
-
 -- after two bytes p and q, what is written (with them before it) does not close
 form-open : (p q : ℕ) (s : Bytes) → closes (p ∷ q ∷ escapeAfter p q s) ≡ false
 unfolding escapeAfter closes
@@ -55,8 +44,8 @@ form-open p q (b ∷ s) =
     let more3 = form-open 3 b s in
     let more = form-open q b s in
     case (stuffed p q b)
-    (λ e. rw (e, escapeAfter) (open-step q 3 b (escapeAfter 3 b s) (no-second q b) more3))
-    (λ e. rw (e, escapeAfter) (open-step p q b (escapeAfter q b s) (not-marked p q b e) more))
+    (λ e. rw (e, escapeAfter) (open-step q 3 b (escapeAfter 3 b s) (three-apart q b) more3))
+    (λ e. rw (e, escapeAfter) (open-step p q b (escapeAfter q b s) (unmarked-of-plain p q b e) more))
 
 front-off : (s : Bytes) → closes (1 ∷ 1 ∷ s) ≡ false → closes s ≡ false
 unfolding closes

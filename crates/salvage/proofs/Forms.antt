@@ -223,12 +223,12 @@ kept-few p =
     (λ e. omega (arith, ap length (kept-none p e)))
 
 -- each passes by itself
+pub passes-true : (v : Verdict NoValue) → passes v ≡ true → v ≡ passed tt
+passes-true (passed a) e = refl
+passes-true (refused number place) e = clash e refl
+
 pub keeps-passed : (p : Bytes) → keeps p ≡ true → salvageRefusal p ≡ passed tt
-keeps-passed p = by-verdict (salvageRefusal p)
-  where
-    by-verdict : (v : Verdict NoValue) → passes v ≡ true → v ≡ passed tt
-    by-verdict (passed a) e = refl
-    by-verdict (refused number place) e = clash e refl
+keeps-passed p = passes-true (salvageRefusal p)
 
 all-joined : (P : Bytes → Type 0) (a b : List Bytes) → All P a → All P b → All P (a ++ b)
 all-joined P [] b h k = k

@@ -9,21 +9,16 @@ use mathlib.Core.List.{List, [], _∷_, _++_, map, flatten}
 use native.Mathlib.Omega.{arith}
 use borrow.Author.Tests.{eqb-true, eq-eqb}
 use lib.Dec.{leb, eqb}
-use lib.ListN as ListN
 use lib.ListN.{length, length-append}
 use Rattle.lists.specs.Lists.{Bytes, pick, those, all}
 use Rattle.lists.proofs.Elements.{those-first, those-others}
 use Rattle.lists.proofs.Tests.{case, clash, and-both, and-by-true}
-use Rattle.refusal.specs.Verdict.{Verdict, passed, refused, NoValue, given, _>>_}
+use Rattle.refusal.specs.Verdict.{Verdict, passed, refused, NoValue}
 use Rattle.refusal.proofs.Verdicts.{All}
-use Rattle.refusal.proofs.Refusing.{Refuses, refuses-given, refuses-pick, refuses-then, refuses-bind}
+use Rattle.refusal.proofs.Refusing.{Refuses, refuses-given, refuses-then}
 use Rattle.emulation.specs.Payload.{unescape, escape}
 use Rattle.emulation.proofs.Theorems.{legal-unescape, unescape-escape}
-use Rattle.lists.specs.Bytes.{byte}
-use Rattle.obu.specs.Leb128.{leb128}
-use Rattle.obu.specs.Header.{fixedBytes, sizeSaid, sizeOf, sizedHeader, headerOf, judged, obuRefusal}
-use Rattle.obu.specs.declared.leb128.Leb.{Leb}
-use Rattle.obu.specs.declared.leb128.Leb.the-variants.{Number, Bad}
+use Rattle.obu.proofs.Numbers.{refuses-try, obu-refuses}
 use Rattle.unit.specs.Unit.{mostObuBytes, sum, readUnit, carried}
 use Rattle.tsobu.specs.StartCodes.{Split, split, payloads}
 use Rattle.tsobu.specs.TsObu.{tsobuRefusal}
@@ -38,6 +33,7 @@ use Rattle.salvage.specs.Theorems.{AcceptedWhole, KeptOf, none, keep, dr
 use Rattle.salvage.specs.Theorems.{AcceptedByLaw, KeptAgain}
 use Rattle.salvage.proofs.Closing.{escape-open, closes-with}
 use Rattle.salvage.proofs.Forms.{own-passed, size-passed, passes-all, salvaged-is, form-yes, form-no, keeps-passed}
+use Rattle.salvage.proofs.Forms.{dropped-mark, closed-mark, plain-mark}
 
 -- ---- where each tsOBU passes, all are kept
 abbrev Passing : Bytes → Type 0
@@ -94,41 +90,15 @@ kept-in-order s = (sieved (payloads s), obus-carried (kept s))
 
 -- ---- the marks
 -- a tsOBU is dropped with no number below 2
-try : {A : Type 0} (number : ℕ) (t : Bool) (v : Verdict A) → 2 ≤ number → Refuses (λ n. 2 ≤ n) v
-    → Refuses (λ n. 2 ≤ n) (given number t >> v)
-try number t v h k = refuses-then _ _ _ (refuses-given _ number t h) (λ _ _. k)
-
-leb-numbers : (leb : Leb) → Refuses (λ n. 2 ≤ n) (sizeSaid leb)
-leb-numbers (Number value width) = tt
-leb-numbers Bad = omega arith
-
-header-numbers : (obu : Bytes) → Refuses (λ n. 2 ≤ n) (headerOf obu)
-unfolding headerOf sizedHeader sizeOf
-header-numbers obu =
-    let size = leb-numbers (leb128 (ListN.drop (fixedBytes (byte obu 0)) obu)) in
-    try 3 _ _ (omega arith)
-    (try 4 _ _ (omega arith) (try 4 _ _ (omega arith) (refuses-bind _ _ _ (refuses-pick _ _ _ _ size tt) (λ _ _. tt))))
-
-obu-numbers : (obu : Bytes) → Refuses (λ n. 2 ≤ n) (obuRefusal obu)
-unfolding judged
-obu-numbers obu =
-    refuses-then _ _ _
-    (refuses-bind _ _ _ (header-numbers obu) (λ _ _.
-    try 5 _ _ (omega arith)
-    (try 5 _ _ (omega arith) (try 6 _ _ (omega arith) (try 42 _ _ (omega arith) (try 42 _ _ (omega arith) tt))))))
-    (λ _ _. tt)
-
 numbers : (p : Bytes) → Refuses (λ n. 2 ≤ n) (salvageRefusal p)
 unfolding salvageRefusal tsobuRefusal
 numbers p =
-    refuses-then _ _ _ (try 3 _ _ (omega arith) (try 10 _ _ (omega arith) (obu-numbers (unescape p))))
+    let own = obu-refuses (λ n. 2 ≤ n) (omega arith) (omega arith) (omega arith) (omega arith) (unescape p)
+    (refuses-given _ 3 _ (omega arith)) in
+    refuses-then _ _ _ (refuses-try _ 3 _ _ (omega arith) (refuses-try _ 10 _ _ (omega arith) own))
     (λ _ _. refuses-given _ 2 _ (omega arith))
 
 module _ (p : Bytes) where
-  -- by the verdict
-  mark-by : (v : Verdict NoValue) → salvageRefusal p ≡ v → mark p ≡ markBy (closes p) v
-  mark-by v e = ap (markBy (closes p)) e
-
   number-is : (number place : ℕ) → salvageRefusal p ≡ refused number place → 2 ≤ number
   number-is number place e = subst (Refuses (λ n. 2 ≤ n)) e (numbers p)
 
@@ -138,25 +108,17 @@ module _ (p : Bytes) where
     where
       by-verdict : (v : Verdict NoValue) → salvageRefusal p ≡ v → salvageRefusal p ≡ passed tt
       by-verdict (passed tt) e = e
-      by-verdict (refused number place) e = absurd (omega (arith, mark-by (refused number place) e, number-is number place e))
-
-  mark-closed : salvageRefusal p ≡ passed tt → closes p ≡ true → mark p ≡ 1
-  unfolding pick
-  mark-closed e c = mark-by (passed tt) e ∙ ap (λ (t : Bool). pick t 1 0) c
-
-  mark-open : salvageRefusal p ≡ passed tt → closes p ≡ false → mark p ≡ 0
-  unfolding pick
-  mark-open e c = mark-by (passed tt) e ∙ ap (λ (t : Bool). pick t 1 0) c
+      by-verdict (refused number place) e = absurd (omega (arith, dropped-mark p number place e, number-is number place e))
 
   one-closes : mark p ≡ 1 → closes p ≡ true
   one-closes m =
       case (closes p) (λ c. c)
-      (λ c. absurd (omega (arith, mark-open (kept-passes (omega arith)) c)))
+      (λ c. absurd (omega (arith, plain-mark p (kept-passes (omega arith)) c)))
 
   zero-open : mark p ≡ 0 → closes p ≡ false
   zero-open m =
       case (closes p)
-      (λ c. absurd (omega (arith, mark-closed (kept-passes (omega arith)) c)))
+      (λ c. absurd (omega (arith, closed-mark p (kept-passes (omega arith)) c)))
       (λ c. c)
 
   two-forms : mark p ≤ 1 → (p ≡ escape (unescape p)) ⊎ (p ≡ escape (unescape p) ++ (3 ∷ []))
@@ -195,11 +157,11 @@ closing-removed p =
     record {
       removed = (
         (λ m. (kept-passes p (omega arith), ends-by p (one-closes p m))),
-        (λ h. mark-closed p (h .0) (ap closes (h .1 .1) ∙ by-end (h .1 .0))),
+        (λ h. sym (closed-mark p (h .0) (ap closes (h .1 .1) ∙ by-end (h .1 .0)))),
       );
       with-closing = λ m. closed-form p (one-closes p m) (two-forms p (omega arith));
       without = λ m. open-form p (zero-open p m) (two-forms p (omega arith));
-      dropped = λ number place e. (mark-by p (refused number place) e, number-is p number place e);
+      dropped = λ number place e. (sym (dropped-mark p number place e), number-is p number place e);
     }
 
 -- ---- the length of the result
@@ -256,7 +218,7 @@ marks-none : (l : List Bytes) → All Passing (map escape l) → all (λ n. eqb 
 unfolding all
 marks-none [] h = refl
 marks-none (b ∷ l) h =
-    sym (and-by-true (eq-eqb (mark (escape b)) 0 (mark-open (escape b) (h .0) (escape-open b))) (sym (marks-none l (h .1))))
+    sym (and-by-true (eq-eqb (mark (escape b)) 0 (sym (plain-mark (escape b) (h .0) (escape-open b)))) (sym (marks-none l (h .1))))
 
 pub kept-again : KeptAgain
 kept-again s =

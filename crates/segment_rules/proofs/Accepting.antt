@@ -33,10 +33,13 @@ use Rattle.segment_rules.proofs.Moving.{none-open, one-open, close-pass
 use Rattle.segment_rules.proofs.Running.{length-packets}
 
 -- ---- lists
--- all of a list and one more
+-- all of two lists, all of a list and one more
+pub all-append : {A : Type 0} (P : A → Type 0) (l m : List A) → All P l → All P m → All P (l ++ m)
+all-append P [] m h k = k
+all-append P (a ∷ l) m h k = (h .0, all-append P l m (h .1) k)
+
 pub all-and-one : {A : Type 0} (P : A → Type 0) (l : List A) (a : A) → All P l → P a → All P (l ++ (a ∷ []))
-all-and-one P [] a h p = (p, tt)
-all-and-one P (b ∷ l) a h p = (h .0, all-and-one P l a (h .1) p)
+all-and-one P l a h p = all-append P l (a ∷ []) h (p, tt)
 
 last-of : (ps : List Bytes) (p : Bytes) → getD (ps ++ (p ∷ [])) (length ps) [] ≡ p
 last-of [] p = refl

@@ -10,7 +10,7 @@ use borrow.Author.Tests.{le-ltb, ltb-false, eqb-true, eqb-false, not-false}
 use lib.Dec.{eqb}
 use lib.ListN.{length, drop, length-append, length-drop}
 use Rattle.lists.specs.Lists.{Bytes, pick}
-use Rattle.lists.proofs.Tests.{case, or-neither}
+use Rattle.lists.proofs.Tests.{case, or-neither, or-by-false}
 use Rattle.refusal.specs.Verdict.{Verdict, passed, _>>_, given, atPlace}
 use Rattle.refusal.proofs.Verdicts.{passed-same, passed-then, given-passed, at-passed}
 use Rattle.refusal.proofs.Refusing.{refuses-given, refuses-at, refuses-pick, refuses-then, refuses-bind}
@@ -67,9 +67,6 @@ moved-more edition rooms i p x x′ (adding a) =
     )
 
 -- ---- 8
-neither : (a b : Bool) → a ≡ false → b ≡ false → (a || b) ≡ false
-neither a b e f = rw (e, f)
-
 whole-packets : (s : Bytes) → segmentLengthWrong s ≡ false → length s % packetLength ≡ 0
 unfolding segmentLengthWrong
 whole-packets s e =
@@ -107,9 +104,10 @@ module _ (edition : Edition) (rooms : Rooms) (lens : mostUnits ≤ rooms .lens) 
           (try 29 _ _ refl (λ _. try 30 _ _ refl (λ _. try 31 _ _ refl (λ _. try 34 _ _ refl (λ few.
           let most = ltb-false mostUnits (withNext (st1 .extraction)) few in
           not-8 _ _
-          (neither _ _ (le-ltb (rooms .bytes) (soFar (st1 .extraction) + length (pesData (payload p))) (omega (arith, same, data-within p)))
-          (neither _ _ (le-ltb (rooms .lens) (withNext (st1 .extraction)) (omega arith))
-          (le-ltb (rooms .times) (2 * withNext (st1 .extraction)) (omega arith))))
+          (sym
+          (or-by-false (le-ltb (rooms .bytes) (soFar (st1 .extraction) + length (pesData (payload p))) (omega (arith, same, data-within p)))
+          (or-by-false (le-ltb (rooms .lens) (withNext (st1 .extraction)) (omega arith))
+          (sym (le-ltb (rooms .times) (2 * withNext (st1 .extraction)) (omega arith))))))
           tt)))))))
 
       add-apart : hasPayload p ≡ true → payloadUnitStartIndicator p ≡ false → Without 8 (inSequence (pesRules edition rooms i p Av1) st)

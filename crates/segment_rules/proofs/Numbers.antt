@@ -1,23 +1,19 @@
 -- With which numbers the parts of the check refuse: none but rule 8 gives 8, and none but rule 30 gives 30. Assumes nothing.
 use Prim.Native.Nat.{ℕ, zero, suc}
 use mathlib.Core.Bool.{Bool, false}
-use mathlib.Core.Path.{_≡_, refl, sym, _∙_}
+use mathlib.Core.Path.{_≡_, refl}
 use mathlib.Core.List.{List, [], _∷_, _++_}
 use mathlib.Core.Option.{Option, none, some}
 use lib.Dec.{eqb}
 use lib.ListN.{drop}
 use Rattle.lists.specs.Lists.{Bytes}
-use Rattle.lists.specs.Bytes.{byte}
-use Rattle.refusal.specs.Verdict.{Verdict, NoValue, passed, refused, _>>_, given}
+use Rattle.refusal.specs.Verdict.{Verdict, passed, _>>_, given}
 use Rattle.refusal.proofs.Verdicts.{All}
 use Rattle.refusal.proofs.Refusing.{refuses-given, refuses-at, refuses-pick, refuses-then, refuses-bind, refuses-turn}
 use Rattle.refusal.proofs.Turns.{Without}
-use Rattle.obu.specs.declared.leb128.Leb.{Leb}
-use Rattle.obu.specs.declared.leb128.Leb.the-variants.{Number, Bad}
-use Rattle.obu.specs.Leb128.{leb128}
-use Rattle.obu.specs.Header.{fixedBytes, sizeSaid, sizeOf, sizedHeader, headerOf, judged, obuRefusal}
-use Rattle.obu.specs.Order.{Kind, orderRefusal, OrderMeans}
-use Rattle.obu.proofs.Meaning.{order-means}
+use Rattle.obu.specs.Header.{obuRefusal}
+use Rattle.obu.specs.Order.{Kind, orderRefusal}
+use Rattle.obu.proofs.Numbers.{refuses-try, obu-refuses, order-refuses}
 use Rattle.tsobu.specs.TsObu.{tsobuRefusal}
 use Rattle.unit.specs.Unit.{readUnit}
 use Rattle.packet.specs.Counter.{StreamRecord, check, checkedIn}
@@ -40,35 +36,16 @@ module _ (number : ℕ) (apart : (n : ℕ) → eqb n 8 ≡ false → eqb n 30 �
 
   try : {A : Type 0} (n : ℕ) (b : Bool) (v : Verdict A) → eqb n 8 ≡ false → eqb n 30 ≡ false → Without number v
       → Without number (given n b >> v)
-  try n b v e8 e30 h = refuses-then _ _ _ (one n b e8 e30) (λ _ _. h)
+  try n b v e8 e30 h = refuses-try _ n b v (apart n e8 e30) h
 
   -- ---- the reading of a unit
-  leb-said : (leb : Leb) → Without number (sizeSaid leb)
-  leb-said (Number value width) = tt
-  leb-said Bad = apart 5 refl refl
-
-  header-said : (obu : Bytes) → Without number (headerOf obu)
-  unfolding headerOf sizedHeader sizeOf
-  header-said obu =
-      try 3 _ _ refl refl
-      (try 4 _ _ refl refl
-      (try 4 _ _ refl refl
-      (refuses-bind _ _ _ (refuses-pick _ _ _ _ (leb-said (leb128 (drop (fixedBytes (byte obu 0)) obu))) tt) (λ _ _. tt))))
-
   obu-said : (obu : Bytes) → Without number (obuRefusal obu)
-  unfolding judged
   obu-said obu =
-      refuses-then _ _ _
-      (refuses-bind _ _ _ (header-said obu) (λ _ _.
-      try 5 _ _ refl refl (try 5 _ _ refl refl (try 6 _ _ refl refl (try 42 _ _ refl refl (try 42 _ _ refl refl tt))))))
-      (λ _ _. tt)
+      obu-refuses (λ n. n ≡ number → ⊥) (apart 4 refl refl) (apart 5 refl refl) (apart 6 refl refl) (apart 42 refl refl) obu
+      (one 3 _ refl refl)
 
   order-said : (kinds : List Kind) → Without number (orderRefusal kinds)
-  order-said kinds = by (orderRefusal kinds) (order-means kinds)
-    where
-      by : (v : Verdict NoValue) → OrderMeans kinds v → Without number v
-      by (passed tt) m = tt
-      by (refused n place) m = λ k. apart 7 refl refl (sym (m .0) ∙ k)
+  order-said = order-refuses (λ n. n ≡ number → ⊥) (apart 7 refl refl)
 
   payload-said : (w : Bytes) → Without number (tsobuRefusal w)
   unfolding tsobuRefusal

@@ -9,12 +9,12 @@ use lib.Dec.{ltb, leb}
 use borrow.Author.Tests.{ltb-false, leb-false, le-ltb, lt-leb}
 use Rattle.lists.specs.Lists.{any}
 use Rattle.lists.proofs.Tests.{or-neither}
-use Rattle.refusal.proofs.Verdicts.{All, none-holds}
+use Rattle.refusal.proofs.Verdicts.{All, all-so, none-holds}
 use Rattle.sheet.specs.declared.rows.UnitRow.{UnitRow}
 use Rattle.sheet.specs.Sheet.{Content}
 use Rattle.sheet.specs.Reading.{pidPast, streamTypePast, firstsNotAscending, firstsReach, lengthPast, timePast}
 use Rattle.sheet.specs.Passing.{streamWrong, unitWrong, unitsWrong}
-use Rattle.sheet.proofs.Pairs.{neither, each-as, each-by, none-of, Pairs, pairs-as, no-two, none-of-two}
+use Rattle.sheet.proofs.Pairs.{neither, each-by, none-of, Pairs, pairs-as, no-two, none-of-two}
 
 -- ---- streams
 module _ (c : Content) where
@@ -22,8 +22,8 @@ module _ (c : Content) where
   unfolding pidPast streamTypePast streamWrong
   streams-pass e =
       let h = none-holds streamWrong (c .streams) e in (
-        none-of _ (c .streams) (each-as (λ r k. or-neither (ltb 0x1FFE (r .pid)) (ltb 255 (r .«stream_type»)) k .0) (c .streams) h),
-        none-of _ (c .streams) (each-as (λ r k. or-neither (ltb 0x1FFE (r .pid)) (ltb 255 (r .«stream_type»)) k .1) (c .streams) h),
+        none-of _ (c .streams) (all-so (c .streams) (λ r k. or-neither (ltb 0x1FFE (r .pid)) (ltb 255 (r .«stream_type»)) k .0) h),
+        none-of _ (c .streams) (all-so (c .streams) (λ r k. or-neither (ltb 0x1FFE (r .pid)) (ltb 255 (r .«stream_type»)) k .1) h),
       )
 
   pub streams-fine : pidPast c ≡ false → streamTypePast c ≡ false → any streamWrong (c .streams) ≡ false
@@ -69,8 +69,8 @@ units-right low (u ∷ units) e =
     let h = units-right (u .«first_packet» + 1) units (both .1) in
     record {
       each = (now .1, h .each);
-      past = (now .0, each-as (λ v k. omega (arith, now .0)) units (h .past));
-      pairs = (each-as (λ v k. omega arith) units (h .past), h .pairs);
+      past = (now .0, all-so units (λ v k. omega (arith, now .0)) (h .past));
+      pairs = (all-so units (λ v k. omega arith) (h .past), h .pairs);
     }
 
 right-units : (low : ℕ) (units : List UnitRow) → Right low units → unitsWrong low units ≡ false
@@ -79,7 +79,7 @@ right-units low [] h = refl
 right-units low (u ∷ units) h =
     neither (fine-unit low u (h .past .0) (h .each .0))
     (right-units (u .«first_packet» + 1) units
-    (record { each = h .each .1; past = each-as (λ v k. omega arith) units (h .pairs .0); pairs = h .pairs .1 }))
+    (record { each = h .each .1; past = all-so units (λ v k. omega arith) (h .pairs .0); pairs = h .pairs .1 }))
 
 abbrev Timed : UnitRow → Type 0
 Timed u = (u .length ≤ 1573056) × (u .pts ≤ 8589934592) × (u .dts ≤ 8589934592)
@@ -99,9 +99,9 @@ module _ (c : Content) where
   units-pass e =
       let h = units-right 0 (c .units) e in (
         none-of-two _ (c .units) (pairs-as (λ a b k. lt-leb _ _ k) (c .units) (h .pairs)),
-        none-of _ (c .units) (each-as (λ u k. lt-leb _ _ (k .0)) (c .units) (h .each)),
-        none-of _ (c .units) (each-as (λ u k. le-ltb _ _ (k .1)) (c .units) (h .each)),
-        none-of _ (c .units) (each-as (λ u k. neither (le-ltb _ _ (k .2)) (le-ltb _ _ (k .3))) (c .units) (h .each)),
+        none-of _ (c .units) (all-so (c .units) (λ u k. lt-leb _ _ (k .0)) (h .each)),
+        none-of _ (c .units) (all-so (c .units) (λ u k. le-ltb _ _ (k .1)) (h .each)),
+        none-of _ (c .units) (all-so (c .units) (λ u k. neither (le-ltb _ _ (k .2)) (le-ltb _ _ (k .3))) (h .each)),
       )
 
   pub units-fine : firstsNotAscending c ≡ false → firstsReach c ≡ false → lengthPast c ≡ false → timePast c ≡ false
@@ -112,6 +112,6 @@ module _ (c : Content) where
       right-units 0 l
       (record {
         each = each-by fine l (none-holds _ l e2) (each-by timed l (none-holds _ l e3) (none-holds _ l e4));
-        past = each-as (λ u k. omega arith) l (none-holds _ l e2);
+        past = all-so l (λ u k. omega arith) (none-holds _ l e2);
         pairs = pairs-as (λ a b k. leb-false _ _ k) l (no-two _ l e1);
       })

@@ -4,11 +4,12 @@ use Prim.Native.Nat.{ℕ}
 use mathlib.Core.Bool.{true, false}
 use mathlib.Core.Path.{_≡_, refl}
 use mathlib.Core.List.{List, [], _∷_, _++_, map, flatten}
-use Rattle.lists.specs.Lists.{Bytes, any, those}
+use Rattle.lists.specs.Lists.{any, those}
 use Rattle.sheet.specs.Sheet.{Content, bigEndian, sheetNumbers, sheetOf, numbersOf}
 use Rattle.sheet.specs.Reading.{wrong, lengthWrong, contentOf, contentWrong, rows, number, valueFrom, anyTwo, anyBelow, countPast}
 use Rattle.sheet.specs.Reading.{pidPast, streamTypePast, firstsNotAscending, firstsReach, lengthPast, timePast, obusOf, fewOrMany}
 use Rattle.sheet.specs.Reading.{notInUnitOrder, namesNoUnit, obuTypePast, overlap, empty, notAscending, passesLength}
+use Rattle.sheet.proofs.BigEndian.{bytesOf}
 
 abbrev small : Content
 small =
@@ -30,11 +31,7 @@ back : contentOf (sheetOf small) ≡ small
 unfolding contentOf rows number valueFrom sheetOf flatten sheetNumbers bigEndian numbersOf
 back = refl
 
--- sheets by their numbers, each number of 8 bytes
-abbrev bytesOf : List ℕ → Bytes
-bytesOf ns = flatten (map (bigEndian 8) ns)
-
--- streams, units and OBUs, each after its count
+-- sheets by their numbers: streams, units and OBUs, each after its count
 abbrev sheetBy : List ℕ → List ℕ → List ℕ → List ℕ
 sheetBy streams units obus = streams ++ (units ++ obus)
 

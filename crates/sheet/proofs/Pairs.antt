@@ -9,7 +9,7 @@ use lib.Dec.{eqb}
 use borrow.Author.Tests.{eqb-true, eqb-false}
 use Rattle.lists.specs.Lists.{pick, any}
 use Rattle.lists.proofs.Tests.{case, or-neither}
-use Rattle.refusal.proofs.Verdicts.{All, none-holds}
+use Rattle.refusal.proofs.Verdicts.{All, all-so, none-holds}
 use Rattle.sheet.specs.Reading.{anyTwo, anyBelow}
 
 -- two tests of which each fails where the other does
@@ -38,10 +38,6 @@ picked-some true a b e = let z : _≡_ {A = ℕ} 0 1 = cc in absurd (omega arith
 picked-some false a b e = (refl, cc)
 
 -- ---- each element
-pub each-as : {A : Type 0} {P Q : A → Type 0} → ((a : A) → P a → Q a) → (l : List A) → All P l → All Q l
-each-as f [] h = tt
-each-as f (a ∷ l) h = (f a (h .0), each-as f l (h .1))
-
 pub each-by : {A : Type 0} {P Q S : A → Type 0} → ((a : A) → P a → Q a → S a) → (l : List A) → All P l → All Q l → All S l
 each-by f [] h k = tt
 each-by f (a ∷ l) h k = (f a (h .0) (k .0), each-by f l (h .1) (k .1))
@@ -58,7 +54,7 @@ Pairs R (a ∷ l) = All (R a) l × Pairs R l
 
 pub pairs-as : {A : Type 0} {R S : A → A → Type 0} → ((a b : A) → R a b → S a b) → (l : List A) → Pairs R l → Pairs S l
 pairs-as f [] h = tt
-pairs-as f (a ∷ l) h = (each-as (f a) l (h .0), pairs-as f l (h .1))
+pairs-as f (a ∷ l) h = (all-so l (f a) (h .0), pairs-as f l (h .1))
 
 pub pairs-by : {A : Type 0} {R S T : A → A → Type 0} → ((a b : A) → R a b → S a b → T a b)
     → (l : List A) → Pairs R l → Pairs S l → Pairs T l
@@ -69,7 +65,7 @@ pairs-by f (a ∷ l) h k = (each-by (f a) l (h .0) (k .0), pairs-by f l (h .1) (
 pub pairs-with : {A : Type 0} {P : A → Type 0} {R S : A → A → Type 0} → ((a b : A) → P a → R a b → S a b)
     → (l : List A) → All P l → Pairs R l → Pairs S l
 pairs-with f [] h k = tt
-pairs-with f (a ∷ l) h k = (each-as (λ b r. f a b (h .0) r) l (k .0), pairs-with f l (h .1) (k .1))
+pairs-with f (a ∷ l) h k = (all-so l (λ b r. f a b (h .0) r) (k .0), pairs-with f l (h .1) (k .1))
 
 pub no-two : {A : Type 0} (f : A → A → Bool) (l : List A) → anyTwo f l ≡ false → Pairs (λ a b. f a b ≡ false) l
 unfolding anyTwo

@@ -12,7 +12,7 @@ use borrow.Author.Tests.{ltb-false, leb-false, eqb-true, eqb-false, not-false, l
 use Rattle.lists.specs.Lists.{pick, those}
 use Rattle.lists.proofs.Tests.{case, clash, or-neither, and-second}
 use Rattle.lists.proofs.Elements.{those-first, those-others}
-use Rattle.refusal.proofs.Verdicts.{All, none-holds}
+use Rattle.refusal.proofs.Verdicts.{All, all-so, none-holds}
 use Rattle.sheet.specs.declared.rows.UnitRow.{UnitRow}
 use Rattle.sheet.specs.declared.rows.ObuRow.{ObuRow}
 use Rattle.sheet.specs.declared.obus.Progress.{Progress}
@@ -20,7 +20,7 @@ use Rattle.sheet.specs.Sheet.{Content}
 use Rattle.sheet.specs.Reading.{obusOf, fewOrMany, notInUnitOrder, namesNoUnit, obuTypePast, end, sameUnit, overlap, empty}
 use Rattle.sheet.specs.Reading.{notAscending, lengthOf, passesLength}
 use Rattle.sheet.specs.Passing.{atFirst, misplaced, rowWrong, after, obusWrong}
-use Rattle.sheet.proofs.Pairs.{neither, not-both, each-as, each-by, none-of, Pairs, pairs-as, pairs-by, pairs-with, no-two}
+use Rattle.sheet.proofs.Pairs.{neither, not-both, each-by, none-of, Pairs, pairs-as, pairs-by, pairs-with, no-two}
 use Rattle.sheet.proofs.Pairs.{none-of-two, none-below, below-none}
 
 -- ---- how many OBUs a unit has
@@ -127,7 +127,7 @@ module _ (units : List UnitRow) where
       in-front f few some =
           record {
             each = (fine, q .each);
-            follow = (f, each-as (λ x k. beyond (p .begun) (p .end) o x f k) obus (q .follow));
+            follow = (f, all-so obus (λ x k. beyond (p .begun) (p .end) o x f k) (q .follow));
             pairs = (q .follow, q .pairs);
             few = few;
             some = some;
@@ -135,11 +135,11 @@ module _ (units : List UnitRow) where
 
       in-order : All (λ x. o .unit ≤ x .unit) obus
       unfolding after
-      in-order = each-as (λ x k. omega (arith, k .0)) obus (q .follow)
+      in-order = all-so obus (λ x k. omega (arith, k .0)) (q .follow)
 
       begun-few : o .unit ≡ p .begun → p .count ≤ 64 → (m : ℕ) → m + 1 ≡ p .begun → obusOf (o ∷ obus) m + p .count ≤ 64
       begun-few e h m r =
-          let none = all-later obus m (each-as (λ x k. omega arith) obus in-order) in
+          let none = all-later obus m (all-so obus (λ x k. omega arith) in-order) in
           omega (arith, no-more o obus m (λ z. absurd (omega arith)), none)
 
       begun-some : o .unit ≡ p .begun → (m : ℕ) → p .begun ≤ m → m < length units
@@ -183,14 +183,14 @@ module _ (units : List UnitRow) where
     -- the first one taken
     module _ (h : Right p (o ∷ obus)) where
       later : All (λ x. o .unit ≤ x .unit) obus
-      later = each-as (λ x k. omega (arith, k .0)) obus (h .pairs .0)
+      later = all-so obus (λ x k. omega (arith, k .0)) (h .pairs .0)
 
       -- it leaves no unit out
       none-left-out : p .begun < o .unit → ⊥
       none-left-out b =
           let l : p .begun < length units = omega (arith, h .each .0 .0) in
           let same = no-more o obus (p .begun) (λ z. absurd (omega arith)) in
-          let none = all-later obus (p .begun) (each-as (λ x k. omega arith) obus later) in
+          let none = all-later obus (p .begun) (all-so obus (λ x k. omega arith) later) in
           let some = h .some (p .begun) (omega arith) l .0 in
           absurd (omega (arith, same, none, some))
 
@@ -287,12 +287,12 @@ module _ (c : Content) where
             let s = h .some m (omega arith) k in
             neither (le-ltb _ _ (s .0)) (le-ltb _ _ (s .1))),
         none-of-two _ l (pairs-as (λ a b k. le-ltb (b .unit) (a .unit) (omega (arith, k .0))) l (h .pairs)),
-        none-of _ l (each-as (λ o k. lt-leb _ _ (k .0)) l (h .each)),
-        none-of _ l (each-as (λ o k. le-ltb _ _ (k .1)) l (h .each)),
+        none-of _ l (all-so l (λ o k. lt-leb _ _ (k .0)) (h .each)),
+        none-of _ l (all-so l (λ o k. le-ltb _ _ (k .1)) (h .each)),
         none-of-two _ l (pairs-as no-overlap l (h .pairs)),
-        none-of _ l (each-as (λ o k. ne-eqb (o .length) 0 (λ z. absurd (omega (arith, k .2)))) l (h .each)),
+        none-of _ l (all-so l (λ o k. ne-eqb (o .length) 0 (λ z. absurd (omega (arith, k .2)))) (h .each)),
         none-of-two _ l (pairs-with ascends l (h .each) (h .pairs)),
-        none-of _ l (each-as (λ o k. le-ltb _ _ (k .3)) l (h .each)),
+        none-of _ l (all-so l (λ o k. le-ltb _ _ (k .3)) (h .each)),
       )
 
   -- and back: of two payloads that ascend and don't overlap the second lies behind the first
@@ -331,7 +331,7 @@ module _ (c : Content) where
         each =
             each-by named l (none-holds _ l (k .2))
             (each-by typed l (none-holds _ l (k .3)) (each-by filled l (none-holds _ l (k .5)) (none-holds _ l (k .7))));
-        follow = each-as (λ o h. (omega arith, λ z. absurd (omega arith))) l (none-holds _ l (k .3));
+        follow = all-so l (λ o h. (omega arith, λ z. absurd (omega arith))) (none-holds _ l (k .3));
         pairs = pairs-by behind l (no-two _ l (k .1)) (pairs-by apart l (no-two _ l (k .6)) (no-two _ l (k .4)));
         few = λ m z. absurd (omega arith);
         some = λ m z h.

@@ -13,7 +13,7 @@ use borrow.Author.Tests.{ltb-true, ltb-false, lt-ltb, eq-eqb}
 use Rattle.lists.specs.Lists.{Bytes, all}
 use Rattle.lists.proofs.Tests.{and-both, or-neither}
 use Rattle.refusal.specs.Verdict.{passed}
-use Rattle.refusal.proofs.Verdicts.{All, none-holds, pass-on}
+use Rattle.refusal.proofs.Verdicts.{All, all-so, none-holds, pass-on}
 use Rattle.sheet.specs.declared.rows.StreamRow.{StreamRow}
 use Rattle.sheet.specs.declared.rows.UnitRow.{UnitRow}
 use Rattle.sheet.specs.declared.rows.ObuRow.{ObuRow}
@@ -25,7 +25,6 @@ use Rattle.sheet.specs.Reading.{countPast, lengthOf}
 use Rattle.sheet.specs.Passing.{streamWrong, atFirst}
 use Rattle.sheet.specs.RoundTrip.{ReadsBack, CountsBack, FindsUnits, fits, GoodFits, OneContent, LengthOfSheet}
 use Rattle.sheet.proofs.Pairs.{neither}
-use Rattle.sheet.proofs.Pairs.{each-as}
 use Rattle.sheet.proofs.Ascending.{units-right}
 use Rattle.sheet.proofs.Ascending as ascending
 use Rattle.sheet.proofs.Payloads.{obus-right}
@@ -212,7 +211,7 @@ module _ (c : Content) (e : contentWrong c ≡ false) where
 
   streams-small : All (λ r. Small (streamNumbers r)) (c .streams)
   unfolding streamWrong
-  streams-small = each-as one (c .streams) (none-holds streamWrong (c .streams) (content-passes c e .streams))
+  streams-small = all-so (c .streams) one (none-holds streamWrong (c .streams) (content-passes c e .streams))
     where
       one : (r : StreamRow) → streamWrong r ≡ false → Small (streamNumbers r)
       one r h =
@@ -224,10 +223,10 @@ module _ (c : Content) (e : contentWrong c ≡ false) where
 
   units-small : All (λ r. Small (unitNumbers r)) (c .units)
   units-small =
-      each-as (λ u h. (omega (arith, h .0), (omega (arith, h .1), (omega (arith, h .2), (omega (arith, h .3), tt))))) (c .units) units-fine
+      all-so (c .units) (λ u h. (omega (arith, h .0), (omega (arith, h .1), (omega (arith, h .2), (omega (arith, h .3), tt))))) units-fine
 
   obus-small : All (λ r. Small (obuNumbers r)) (c .obus)
-  obus-small = each-as one (c .obus) (obus-right (c .units) atFirst (c .obus) (omega arith) (content-passes c e .obus) .each)
+  obus-small = all-so (c .obus) one (obus-right (c .units) atFirst (c .obus) (omega arith) (content-passes c e .obus) .each)
     where
       one : (o : ObuRow) → payloads.Fine (c .units) o → Small (obuNumbers o)
       one o h =

@@ -4,27 +4,23 @@ use Prim.Native.Nat.{ℕ, _≤_, _<_}
 use mathlib.Core.Bool.{Bool, true, false, not}
 use mathlib.Core.Path.{_≡_, refl, sym, ap, ap₂, subst, _∙_}
 use mathlib.Core.Logic.{_⊎_, inl, inr}
-use mathlib.Core.List.{List, [], _∷_}
+use mathlib.Core.List.{List, _∷_}
 use native.Mathlib.Omega.{arith}
 use borrow.Author.Tests.{eqb-false, eqb-true, ne-eqb, not-false}
 use lib.Dec.{eqb}
 use lib.ListN.{length, take, drop, length-append}
 use lib.Seq.{take-append-seam}
 use Rattle.lists.specs.Lists.{Bytes}
-use Rattle.lists.specs.Bytes.{byte}
 use Rattle.lists.proofs.Tests.{case}
-use Rattle.refusal.specs.Verdict.{Verdict, passed, refused, _>>_, NoValue, given, inTurn}
-use Rattle.refusal.proofs.Verdicts.{refuse, pass-on, passed-after, given-passed, not-given, All}
-use Rattle.refusal.proofs.Refusing.{refuses-given, refuses-pick, refuses-then, refuses-bind}
+use Rattle.refusal.specs.Verdict.{Verdict, passed, refused, _>>_, given, inTurn}
+use Rattle.refusal.proofs.Verdicts.{refuse, pass-on, passed-after, given-passed, not-given, All, all-so}
+use Rattle.refusal.proofs.Refusing.{refuses-given, refuses-then}
 use Rattle.refusal.proofs.Turns.{same-number, Without, not-so, refused-later, refused-here, bind-refused, turns-refused}
 use Rattle.emulation.specs.Payload.{legal, unescape}
 use Rattle.emulation.proofs.Theorems.{unescape-some}
-use Rattle.obu.specs.declared.leb128.Leb.{Leb}
-use Rattle.obu.specs.declared.leb128.Leb.the-variants.{Number, Bad}
-use Rattle.obu.specs.Leb128.{leb128}
-use Rattle.obu.specs.Header.{fixedBytes, sizeSaid, sizeOf, sizedHeader, headerOf, judged, obuRefusal}
-use Rattle.obu.specs.Order.{Kind, OrderMeans, orderRefusal}
-use Rattle.obu.proofs.Meaning.{order-means}
+use Rattle.obu.specs.Header.{obuRefusal}
+use Rattle.obu.specs.Order.{Kind, orderRefusal}
+use Rattle.obu.proofs.Numbers.{refuses-try, obu-refuses, order-refuses}
 use Rattle.tsobu.specs.StartCodes.{atStartCode, payloads}
 use Rattle.tsobu.specs.TsObu.{tsobuRefusal}
 use Rattle.unit.specs.Unit.{readUnit, AcceptsAs}
@@ -48,8 +44,7 @@ fine p e =
     (omega arith, not-false (legal p) (given-passed 10 _ (k10 .0)))
 
 all-fine : (ps : List Bytes) → All (λ p. tsobuRefusal p ≡ passed tt) ps → All Fine ps
-all-fine [] h = tt
-all-fine (p ∷ ps) h = (fine p (h .0), all-fine ps (h .1))
+all-fine ps = all-so ps fine
 
 pub accepted-walks : (unit : Bytes) (l : List Bytes) → AcceptsAs unit l → Walks unit 0 (payloads unit)
 accepted-walks unit l a =
@@ -72,37 +67,18 @@ module _ (number : ℕ) (w : WalkNumber number) where
 
   try : {A : Type 0} (other : ℕ) (t : Bool) (v : Verdict A) → eqb other 3 ≡ false → eqb other 10 ≡ false → Without number v
       → Without number (given other t >> v)
-  try other t v e3 e10 h = refuses-then _ _ _ (one other t e3 e10) (λ _ _. h)
-
-  leb-said : (leb : Leb) → Without number (sizeSaid leb)
-  leb-said (Number value width) = tt
-  leb-said Bad = differs 5 refl refl
-
-  header-said : (obu : Bytes) → 1 ≤ length obu → Without number (headerOf obu)
-  unfolding headerOf sizedHeader sizeOf
-  header-said obu h =
-      let some : given 3 (eqb (length obu) 0) ≡ passed tt = not-given 3 _ (ne-eqb (length obu) 0 (λ z. omega arith)) in
-      refuses-then _ _ _ (subst (Without number) (sym some) tt) (λ _ _.
-      try 4 _ _ refl refl
-      (try 4 _ _ refl refl
-      (refuses-bind _ _ _ (refuses-pick _ _ _ _ (leb-said (leb128 (drop (fixedBytes (byte obu 0)) obu))) tt) (λ _ _. tt))))
+  try other t v e3 e10 h = refuses-try _ other t v (differs other e3 e10) h
 
   -- an OBU that is not empty is refused with neither
   obu-said : (obu : Bytes) → 1 ≤ length obu → Without number (obuRefusal obu)
-  unfolding judged
   obu-said obu h =
-      refuses-then _ _ _
-      (refuses-bind _ _ _ (header-said obu h) (λ _ _.
-      try 5 _ _ refl refl (try 5 _ _ refl refl (try 6 _ _ refl refl (try 42 _ _ refl refl (try 42 _ _ refl refl tt))))))
-      (λ _ _. tt)
+      let some : given 3 (eqb (length obu) 0) ≡ passed tt = not-given 3 _ (ne-eqb (length obu) 0 (λ z. omega arith)) in
+      obu-refuses (λ n. n ≡ number → ⊥) (differs 4 refl refl) (differs 5 refl refl) (differs 6 refl refl) (differs 42 refl refl) obu
+      (subst (Without number) (sym some) tt)
 
   -- nor is the order
   order-said : (kinds : List Kind) → Without number (orderRefusal kinds)
-  order-said kinds = by (orderRefusal kinds) (order-means kinds)
-    where
-      by : (v : Verdict NoValue) → OrderMeans kinds v → Without number v
-      by (passed tt) m = tt
-      by (refused n place) m = λ k. differs 7 refl refl (sym (m .0) ∙ k)
+  order-said = order-refuses (λ n. n ≡ number → ⊥) (differs 7 refl refl)
 
   -- ---- a payload that reading refuses with one of them is refused so by the step at its start code
   payload-refused : (p : Bytes) (place : ℕ) → tsobuRefusal p ≡ refused number place

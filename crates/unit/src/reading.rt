@@ -6,14 +6,13 @@ ghost use Rattle.lists.specs.Lists.{over};
 ghost use Prim.Native.Nat.{_+_, _≤_};
 ghost use lib.Dec.{ltb};
 ghost use lib.ListN.{length, take, drop};
-ghost use Rattle.refusal.specs.Verdict.{refused, leaves};
+ghost use Rattle.refusal.specs.Verdict.{refused};
 ghost use Rattle.refusal.specs.Number.{numberOf};
 ghost use Rattle.emulation.specs.Payload.{unescape};
 ghost use Rattle.emulation.specs.Payload.{dropped as Payload·dropped};
-ghost use Rattle.obu.specs.Header.{sizeWidth};
 ghost use Rattle.tsobu.specs.StartCodes.{atStartCode, payloads};
 ghost use Rattle.unit.specs.Unit.{mostObus, obusIn};
-ghost use Rattle.unit.specs.Answer.{checking, tooShort, readingWidths, readSays};
+ghost use Rattle.unit.specs.Answer.{checking, tooShort, readSays, ReadsUnit};
 ghost use Rattle.tsobu.specs.Parts.{Place};
 ghost use Rattle.unit.specs.Parts.{Judges, wholeCounts, Notes, Measured};
 use crate::limits::MOST_CARRIED;
@@ -247,14 +246,8 @@ fn no_room(counts: Counts, bytes: usize, lengths: usize, widths: usize) -> bool
 // The OBUs of a unit over the front of out, their lengths over the front of lens, and how many bytes the size of each
 // takes, 0 where no size is present, over the front of widths; 8 comes last.
 pub fn read(unit: &[u8], out: &mut [u8], lens: &mut [usize], widths: &mut [usize]) -> UnitRead
-    ensures { λ r. ⌜ readSays r
-        ≡ readingWidths (now (unit .entry)) (length (now (out .entry))) (length (now (lens .entry)))
-        (length (now (widths .entry))) ⌝ }
-    ensures { λ r. ⌜ now (out .exit) ≡ leaves (readSays r) (flatten (obusIn (now (unit .entry)))) (now (out .entry)) ⌝ }
-    ensures { λ r. ⌜ now (lens .exit)
-        ≡ leaves (readSays r) (map length (obusIn (now (unit .entry)))) (now (lens .entry)) ⌝ }
-    ensures { λ r. ⌜ now (widths .exit)
-        ≡ leaves (readSays r) (map sizeWidth (obusIn (now (unit .entry)))) (now (widths .entry)) ⌝ }
+    ensures { λ r. ⌜ ReadsUnit (now (unit .entry)) (now (out .entry)) (now (lens .entry)) (now (widths .entry)) r
+        (now (out .exit)) (now (lens .exit)) (now (widths .exit)) ⌝ }
 {
     let mut ends = [0usize; 64];
     let mut found = [0usize; 64];

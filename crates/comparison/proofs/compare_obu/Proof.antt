@@ -42,6 +42,15 @@ slice-aggregate-read-header c =
 read-header-requires : tie.Need-read-header-requires
 read-header-requires c κs = search needs
 
+-- where the function begins, and what was read of the first bytes: the header of the OBU
+abbrev start : tie.After-read-header → tie.Start
+start c = c .before .before .before .before .before .before
+
+header : (c : tie.After-read-header) → headerOf (unescape (start c .args .payload .now)) ≡ judgedSays (c .read-header .result)
+header c =
+    let e = c .before .before .before .unescape-prefix .ensures in
+    sym (from-first (unescape (start c .args .payload .now)) _ _ (e .0) (e .1)) ∙ sym (c .read-header .ensures)
+
 enum-told : tie.Need-enum-told
 enum-told c = search needs
 
@@ -50,32 +59,28 @@ enum-known-read c = search needs
 
 returns : tie.Need-returns
 returns c =
-    let start = c .before .before .before .before .before .before .before .before .before .before .before in
-    let u = unescape (start .args .payload .now) in
-    let e = c .before .before .before .before .before .before .before .before .unescape-prefix .ensures in
-    let h = sym (from-first u _ _ (e .0) (e .1)) ∙ sym (c .before .before .before .before .before .read-header .ensures) in
-    other-obu (start .args .fields) (headerOf u) u _ (h ∙ ap judgedSays (c .before .before .before .read .given .1)) (c .if1 .taken)
+    let matched = c .before .before .before in
+    let read = matched .before .before in
+    let u = unescape (start read .args .payload .now) in
+    other-obu (start read .args .fields) (headerOf u) u _ (header read ∙ ap judgedSays (matched .read .given .1)) (c .if1 .taken)
 
 compare-content-requires : tie.Need-compare-content-requires
 compare-content-requires c κs = search needs
 
 returns-2 : tie.Need-returns-2
 returns-2 c =
-    let start = c .before .before .before .before .before .before .before .before in
-    let u = unescape (start .args .payload .now) in
-    let e = c .before .before .before .before .before .unescape-prefix .ensures in
-    let h = sym (from-first u _ _ (e .0) (e .1)) ∙ sym (c .before .before .read-header .ensures) in
-    no-header (start .args .fields) (headerOf u) u _ (h ∙ ap judgedSays (c .enum-told .given .1))
+    let read = c .before .before in
+    let u = unescape (start read .args .payload .now) in
+    no-header (start read .args .fields) (headerOf u) u _ (header read ∙ ap judgedSays (c .enum-told .given .1))
 
 returns-3 : tie.Need-returns-3
 returns-3 c =
-    let start = c .before .before .before .before .before .before .before .before .before .before .before .before in
-    let u = unescape (start .args .payload .now) in
-    let e = c .before .before .before .before .before .before .before .before .before .unescape-prefix .ensures in
-    let h = sym (from-first u _ _ (e .0) (e .1)) ∙ sym (c .before .before .before .before .before .before .read-header .ensures) in
+    let tested = c .before in
+    let matched = tested .before .before .before in
+    let read = matched .before .before in
+    let u = unescape (start read .args .payload .now) in
     c .compare-content .ensures
-    ∙ one-header (start .args .fields) (headerOf u) u _ (h ∙ ap judgedSays (c .before .before .before .before .read .given .1))
-    (c .before .if1 .left)
+    ∙ one-header (start read .args .fields) (headerOf u) u _ (header read ∙ ap judgedSays (matched .read .given .1)) (tested .if1 .left)
 
 pub compare-obu-spec : {M : Type 1} → statement M
 compare-obu-spec =

@@ -1,4 +1,4 @@
--- By cases on what was found.
+-- By cases on what was found: no field is no disagreement, and a field is put beside the unit's index, as in the definition.
 use borrow.Author.Needs.{needs}
 use mathlib.Core.Path.{sym, ap}
 use Rattle.comparison.specs.declared.FieldFound.{FieldFound}

@@ -1,4 +1,4 @@
--- The last three bytes decide.
+-- The last three bytes decide, as `closes-last` says of the definition; fewer than three do not close.
 use borrow.Author.Needs.{needs}
 use Rattle.salvage.proofs.Closing.{closes-short, not-first, not-second, by-third}
 use Rattle.salvage.proofs.closes.Statement.{statement}

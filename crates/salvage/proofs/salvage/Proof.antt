@@ -6,6 +6,13 @@ use Rattle.salvage.proofs.Tries.{many-all, bytes-all, marks-all, put-as
 use Rattle.salvage.proofs.salvage.Statement.{statement}
 use Rattle.salvage.proofs.salvage.Tie as tie
 
+-- behind the last try: not too many tsOBUs, and room for the bytes
+abbrev few : tie.Else4 → tie.Else2
+few c = c .before .before .before .before
+
+abbrev room : tie.Else4 → tie.Else3
+room c = c .before .before
+
 -- what is lent
 abbrev start : (c : tie.After-measure) → tie.Start
 start c = c .before .before .before .before .before .before .before
@@ -55,20 +62,21 @@ refuse-requires-4 c κs = search needs
 
 returns-4 : tie.Need-returns-4
 returns-4 c =
-    let at = c .before .before .before .before .before .before in
-    marks-all (found at) _ _ (c .before .before .before .before .before .if2 .left) (c .refuse4 .ensures) (c .before .if4 .taken)
+    let few = c .before .before .before .before .before in
+    marks-all (found (few .before)) _ _ (few .if2 .left) (c .refuse4 .ensures) (c .before .if4 .taken)
 
 put-requires : tie.Need-put-requires
 put-requires c κs =
-    let at = c .before .before .before .before .before .before .before in
-    put-asked (found at) (start at .args .out .now) (start at .args .marks .now)
-    (c .before .before .before .before .before .before .if2 .left) (c .before .before .before .before .if3 .left)
-    (c .before .before .if4 .left)
+    let tries = c .before .before in
+    let at = few tries .before in
+    put-asked (found at) (start at .args .out .now) (start at .args .marks .now) (few tries .if2 .left) (room tries .if3 .left)
+    (tries .if4 .left)
 
 is-accepted-requires : tie.Need-is-accepted-requires
 is-accepted-requires c κs =
-    let at = c .before .before .before .before .before .before .before .before .before .before .before .before in
-    few-kept _ _ (at .before .measure .ensures) (at .if2 .left)
+    let put = c .before .before .before .before .before in
+    let tries = put .before .before .before in
+    few-kept _ _ (few tries .before .measure .ensures) (few tries .if2 .left)
 
 same-length : tie.Need-same-length
 same-length c = search needs
@@ -80,9 +88,9 @@ returns-5 : tie.Need-returns-5
 returns-5 c =
     let put = c .before .before .before .before .before .before in
     let tries = put .before .before .before in
-    let at = tries .before .before .before .before .before in
-    put-all (found at) (start at .args .out .now) (start at .args .marks .now) (tries .before .before .before .before .if2 .left)
-    (tries .before .before .if3 .left) (tries .if4 .left) _ _ _ (c .is-accepted .ensures) (put .put .ensures .0) (put .put .ensures .1)
+    let at = few tries .before in
+    put-all (found at) (start at .args .out .now) (start at .args .marks .now) (few tries .if2 .left) (room tries .if3 .left)
+    (tries .if4 .left) _ _ _ (c .is-accepted .ensures) (put .put .ensures .0) (put .put .ensures .1)
 
 pub salvage-spec : {M : Type 1} → statement M
 salvage-spec =

@@ -1,4 +1,4 @@
--- 1 for a mark, 0 for none.
+-- The test is that of the definition: 1 for a mark, 0 for none.
 use mathlib.Core.Path.{refl}
 use Rattle.lists.proofs.Picks.{by-true, by-false}
 use Rattle.answers.specs.Queueing.{mark}

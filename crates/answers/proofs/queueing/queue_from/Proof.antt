@@ -30,10 +30,14 @@ slot-at-requires-8 c κs = search needs
 
 returns : tie.Need-returns
 returns c =
-    from-eight _ _ _ _ _ _ _ _ _ _ _ _ _ _ _ _ _ _ (c .before .before .before .before .before .before .before .slot-at .ensures)
-    (c .before .before .before .before .before .before .slot-at2 .ensures) (c .before .before .before .before .before .slot-at3 .ensures)
-    (c .before .before .before .before .slot-at4 .ensures) (c .before .before .before .slot-at5 .ensures)
-    (c .before .before .slot-at6 .ensures) (c .before .slot-at7 .ensures) (c .slot-at8 .ensures)
+    let seventh = c .before in
+    let sixth = seventh .before in
+    let fifth = sixth .before in
+    let fourth = fifth .before in
+    let third = fourth .before in
+    let second = third .before in
+    from-eight _ _ _ _ _ _ _ _ _ _ _ _ _ _ _ _ _ _ (second .before .slot-at .ensures) (second .slot-at2 .ensures) (third .slot-at3 .ensures)
+    (fourth .slot-at4 .ensures) (fifth .slot-at5 .ensures) (sixth .slot-at6 .ensures) (seventh .slot-at7 .ensures) (c .slot-at8 .ensures)
 
 pub queue-from-spec : {M : Type 1} → statement M
 queue-from-spec =

@@ -1,4 +1,4 @@
--- By the answer.
+-- By the answer: each arm gives what the definition says of its constructor, and `accepted` and `segment_refusal` promise just that.
 use mathlib.Core.Path.{sym, ap, _∙_}
 use borrow.Author.Needs.{needs}
 use Rattle.comparison.specs.Comparison.{disagreedSays}

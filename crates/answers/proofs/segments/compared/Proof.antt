@@ -1,4 +1,4 @@
--- By cases on what was found.
+-- By cases on what was found: each arm makes the struct that the definition has for it, and a cast to u64 changes no number.
 use mathlib.Core.Path.{sym, ap}
 use borrow.Author.Needs.{needs}
 use Rattle.comparison.specs.declared.Disagreed.{Disagreed}

@@ -26,10 +26,10 @@ same-length-2 c = search needs
 returns : tie.Need-returns
 returns c =
     let e = c .before .before .before .before .before .before .read .ensures in
-    let v = e .0 ∙ with-64 _ _ _ in
+    let v = e .answers ∙ with-64 _ _ _ in
     record {
       answers = c .unit-answer .ensures ∙ ap unitAnswer v;
-      outputs = record { obus = e .1 .0 ∙ leaves-as _ _ v; of-each = e .1 .1 .0 ∙ leaves-as _ _ v };
+      outputs = record { obus = e .obus ∙ leaves-as _ _ v; of-each = e .of-each ∙ leaves-as _ _ v };
     }
 
 pub av1ts-read-unit-spec : {M : Type 1} → statement M

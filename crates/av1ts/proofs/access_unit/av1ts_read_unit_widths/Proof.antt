@@ -24,11 +24,11 @@ same-length-3 c = search needs
 returns : tie.Need-returns
 returns c =
     let e = c .before .before .before .before .before .before .before .read .ensures in
-    let left = e .1 in
+    let v = e .answers in
     record {
-      answers = c .unit-answer .ensures ∙ ap unitAnswer (e .0);
-      outputs = record { obus = left .0 ∙ leaves-as _ _ (e .0); of-each = left .1 .0 ∙ leaves-as _ _ (e .0) };
-      sizes = left .1 .1 ∙ leaves-as _ _ (e .0);
+      answers = c .unit-answer .ensures ∙ ap unitAnswer v;
+      outputs = record { obus = e .obus ∙ leaves-as _ _ v; of-each = e .of-each ∙ leaves-as _ _ v };
+      sizes = e .sizes ∙ leaves-as _ _ v;
     }
 
 pub av1ts-read-unit-widths-spec : {M : Type 1} → statement M

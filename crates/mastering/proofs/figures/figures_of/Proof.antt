@@ -1,4 +1,4 @@
--- Each figure is that of its number.
+-- Each figure is what its call gives of its number, as in the definition.
 use borrow.Author.Needs.{needs}
 use Rattle.mastering.specs.Figures.{figuresOf}
 use Rattle.mastering.proofs.figures.figures_of.Statement.{statement}

@@ -1,4 +1,4 @@
--- Each number stands at its place.
+-- Each number is read where the definition has it.
 use borrow.Author.Needs.{needs}
 use Rattle.mastering.specs.Content.{numbersOf}
 use Rattle.mastering.proofs.numbers.numbers_of.Statement.{statement}

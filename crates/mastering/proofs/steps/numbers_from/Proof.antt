@@ -1,4 +1,4 @@
--- Each number is the nearest one.
+-- Each number is what its call gives, by the definition of that number; that the steps are not past their bounds is what the calls require.
 use Rattle.mastering.specs.Steps.{numbersFrom}
 use Rattle.mastering.proofs.Bounds.{chromaticities, luminances}
 use Rattle.mastering.proofs.steps.numbers_from.Statement.{statement}

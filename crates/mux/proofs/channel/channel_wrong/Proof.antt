@@ -9,30 +9,35 @@ use Rattle.mux_rules.specs.Sending.{mapPidWrong, av1PidWrong, programWrong, cou
 use Rattle.mux.proofs.channel.channel_wrong.Statement.{statement}
 use Rattle.mux.proofs.channel.channel_wrong.Tie as tie
 
--- a test that does not hold
-video-right : (c : tie.Else1)
-    → let a = c .before .before .before .args in
-    wrong (a .video .now) ≡ false
+-- where the function begins, and the test that does not hold
+abbrev start-1 : tie.Else1 → tie.Start
+start-1 c = c .before .before .before
+
+video-right : (c : tie.Else1) → wrong (start-1 c .args .video .now) ≡ false
 video-right c = sym (c .before .video-wrong .ensures) ∙ c .if1 .left
 
-map-pid-right : (c : tie.Else2)
-    → let a = c .before .before .before .before .before .args in
-    mapPidWrong (a .channel) ≡ false
+abbrev start-2 : tie.Else2 → tie.Start
+start-2 c = start-1 (c .before .before)
+
+map-pid-right : (c : tie.Else2) → mapPidWrong (start-2 c .args .channel) ≡ false
 map-pid-right c = sym (c .before .map-pid-wrong .ensures) ∙ c .if2 .left
 
-av1-pid-right : (c : tie.Else3)
-    → let a = c .before .before .before .before .before .before .before .args in
-    av1PidWrong (a .channel) ≡ false
+abbrev start-3 : tie.Else3 → tie.Start
+start-3 c = start-2 (c .before .before)
+
+av1-pid-right : (c : tie.Else3) → av1PidWrong (start-3 c .args .channel) ≡ false
 av1-pid-right c = sym (c .before .av1-pid-wrong .ensures) ∙ c .if3 .left
 
-program-right : (c : tie.Else4)
-    → let a = c .before .before .before .before .before .before .before .before .before .args in
-    programWrong (a .channel) ≡ false
+abbrev start-4 : tie.Else4 → tie.Start
+start-4 c = start-3 (c .before .before)
+
+program-right : (c : tie.Else4) → programWrong (start-4 c .args .channel) ≡ false
 program-right c = sym (c .before .program-wrong .ensures) ∙ c .if4 .left
 
-counters-right : (c : tie.Else5)
-    → let a = c .before .before .before .before .before .before .before .before .before .before .before .args in
-    countersWrong (a .channel) ≡ false
+abbrev start-5 : tie.Else5 → tie.Start
+start-5 c = start-4 (c .before .before)
+
+counters-right : (c : tie.Else5) → countersWrong (start-5 c .args .channel) ≡ false
 counters-right c = sym (c .before .counters-wrong .ensures) ∙ c .if5 .left
 
 video-wrong-requires : tie.Need-video-wrong-requires

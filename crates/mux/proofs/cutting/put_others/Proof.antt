@@ -71,23 +71,23 @@ next-counter-requires : tie.Need-next-counter-requires Inv-loop μ-loop
 next-counter-requires c κs = c .before .before .before .before .before .before .before .loop .inv .low
 
 loop-less : tie.Need-loop-less Inv-loop μ-loop
-loop-less c = omega (
-  arith,
-  size (c .before .before .before .before .before .before) .0,
-  size (c .before .before .before .before .before .before) .1,
-)
+loop-less c =
+    let sized = c .before .before .before .before .before .before in
+    omega (arith, size sized .0, size sized .1)
 
 loop-again : tie.Need-loop-again Inv-loop μ-loop
 loop-again c =
-    let start = c .before .before .before .before .before .before .before .before .before .before .before in
+    let put = c .before .before .before in
+    let sized = put .before .before .before in
+    let turn = sized .before in
+    let start = turn .before .before .before .before in
     let bytes = start .args .bytes .now in
-    let at = c .before .before .before .before .before .before .before .before .loop in
-    let part = c .before .before .before .before .before .before .part-size in
+    let at = turn .before .loop in
+    let part = sized .part-size in
     let n : at .at + part .result - at .at ≡ part .result = omega arith in
-    going-on (at .inv) (part .result) _ _ _ (start .pre .0) (c .before .before .before .before .before .before .before .loop-test .taken)
-    (start .pre .2)
-    (size-by (part .result) (length bytes - at .at) (part .ensures))
-    (ap (λ (k : ℕ). take k (drop (at .at) bytes)) n) (c .before .before .before .put-packet .ensures) (c .next-counter .ensures)
+    going-on (at .inv) (part .result) _ _ _ (start .pre .0) (turn .loop-test .taken) (start .pre .2)
+    (size-by (part .result) (length bytes - at .at) (part .ensures)) (ap (λ (k : ℕ). take k (drop (at .at) bytes)) n)
+    (put .put-packet .ensures) (c .next-counter .ensures)
 
 same-length : tie.Need-same-length Inv-loop μ-loop
 same-length c = going-long (c .before .loop .inv) (c .before .before .before .before .pre .2)

@@ -16,6 +16,10 @@ use Rattle.mux.proofs.sending.send.Tie as tie
 allows : (c : tie.Else1) → let a = c .before .before .before .before .before .args in channelWrong (a .channel) (a .video .now) ≡ false
 allows c = sym (c .before .channel-wrong .ensures) ∙ c .if1 .left
 
+-- where the packets were counted, from where the tables stand
+abbrev counted : tie.After-put-tables → tie.After-queue-packets
+counted c = c .before .before .before .before
+
 channel-wrong-requires : tie.Need-channel-wrong-requires
 channel-wrong-requires c κs = search needs
 
@@ -50,10 +54,10 @@ refuse-requires-3 c κs = search needs
 
 returns-3 : tie.Need-returns-3
 returns-3 c = λ units q.
-    let counted = c .before .before in
-    let first = counted .before .before .before in
+    let count = c .before .before in
+    let first = count .before .before .before in
     let a = first .before .before .before .before .before .args in
-    let n = counted .queue-packets .ensures in
+    let n = count .queue-packets .ensures in
     sends-many q (a .channel) (a .video .now) (a .out .now) (allows first)
     (omega (arith, n .0, valid-packets q, c .before .if3 .taken)) _ (c .refuse3 .ensures)
 
@@ -65,10 +69,10 @@ refuse-requires-4 c κs = search needs
 
 returns-4 : tie.Need-returns-4
 returns-4 c = λ units q.
-    let counted = c .before .before .before in
-    let first = counted .before .before .before in
+    let count = c .before .before .before in
+    let first = count .before .before .before in
     let a = first .before .before .before .before .before .args in
-    let n = counted .queue-packets .ensures in
+    let n = count .queue-packets .ensures in
     let v = valid-packets q in
     sends-short q (a .channel) (a .video .now) (a .out .now) (allows first) (omega (arith, n .0, v, c .before .before .if3 .left))
     (omega (arith, n .0, v, c .before .if4 .taken)) _ (c .refuse4 .ensures)
@@ -89,8 +93,8 @@ put-units-requires : tie.Need-put-units-requires
 put-units-requires c κs =
     let tables = c .before .before .before in
     let fits = tables .before .before in
-    let counted = fits .before .before in
-    let formed = counted .before in
+    let count = counted tables in
+    let formed = count .before in
     let first = formed .before .before in
     let a = first .before .before .before .before .before .args in
     let ok = allowed (a .channel) (a .video .now) (allows first) in
@@ -99,24 +103,25 @@ put-units-requires c κs =
       ok .av1-low,
       sym (formed .before .well-formed .ensures) ∙ not-false _ (formed .if2 .left),
       units-room (a .channel) (a .video .now) (allows first) (a .out .now) _ (tables .put-tables .ensures) (omega (arith, room)) _
-          (omega (arith, counted .queue-packets .ensures .0, room)),
+          (omega (arith, count .queue-packets .ensures .0, room)),
     )
 
 channel-after-requires : tie.Need-channel-after-requires
 channel-after-requires c κs =
-    let counted = c .before .before .before .before .before .before .before .before .before .before in
-    let first = counted .before .before .before in
+    let count = counted (c .before .before .before .before .before .before) in
+    let first = count .before .before .before in
     let a = first .before .before .before .before .before .args in
     let ok = allowed (a .channel) (a .video .now) (allows first) in
-    (ok .pat-low, ok .map-counter, ok .av1-low, counted .queue-packets .ensures .1)
+    (ok .pat-low, ok .map-counter, ok .av1-low, count .queue-packets .ensures .1)
 
 clear-requires : tie.Need-clear-requires
 clear-requires c κs = search needs
 
 mul-t17 : tie.Need-mul-t17
 mul-t17 c =
-    let counted = c .before .before .before .before .before .before .before .before .before .before .before .before in
-    omega (arith, counted .queue-packets .ensures .1)
+    let put = c .before .before .before .before in
+    let tables = put .before .before .before .before in
+    omega (arith, counted tables .queue-packets .ensures .1)
 
 same-length : tie.Need-same-length
 same-length c = search needs
@@ -127,10 +132,10 @@ returns-5 c = λ units q.
     let tables = put .before .before .before .before in
     let room = tables .before .before in
     let few = room .before in
-    let counted = few .before in
-    let first = counted .before .before .before in
+    let count = few .before in
+    let first = count .before .before .before in
     let a = first .before .before .before .before .before .args in
-    let n = counted .queue-packets .ensures in
+    let n = count .queue-packets .ensures in
     let v = valid-packets q in
     let fits = room .if4 .left in
     sends-sent q (a .channel) (a .video .now) (a .out .now) (allows first) (omega (arith, n .0, v, few .if3 .left))

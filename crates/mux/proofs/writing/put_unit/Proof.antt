@@ -13,22 +13,29 @@ use Rattle.mux.proofs.Placing.{Begun, begun-by}
 use Rattle.mux.proofs.writing.put_unit.Statement.{statement}
 use Rattle.mux.proofs.writing.put_unit.Tie as tie
 
+-- where the header's size is known, and where the function begins
+abbrev sized : tie.After-put-start → tie.After-head-size
+sized c = c .before .before .before .before .before
+
+abbrev start : tie.After-put-start → tie.Start
+start c = sized c .before .before .before .before .before
+
 -- the first packet is put, with the header and the unit's first bytes
 begins : (c : tie.After-put-start)
-    → let a = c .before .before .before .before .before .before .before .before .before .before .args in
+    → let a = start c .args in
     let u : TimedUnit = slotUnit (a .slot) (a .unit .now) in
     let flags = c .before .before .before .first-flags .result in
     let s : Start = record { flags = flags; pts = u .pts; dts = u .dts; length = length (u .carried) } in
     (out1 : Bytes) → out1 ≡ startPut (a .pid) (a .counter) s (c .before .before .part .result .now) (a .out .now)
     → Begun (a .pid) (a .counter) u (a .out .now) (c .before .before .before .before .first-size .result) flags out1
 begins c out1 put =
-    let start = c .before .before .before .before .before .before .before .before .before .before in
-    let a = start .args in
-    let size = c .before .before .before .before .before .head-size in
+    let a = start c .args in
+    let pre = start c .pre in
+    let size = sized c .head-size in
     let first = c .before .before .before .before .first-size in
     let flags = c .before .before .before .first-flags in
-    begun-by (a .pid) (a .counter) (slotUnit (a .slot) (a .unit .now)) (a .out .now) (start .pre .0) (start .pre .1) (start .pre .2)
-    (start .pre .3) (start .pre .4) (size .result) (first .result) (flags .result) (size .ensures .0)
+    begun-by (a .pid) (a .counter) (slotUnit (a .slot) (a .unit .now)) (a .out .now) (pre .0) (pre .1) (pre .2) (pre .3) (pre .4)
+    (size .result) (first .result) (flags .result) (size .ensures .0)
     (first .ensures .0) (first .ensures .1) (flags .ensures) _ out1 (c .before .before .part .ensures) put
 
 head-size-requires : tie.Need-head-size-requires
@@ -64,9 +71,8 @@ part-put-others-end c = search needs
 put-others-requires : tie.Need-put-others-requires
 put-others-requires c κs =
     let put = c .before .before .before .before .before in
-    let start = put .before .before .before .before .before .before .before .before .before .before in
     let n : c .before .next-counter .result < 16 = omega (arith, c .before .next-counter .ensures) in
-    (start .pre .0, n, begins put _ (put .put-start .ensures) .room _ (c .before .before .rest .ensures))
+    (start put .pre .0, n, begins put _ (put .put-start .ensures) .room _ (c .before .before .rest .ensures))
 
 same-length : tie.Need-same-length
 same-length c = search needs

@@ -75,11 +75,12 @@ part-put-unit-end-2 c = omega (arith, slot (c .before .before .before) .long, sl
 
 put-unit-requires : tie.Need-put-unit-requires Inv-loop μ-loop
 put-unit-requires c κs =
-    let start = c .before .before .before .before .before .before .before .before in
+    let turn = c .before .before .before .before in
+    let start = turn .before .before .before .before in
     let store = start .args .store .now in
-    let at = c .before .before .before .before .before .loop in
+    let at = turn .before .loop in
     let r = getD (start .args .t3 .units) (at .i) noRecord in
-    let s = slot (c .before .before .before .before) in
+    let s = slot turn in
     let p = part-is store (at .at) (r .length) in (
       start .pre .0,
       s .low,
@@ -96,12 +97,9 @@ mul-to : tie.Need-mul-to Inv-loop μ-loop
 mul-to c = omega (arith, c .slot-packets .ensures .1)
 
 add-to : tie.Need-add-to Inv-loop μ-loop
-add-to c = omega (
-  arith,
-  c .slot-packets .ensures .0,
-  slot (c .before .before .before .before .before .before .before .before) .long,
-  slot (c .before .before .before .before .before .before .before .before) .reaches,
-)
+add-to c =
+    let s = slot (c .before .before .before .before .before .before .before .before) in
+    omega (arith, c .slot-packets .ensures .0, s .long, s .reaches)
 
 counter-after-requires : tie.Need-counter-after-requires Inv-loop μ-loop
 counter-after-requires c κs = (
@@ -117,15 +115,16 @@ loop-less c = omega arith
 
 loop-again : tie.Need-loop-again Inv-loop μ-loop
 loop-again c =
-    let a = c .before .before .before .before .before .before .before .before .before .before .before .before .before .args in
-    let at = c .before .before .before .before .before .before .before .before .before .before .loop in
+    let put = c .before .before .before .before in
+    let turn = put .before .before .before .before .before in
+    let a = turn .before .before .before .before .args in
+    let at = turn .before .loop in
     let r = getD (a .t3 .units) (at .i) noRecord in
     let p = part-is (a .store .now) (at .at) (r .length) in (
       omega arith,
       at .inv .1,
-      slot (c .before .before .before .before .before .before .before .before .before) .filling _ _ _ (c .before .slot-packets .ensures .0)
-          (c .counter-after .ensures)
-          (c .before .before .before .before .put-unit .ensures
+      slot turn .filling _ _ _ (c .before .slot-packets .ensures .0) (c .counter-after .ensures)
+          (put .put-unit .ensures
           ∙ ap (λ (x : Bytes). over (flatten (unitPackets (a .pid) (at .next) (slotUnit r x)))
           (midOf (at .to) (length (at .out) - at .to) (at .out))) p),
     )

@@ -31,9 +31,10 @@ broken-requires c κs = search needs
 
 returns : tie.Need-returns Inv-loop μ-loop
 returns c =
-    c .broken .ensures
-    ∙ breaks (c .before .before .before .before .before .before .loop .inv) (c .before .before .before .before .before .loop-test .taken) _
-    (c .before .before .next .ensures) (c .before .if1 .taken)
+    let tested = c .before in
+    let moved = tested .before in
+    let turn = moved .before .before .before in
+    c .broken .ensures ∙ breaks (turn .before .loop .inv) (turn .loop-test .taken) _ (moved .next .ensures) (tested .if1 .taken)
 
 add-i : tie.Need-add-i Inv-loop μ-loop
 add-i c = omega arith
@@ -43,8 +44,9 @@ loop-less c = omega arith
 
 loop-again : tie.Need-loop-again Inv-loop μ-loop
 loop-again c =
-    goes-on (c .before .before .before .before .before .loop .inv) (c .before .before .before .before .loop-test .taken) _
-    (c .before .next .ensures) (c .if1 .left)
+    let moved = c .before in
+    let turn = moved .before .before .before in
+    goes-on (turn .before .loop .inv) (turn .loop-test .taken) _ (moved .next .ensures) (c .if1 .left)
 
 broken-requires-2 : tie.Need-broken-requires-2 Inv-loop μ-loop
 broken-requires-2 c κs = search needs

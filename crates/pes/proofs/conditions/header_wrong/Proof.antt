@@ -11,38 +11,57 @@ use Rattle.pes.proofs.conditions.header_wrong.Statement.{statement}
 use Rattle.pes.proofs.conditions.header_wrong.Tie as tie
 
 -- behind the first k conditions, those that are left decide
-abbrev Past : ℕ → Bytes → Type 0
-Past k payload = any (λ (wrong : Bytes → Bool). wrong payload) (drop k conditions) ≡ headerWrong payload
+abbrev Past : ℕ → tie.Start → Type 0
+Past k start =
+    let payload = start .args .payload .now in
+    any (λ (wrong : Bytes → Bool). wrong payload) (drop k conditions) ≡ headerWrong payload
 
-past-1 : (c : tie.Else1) → Past 1 (c .before .before .before .args .payload .now)
+abbrev start-1 : tie.Else1 → tie.Start
+start-1 c = c .before .before .before
+
+past-1 : (c : tie.Else1) → Past 1 (start-1 c)
 unfolding headerWrong
 past-1 c = any-later _ _ _ (sym (c .before .start-wrong .ensures) ∙ c .if1 .left)
 
-past-2 : (c : tie.Else2) → Past 2 (c .before .before .before .before .before .args .payload .now)
+abbrev start-2 : tie.Else2 → tie.Start
+start-2 c = start-1 (c .before .before)
+
+past-2 : (c : tie.Else2) → Past 2 (start-2 c)
 unfolding headerWrong
 past-2 c = any-later _ _ _ (sym (c .before .fixed-bits-wrong .ensures) ∙ c .if2 .left) ∙ past-1 (c .before .before)
 
-past-3 : (c : tie.Else3) → Past 3 (c .before .before .before .before .before .before .before .args .payload .now)
+abbrev start-3 : tie.Else3 → tie.Start
+start-3 c = start-2 (c .before .before)
+
+past-3 : (c : tie.Else3) → Past 3 (start-3 c)
 unfolding headerWrong
 past-3 c = any-later _ _ _ (sym (c .before .scrambled .ensures) ∙ c .if3 .left) ∙ past-2 (c .before .before)
 
-past-4 : (c : tie.Else4) → Past 4 (c .before .before .before .before .before .before .before .before .before .args .payload .now)
+abbrev start-4 : tie.Else4 → tie.Start
+start-4 c = start-3 (c .before .before)
+
+past-4 : (c : tie.Else4) → Past 4 (start-4 c)
 unfolding headerWrong
 past-4 c = any-later _ _ _ (sym (c .before .not-aligned .ensures) ∙ c .if4 .left) ∙ past-3 (c .before .before)
 
-past-5 : (c : tie.Else5)
-    → Past 5 (c .before .before .before .before .before .before .before .before .before .before .before .args .payload .now)
+abbrev start-5 : tie.Else5 → tie.Start
+start-5 c = start-4 (c .before .before)
+
+past-5 : (c : tie.Else5) → Past 5 (start-5 c)
 unfolding headerWrong
 past-5 c = any-later _ _ _ (sym (c .before .flags-wrong .ensures) ∙ c .if5 .left) ∙ past-4 (c .before .before)
 
-past-6 : (c : tie.Else6)
-    → Past 6 (c .before .before .before .before .before .before .before .before .before .before .before .before .before .args .payload .now)
+abbrev start-6 : tie.Else6 → tie.Start
+start-6 c = start-5 (c .before .before)
+
+past-6 : (c : tie.Else6) → Past 6 (start-6 c)
 unfolding headerWrong
 past-6 c = any-later _ _ _ (sym (c .before .not-whole .ensures) ∙ c .if6 .left) ∙ past-5 (c .before .before)
 
-past-7 : (c : tie.Else7)
-    → let fifth = c .before .before .before .before in
-    Past 7 (fifth .before .before .before .before .before .before .before .before .before .before .before .args .payload .now)
+abbrev start-7 : tie.Else7 → tie.Start
+start-7 c = start-6 (c .before .before)
+
+past-7 : (c : tie.Else7) → Past 7 (start-7 c)
 unfolding headerWrong
 past-7 c = any-later _ _ _ (sym (c .before .length-byte-short .ensures) ∙ c .if7 .left) ∙ past-6 (c .before .before)
 

@@ -1,4 +1,4 @@
--- Dividing by 1 changes nothing.
+-- The definition takes bit 0, which divides by 1 first; that changes nothing.
 use Prim.Native.Nat.{_/_}
 use mathlib.Core.Path.{_≡_}
 use native.Mathlib.Omega.{arith}

@@ -1,4 +1,5 @@
--- By what is known of the AV1 entry.
+-- By what is known of the AV1 entry: where it is missing or wrong the section is refused with 28, and of one entry the map is made as the
+-- definition makes it.
 use mathlib.Core.Path.{refl, _∙_}
 use borrow.Author.Needs.{needs}
 use Rattle.pmt.specs.Answer.{mapBeside}

@@ -1,4 +1,4 @@
--- The fields, as they are made.
+-- Both fields are as they are made: the refusal at place 0, and the map that `ProgramMap::none` gives.
 use mathlib.Core.Path.{refl}
 use borrow.Author.Needs.{needs}
 use Rattle.pmt.proofs.section.refuse.Statement.{statement}

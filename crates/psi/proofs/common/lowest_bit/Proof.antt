@@ -1,4 +1,4 @@
--- The definition divides by 1 first.
+-- The definition of a bit divides by 1 first, which changes nothing.
 use Prim.Native.Nat.{ℕ, _%_}
 use mathlib.Core.Path.{sym, ap}
 use native.Mathlib.Nat.{div-one}

@@ -47,32 +47,36 @@ entry-requires c κs = search needs
 add-i : tie.Need-add-i Inv-loop μ-loop
 add-i c = omega arith
 
+-- the beginning of a turn, from where its entry is read
+abbrev turn : tie.After-entry Inv-loop μ-loop → tie.At-loop Inv-loop μ-loop
+turn c = c .before .before .before .before .before .before
+
 refuse-requires : tie.Need-refuse-requires Inv-loop μ-loop
 refuse-requires c κs = search needs
 
 returns : tie.Need-returns Inv-loop μ-loop
 returns c =
-    let at = c .before .before .before .before .before .before .before .before .before .before .before in
-    let b = c .before .before .before in
-    c .refuse .ensures ∙ sym (second (at .loop .inv) _ (omega arith) (b .before .before .entry .ensures) (c .before .if2 .taken)
-    (b .if1 .taken))
+    let named = c .before .before .before in
+    let read = named .before .before in
+    c .refuse .ensures
+    ∙ sym (second (turn read .loop .inv) _ (omega arith) (read .entry .ensures) (c .before .if2 .taken) (named .if1 .taken))
 
 loop-less : tie.Need-loop-less Inv-loop μ-loop
 loop-less c = omega arith
 
 loop-again : tie.Need-loop-again Inv-loop μ-loop
 loop-again c =
-    let at = c .before .before .before .before .before .before .before .before .before .before in
-    let b = c .before .before in
-    keep (at .loop .inv) _ (omega arith) (b .before .before .entry .ensures) (c .if2 .left) (b .if1 .taken)
+    let named = c .before .before in
+    let read = named .before .before in
+    keep (turn read .loop .inv) _ (omega arith) (read .entry .ensures) (c .if2 .left) (named .if1 .taken)
 
 loop-less-2 : tie.Need-loop-less-2 Inv-loop μ-loop
 loop-less-2 c = omega arith
 
 loop-again-2 : tie.Need-loop-again-2 Inv-loop μ-loop
 loop-again-2 c =
-    let at = c .before .before .before .before .before .before .before .before in
-    skip (at .loop .inv) _ (omega arith) (c .before .before .entry .ensures) (c .if1 .left)
+    let read = c .before .before in
+    skip (turn read .loop .inv) _ (omega arith) (read .entry .ensures) (c .if1 .left)
 
 refuse-requires-2 : tie.Need-refuse-requires-2 Inv-loop μ-loop
 refuse-requires-2 c κs = search needs

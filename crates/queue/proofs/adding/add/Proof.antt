@@ -8,6 +8,10 @@ use Rattle.queue.proofs.Operations.{total-within, adds-full, adds-unacc
 use Rattle.queue.proofs.adding.add.Statement.{statement}
 use Rattle.queue.proofs.adding.add.Tie as tie
 
+-- what is lent, where the unit was tried
+abbrev start : tie.After-not-acceptable → tie.Start
+start c = c .before .before .before .before .before
+
 refuse-requires : tie.Need-refuse-requires
 refuse-requires c κs = search needs
 
@@ -24,8 +28,9 @@ refuse-requires-2 c κs = search needs
 
 returns-2 : tie.Need-returns-2
 returns-2 c = λ units q.
-    let a = c .before .before .before .before .before .before .before .args in
-    adds-unacceptable q (timed (a .unit .now) (a .pts) (a .dts) (a .marked)) (omega arith) (sym (c .before .before .not-acceptable .ensures)
+    let tried = c .before .before in
+    let a = start tried .args in
+    adds-unacceptable q (timed (a .unit .now) (a .pts) (a .dts) (a .marked)) (omega arith) (sym (tried .not-acceptable .ensures)
     ∙ c .before .if2 .taken) _ (c .refuse2 .ensures)
 
 refuse-requires-3 : tie.Need-refuse-requires-3
@@ -44,10 +49,11 @@ refuse-requires-4 c κs = search needs
 
 returns-4 : tie.Need-returns-4
 returns-4 c = λ units q.
-    let a = c .before .before .before .before .before .before .before .before .before .args in
-    adds-no-room q (timed (a .unit .now) (a .pts) (a .dts) (a .marked)) (omega arith)
-    (sym (c .before .before .before .before .not-acceptable .ensures)
-    ∙ c .before .before .before .if2 .left) _ refl (c .before .if4 .taken) _ (c .refuse4 .ensures)
+    let passed = c .before .before .before in
+    let tried = passed .before in
+    let a = start tried .args in
+    adds-no-room q (timed (a .unit .now) (a .pts) (a .dts) (a .marked)) (omega arith) (sym (tried .not-acceptable .ensures)
+    ∙ passed .if2 .left) _ refl (c .before .if4 .taken) _ (c .refuse4 .ensures)
 
 sub-copy : tie.Need-sub-copy
 sub-copy c = search needs
@@ -69,13 +75,14 @@ same-length c = search needs
 
 returns-5 : tie.Need-returns-5
 returns-5 c = λ units q.
-    let a = c .before .before .before .before .before .before .before .before .before .before .before .before .before .args in
+    let copied = c .before .before .before in
+    let passed = copied .before .before .before .before in
+    let tried = passed .before in
+    let a = start tried .args in
     let t = total-within q in
-    adds-added q (timed (a .unit .now) (a .pts) (a .dts) (a .marked)) (omega arith)
-    (sym (c .before .before .before .before .before .before .before .before .not-acceptable .ensures)
-    ∙ c .before .before .before .before .before .before .before .if2 .left) (a .queue .total) refl (omega arith) _ _
-    (tail-prefix (a .queue .total) (a .store .now) (a .unit .now) _ (omega arith) (c .before .before .before .copy .ensures))
-    (c .with .ensures)
+    adds-added q (timed (a .unit .now) (a .pts) (a .dts) (a .marked)) (omega arith) (sym (tried .not-acceptable .ensures)
+    ∙ passed .if2 .left) (a .queue .total) refl (omega arith) _ _
+    (tail-prefix (a .queue .total) (a .store .now) (a .unit .now) _ (omega arith) (copied .copy .ensures)) (c .with .ensures)
 
 pub add-spec : {M : Type 1} → statement M
 add-spec =

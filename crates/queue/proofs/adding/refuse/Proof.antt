@@ -1,4 +1,4 @@
--- The queue is handed back as it was.
+-- The answer is as it is made, and the queue is handed back as it was.
 use mathlib.Core.Path.{refl}
 use Rattle.queue.proofs.adding.refuse.Statement.{statement}
 use Rattle.queue.proofs.adding.refuse.Tie as tie

@@ -26,13 +26,17 @@ chroma-format-requires c κs = search needs
 returns : tie.Need-returns
 unfolding colorConfig nine
 returns c =
-    andThen _ (c .before .before .before .before .before .before .before .before .before .before .before .before .number .ensures .0)
-    (andThen _
-    (retest _ _ (c .before .before .before .before .before .before .before .before .before .before .twelve-coded .ensures)
-    (c .before .before .before .before .before .before .before .before .before .number-if .ensures))
-    (andThen _ (c .before .before .before .before .before .before .before .number-if2 .ensures)
-    (andThen _ (c .before .before .before .before .before .color-description .ensures)
-    (andThen _ (c .before .before .chroma-format .ensures) done))))
+    let format = c .before .before in
+    let described = format .before .before .before in
+    let monochrome = described .before .before in
+    let twelve = monochrome .before .before in
+    let coded = twelve .before in
+    let high = coded .before .before in
+    andThen _ (high .number .ensures .0)
+    (andThen _ (retest _ _ (coded .twelve-coded .ensures) (twelve .number-if .ensures))
+    (andThen _ (monochrome .number-if2 .ensures)
+    (andThen _ (described .color-description .ensures)
+    (andThen _ (format .chroma-format .ensures) done))))
 
 pub color-config-spec : {M : Type 1} → statement M
 color-config-spec =

@@ -1,4 +1,4 @@
--- A flag is a bit that is 1.
+-- A flag is a bit that is 1: `bit` reads it as the definition does, and the test is the definition's.
 use borrow.Author.Needs.{needs}
 use Rattle.sequence.proofs.Loops.{flagged}
 use Rattle.sequence.proofs.cursor.flag.Statement.{statement}

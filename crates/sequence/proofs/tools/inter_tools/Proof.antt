@@ -35,14 +35,21 @@ skip-if-requires c κs = search needs
 returns : tie.Need-returns
 unfolding interTools
 returns c =
-    before (c .before .before .before .before .before .before .before .before .before .before .before .skip .ensures)
-    (before (c .before .before .before .before .before .before .before .before .before .before .skip2 .ensures)
-    (before (c .before .before .before .before .before .before .before .before .before .skip3 .ensures)
-    (before (c .before .before .before .before .before .before .before .before .skip4 .ensures)
-    (andThen _ (c .before .before .before .before .before .before .before .flag .ensures)
-    (before (c .before .before .before .before .before .order-tools-if .ensures)
-    (andThen _ (c .before .before .before .before .screen-tools .ensures)
-    (before (c .before .integer-mv-if .ensures) (c .skip-if .ensures))))))))
+    let moved = c .before in
+    let tools = moved .before .before .before in
+    let ordered = tools .before in
+    let hint = ordered .before .before in
+    let fourth = hint .before in
+    let third = fourth .before in
+    let second = third .before in
+    before (second .before .skip .ensures)
+    (before (second .skip2 .ensures)
+    (before (third .skip3 .ensures)
+    (before (fourth .skip4 .ensures)
+    (andThen _ (hint .flag .ensures)
+    (before (ordered .order-tools-if .ensures)
+    (andThen _ (tools .screen-tools .ensures)
+    (before (moved .integer-mv-if .ensures) (c .skip-if .ensures))))))))
 
 pub inter-tools-spec : {M : Type 1} → statement M
 inter-tools-spec =

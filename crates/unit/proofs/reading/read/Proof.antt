@@ -41,7 +41,7 @@ unfolding leaves
 returns c =
     let k = ap readSays (c .enum-told .given .1) in
     let r = reading-refused _ _ _ _ _ _ (sym (c .before .before .judge-unit .ensures .0) ∙ k) in
-    (k ∙ r, (refused-leaves _ _ k, (refused-leaves _ _ k, refused-leaves _ _ k)))
+    record { answers = k ∙ r; obus = refused-leaves _ _ k; of-each = refused-leaves _ _ k; sizes = refused-leaves _ _ k }
 
 no-room-requires : tie.Need-no-room-requires
 no-room-requires c κs = search needs
@@ -53,10 +53,13 @@ returns-2 : tie.Need-returns-2
 unfolding leaves
 returns-2 c =
     let e = ap readSays (c .refusal .ensures) in
-    let short = sym (c .before .before .no-room .ensures) ∙ c .before .if1 .taken in (
-      e ∙ reading-short _ _ _ _ _ (accepted (c .before .before .before)) short,
-      (refused-leaves _ _ e, (refused-leaves _ _ e, refused-leaves _ _ e)),
-    )
+    let short = sym (c .before .before .no-room .ensures) ∙ c .before .if1 .taken in
+    record {
+      answers = e ∙ reading-short _ _ _ _ _ (accepted (c .before .before .before)) short;
+      obus = refused-leaves _ _ e;
+      of-each = refused-leaves _ _ e;
+      sizes = refused-leaves _ _ e;
+    }
 
 copy-obus-requires : tie.Need-copy-obus-requires
 copy-obus-requires c κs =
@@ -100,7 +103,12 @@ returns-3 c =
     let obus = copied .copy-obus .ensures in
     let widths = judged .judge-unit .ensures .1 .widths _ k in
     let out = judged .before .before .before .before .before .before .before .args .widths .now in
-    (reading-fits _ _ _ _ _ k room, (obus .0, (obus .1, c .before .before .copy-widths .ensures ∙ ap (λ (w : List ℕ). over w out) widths)))
+    record {
+      answers = reading-fits _ _ _ _ _ k room;
+      obus = obus .0;
+      of-each = obus .1;
+      sizes = c .before .before .copy-widths .ensures ∙ ap (λ (w : List ℕ). over w out) widths;
+    }
 
 pub read-spec : {M : Type 1} → statement M
 read-spec =
