@@ -7,7 +7,7 @@ pub const REGISTRATION: [u8; 6] = [0x05, 0x04, 0x41, 0x56, 0x30, 0x31];
 
 /// "Video descriptor: 80 04, then the four bytes of 000 2.2.1."
 pub const VIDEO_TAG: u8 = 0x80;
-pub const VIDEO_LENGTH: u8 = 4;
+const VIDEO_LENGTH: u8 = 4;
 
 /// A field of 000 2.2.1, and the condition of 41 by it.
 pub struct Field {

@@ -68,32 +68,24 @@ fn make_pattern<T>(kind: usize, len: usize, from: fn(u64) -> T) -> &'static [T] 
     Box::leak(pattern.into_boxed_slice())
 }
 
-impl Pattern for u8 {
-    fn pattern(kind: usize) -> &'static [u8] {
-        thread_local! {
-            static PATTERNS: [&'static [u8]; 2] = [0, 1].map(|kind| make_pattern(kind, 13 << 20, |word| word as u8));
+/// The pattern of an element, of a length that no buffer here passes.
+macro_rules! pattern {
+    ($element:ty, $len:expr) => {
+        impl Pattern for $element {
+            fn pattern(kind: usize) -> &'static [$element] {
+                thread_local! {
+                    static PATTERNS: [&'static [$element]; 2] =
+                        [0, 1].map(|kind| make_pattern(kind, $len, |word| word as $element));
+                }
+                PATTERNS.with(|patterns| patterns[kind])
+            }
         }
-        PATTERNS.with(|patterns| patterns[kind])
-    }
+    };
 }
 
-impl Pattern for usize {
-    fn pattern(kind: usize) -> &'static [usize] {
-        thread_local! {
-            static PATTERNS: [&'static [usize]; 2] = [0, 1].map(|kind| make_pattern(kind, 1 << 12, |word| word as usize));
-        }
-        PATTERNS.with(|patterns| patterns[kind])
-    }
-}
-
-impl Pattern for u64 {
-    fn pattern(kind: usize) -> &'static [u64] {
-        thread_local! {
-            static PATTERNS: [&'static [u64]; 2] = [0, 1].map(|kind| make_pattern(kind, 1 << 19, |word| word));
-        }
-        PATTERNS.with(|patterns| patterns[kind])
-    }
-}
+pattern!(u8, 13 << 20);
+pattern!(usize, 1 << 12);
+pattern!(u64, 1 << 19);
 
 /// A buffer to be lent as an output: it stands inside a larger one filled with a pattern.
 pub struct Lent<T> {
@@ -308,6 +300,17 @@ impl Suite {
             failed,
         }
     }
+}
+
+/// What the detail of a failure says of outputs with their guards.
+pub fn right(holds: bool) -> &'static str {
+    if holds { "right" } else { "or guards wrong" }
+}
+
+/// The bytes of hexadecimal digits.
+pub fn from_hex(digits: &str) -> Vec<u8> {
+    let byte = |at| u8::from_str_radix(&digits[at..at + 2], 16).expect("two digits a byte");
+    (0..digits.len()).step_by(2).map(byte).collect()
 }
 
 /// Bytes in hex, cut to 200 characters.

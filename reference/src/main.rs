@@ -12,14 +12,30 @@ use std::process::ExitCode;
 /// The number of cases that each suite must at least run: `name count` a line.
 const COUNTS: &str = include_str!("../counts.txt");
 
+/// The stored names and counts.
+fn stored() -> impl Iterator<Item = (&'static str, u64)> {
+    COUNTS.lines().map(|line| {
+        let (name, count) = line.split_once(' ').expect("a name and a count a line");
+        (name, count.parse().expect("a number"))
+    })
+}
+
 fn stored_count(name: &str) -> Option<u64> {
-    for line in COUNTS.lines() {
-        match line.split_once(' ') {
-            Some((stored, count)) if stored == name => return count.trim().parse().ok(),
-            _ => {}
+    stored()
+        .find(|(known, _)| *known == name)
+        .map(|(_, count)| count)
+}
+
+/// How many suites are stored and are none; each is said.
+fn missing(all: &[&kit::Definition]) -> u64 {
+    let mut missing = 0;
+    for (name, _) in stored() {
+        if !all.iter().any(|suite| suite.name == name) {
+            println!("  failed: {name} is stored, and no suite has that name");
+            missing += 1;
         }
     }
-    None
+    missing
 }
 
 fn main() -> ExitCode {
@@ -38,7 +54,7 @@ fn main() -> ExitCode {
         }
     }
     let mut passed = 0;
-    let mut failed = 0;
+    let mut failed = if itself { 0 } else { missing(&all) };
     for suite in all {
         if chosen.is_empty() || chosen.iter().any(|name| name == suite.name) {
             let outcome = kit::Suite::run(suite, stored_count(suite.name));

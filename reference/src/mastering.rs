@@ -4,10 +4,10 @@ use crate::obu::leb128;
 use crate::refusal::{OUTPUT_TOO_SHORT, Refusal};
 
 /// "type 2 as leb128 (written as 02)"
-pub const TYPE: u64 = 2;
+const TYPE: u64 = 2;
 
 /// "then the trailing bits as the one byte 80"
-pub const TRAILING: u8 = 0x80;
+const TRAILING: u8 = 0x80;
 
 /// Bytes of the content as written: the type, eight chromaticities, two luminances, trailing bits.
 pub const WRITTEN: usize = 1 + 8 * 2 + 2 * 4 + 1;

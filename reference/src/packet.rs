@@ -10,7 +10,7 @@ pub const SIZE: usize = 188;
 pub const NULL: u16 = 0x1FFF;
 
 /// The highest PCR extension.
-pub const MOST_EXTENSION: u64 = 299;
+const MOST_EXTENSION: u64 = 299;
 
 /// What the rules look at in a packet. Of a null packet nothing but its PID.
 #[derive(Clone, Copy, Debug, PartialEq, Eq)]
@@ -88,20 +88,25 @@ pub fn read(bytes: &[u8], index: usize) -> Result<Packet<'_>, Refusal> {
     if let Some(&flags) = field.first() {
         packet.discontinuity = flags & 0x80 != 0;
         if flags & 0x10 != 0 {
-            if field.len() < 7 {
-                return refused(23, "23: PCR in under 7 bytes");
-            }
-            // 33 bits of base, 6 reserved, 9 of extension.
-            let mut bits: u64 = 0;
-            for &byte in &field[1..7] {
-                bits = bits << 8 | u64::from(byte);
-            }
-            let (base, extension) = (bits >> 15, bits & 0x1FF);
-            if extension > MOST_EXTENSION {
-                return refused(23, "23: PCR extension above 299");
-            }
-            packet.pcr = Some(base * 300 + extension);
+            let pcr = clock(field).map_err(|condition| Refusal::new(23, index, condition))?;
+            packet.pcr = Some(pcr);
         }
     }
     Ok(packet)
+}
+
+/// The PCR of an adaptation field that has one: 33 bits of base, 6 reserved, 9 of extension.
+fn clock(field: &[u8]) -> Result<u64, &'static str> {
+    if field.len() < 7 {
+        return Err("23: PCR in under 7 bytes");
+    }
+    let mut bits: u64 = 0;
+    for &byte in &field[1..7] {
+        bits = bits << 8 | u64::from(byte);
+    }
+    let (base, extension) = (bits >> 15, bits & 0x1FF);
+    if extension > MOST_EXTENSION {
+        return Err("23: PCR extension above 299");
+    }
+    Ok(base * 300 + extension)
 }

@@ -8,7 +8,7 @@ pub const UNESCAPE_LIMIT: usize = 1_572_864;
 
 /// "A payload is legal if at no place 00 00 00, 00 00 01 or 00 00 02 stands in it, and no four
 /// bytes 00 00 03 x with x above 3."
-pub fn forbidden_at(payload: &[u8], place: usize) -> Option<&'static str> {
+fn forbidden_at(payload: &[u8], place: usize) -> Option<&'static str> {
     match payload[place..] {
         [0, 0, 0, ..] => Some("10: 00 00 00"),
         [0, 0, 1, ..] => Some("10: 00 00 01"),

@@ -98,34 +98,40 @@ pub fn header(payload: &[u8], edition: Edition, index: usize) -> Result<Header, 
         0b10 => false,
         _ => true,
     };
-    if !with_dts && length_byte < 5 {
-        return wrong("29: length byte under 5");
-    }
-    if with_dts && length_byte < 10 {
-        return wrong("29: length byte under 10");
-    }
-    let pts = time(&payload[9..14]);
-    if pts.prefix != if with_dts { 0b0011 } else { 0b0010 } {
-        return wrong("29: PTS prefix");
-    }
-    if !pts.markers {
-        return wrong("29: PTS marker bits");
-    }
-    let mut dts = pts.ticks;
-    if with_dts {
-        let time = time(&payload[14..19]);
-        if time.prefix != 0b0001 {
-            return wrong("29: DTS prefix");
-        }
-        if !time.markers {
-            return wrong("29: DTS marker bits");
-        }
-        dts = time.ticks;
-    }
+    let times = times(payload, with_dts);
+    let (pts, dts) = times.map_err(|condition| Refusal::new(29, index, condition))?;
     Ok(Header {
         length,
         size,
-        pts: pts.ticks,
+        pts,
         dts,
     })
+}
+
+/// PTS and DTS: "length byte at least 5 or 10, PTS and DTS prefixes and marker bits".
+fn times(payload: &[u8], with_dts: bool) -> Result<(u64, u64), &'static str> {
+    if !with_dts && payload[8] < 5 {
+        return Err("29: length byte under 5");
+    }
+    if with_dts && payload[8] < 10 {
+        return Err("29: length byte under 10");
+    }
+    let pts = time(&payload[9..14]);
+    if pts.prefix != if with_dts { 0b0011 } else { 0b0010 } {
+        return Err("29: PTS prefix");
+    }
+    if !pts.markers {
+        return Err("29: PTS marker bits");
+    }
+    if !with_dts {
+        return Ok((pts.ticks, pts.ticks));
+    }
+    let dts = time(&payload[14..19]);
+    if dts.prefix != 0b0001 {
+        return Err("29: DTS prefix");
+    }
+    if !dts.markers {
+        return Err("29: DTS marker bits");
+    }
+    Ok((pts.ticks, dts.ticks))
 }

@@ -160,15 +160,30 @@ pub fn pmt(section: &[u8], pat: &Pat, edition: Edition, index: usize) -> Result<
     }
     let pcr_pid = u16::from_be_bytes([body[0], body[1]]) & 0x1FFF;
     let info_length = usize::from(u16::from_be_bytes([body[2], body[3]]) & 0x0FFF);
-    let mut rest = &body[4..];
+    let rest = &body[4..];
     if info_length > rest.len() {
         return wrong!(Table::Pmt, index, "program_info passes the section");
     }
-    if descriptors(&rest[..info_length]).is_none() {
+    let (info, rest) = rest.split_at(info_length);
+    if descriptors(info).is_none() {
         return wrong!(Table::Pmt, index, "descriptors do not fill program_info");
     }
-    rest = &rest[info_length..];
+    let entries = entries(rest, pat, index)?;
+    let (av1_pid, video) = av1_entry(&entries, edition, index)?;
+    let pids = entries.iter().map(|entry| entry.pid).collect();
+    let streams = entries.iter().map(|entry| (entry.pid, entry.stream_type));
+    Ok(Pmt {
+        pcr_pid,
+        pids,
+        streams: streams.collect(),
+        av1_pid,
+        video,
+    })
+}
 
+/// The entries, "tried in order, each wholly for 26; 27 .. where bytes remain after a twelfth that
+/// passed".
+fn entries(mut rest: &[u8], pat: &Pat, index: usize) -> Result<Vec<Entry>, Refusal> {
     let mut entries: Vec<Entry> = Vec::new();
     while !rest.is_empty() {
         if entries.len() == MOST_STREAMS {
@@ -205,16 +220,7 @@ pub fn pmt(section: &[u8], pat: &Pat, edition: Edition, index: usize) -> Result<
         });
         rest = &rest[5 + length..];
     }
-    let (av1_pid, video) = av1_entry(&entries, edition, index)?;
-    let pids = entries.iter().map(|entry| entry.pid).collect();
-    let streams = entries.iter().map(|entry| (entry.pid, entry.stream_type));
-    Ok(Pmt {
-        pcr_pid,
-        pids,
-        streams: streams.collect(),
-        av1_pid,
-        video,
-    })
+    Ok(entries)
 }
 
 /// "28: not exactly one AV1 entry, the registration 'AV01' elsewhere in an entry's loop or with

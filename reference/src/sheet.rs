@@ -10,7 +10,7 @@ use crate::segment::{self, Accepted, Listing, MOST_PACKETS, MOST_UNITS, Rooms};
 use crate::unit::{MOST_CARRIED, MOST_OBUS, payloads};
 
 /// "a count passes 12, 1,024 or 65,536"
-pub const MOST_LISTED_OBUS: usize = MOST_UNITS * MOST_OBUS;
+const MOST_LISTED_OBUS: usize = MOST_UNITS * MOST_OBUS;
 
 /// "a time passes 8,589,934,592"
 pub const MOST_LISTED_TIME: u64 = 8_589_934_592;
@@ -233,6 +233,11 @@ fn sections(bytes: &[u8]) -> Result<Sheet, &'static str> {
 
 /// The conditions on the numbers, each by itself.
 fn wrong(sheet: &Sheet) -> Option<&'static str> {
+    wrong_numbers(sheet).or_else(|| wrong_obus(sheet))
+}
+
+/// Those on streams and units.
+fn wrong_numbers(sheet: &Sheet) -> Option<&'static str> {
     for stream in &sheet.streams {
         if stream.pid >= u64::from(packet::NULL) {
             return Some("45: a PID above 1FFE");
@@ -260,6 +265,11 @@ fn wrong(sheet: &Sheet) -> Option<&'static str> {
             return Some("45: a DTS above 8,589,934,592");
         }
     }
+    None
+}
+
+/// Those on OBUs, and on the units by their OBUs.
+fn wrong_obus(sheet: &Sheet) -> Option<&'static str> {
     for obu in &sheet.obus {
         if obu.unit >= sheet.units.len() as u64 {
             return Some("45: an OBU names no unit");

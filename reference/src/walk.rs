@@ -10,7 +10,7 @@ use crate::unit::{START_CODE, payloads};
 use std::ops::Range;
 
 /// The condition of 9 at a step.
-pub const NO_START_CODE: &str = "9: no start code at the place";
+const NO_START_CODE: &str = "9: no start code at the place";
 
 /// The start of a walk: the place of its first step.
 pub fn start(unit: &[u8]) -> Result<usize, Refusal> {

@@ -1,9 +1,13 @@
 """The files of the crates, as the checks read them."""
 import re
+import sys
 from collections import defaultdict
 from pathlib import Path
 
 ROOT = Path(__file__).resolve().parents[2]
+sys.path.insert(0, str(ROOT / 'tests/edits'))
+from wrong import read as read_wrong  # noqa: E402
+
 CHARS = r'\s(){}.;,@"«»⟦⟧⌜⌝'
 NAME = rf'(?:«[^»\n]*»|[^{CHARS}]+)'
 USED = re.compile(rf'(?<![^{CHARS.replace(".", "")}]){NAME}(?:\.{NAME})*')
@@ -84,8 +88,8 @@ class Source:
 def read():
     """All files of src/, specs/ and proofs/."""
     edits = defaultdict(str)
-    for edit in ROOT.glob('crates/*/must-fail/*.edit'):
-        for file, text in re.findall(r'^file:\s*(\S+)\n(.*?)(?=^file:|\Z)', edit.read_text(), re.M | re.S):
-            edits[edit.parents[1] / file] += re.sub(r'^(old|new):', '', text, flags=re.M)
+    for wrong in read_wrong():
+        for file, old, new in wrong.changes:
+            edits[ROOT / 'crates' / wrong.crate / file] += f'{old}\n{new}\n'
     kinds = ('src/**/*.rt', 'specs/**/*.antt', 'proofs/**/*.antt')
     return [Source(p, edits[p]) for p in sorted(p for kind in kinds for p in ROOT.glob('crates/*/' + kind))]

@@ -1,5 +1,5 @@
 """av1ts check of accepted segments, and what of a file is checked."""
-from stream import FRAME, NEXT, SIZE, UNIT, VIDEO, Stream, carried, good, pes
+from stream import FRAME, NEXT, SIZE, UNIT, Stream, carried, good, pes
 
 KEYS = ['file', 'bytes', 'packets', 'first_packet', 'left_out', 'edition', 'verdict', 'refusal', 'program', 'pid', 'totals', 'unit_count', 'unit_bytes',
         'comparison', 'units']
@@ -37,7 +37,7 @@ def accepted(tests):
     dts = Stream().tables().clock(0).pes(pes(carried(FRAME), 93600, 90000)).data
     tests.status('a DTS of its own', 0, 'check', dts, '--units', has='PTS 93600 (1.040000 s)  DTS 90000 (1.000000 s)')
     tests.status('an edition by its name', 0, 'check', data, '--edition', 'current', has='accepted')
-    tests.holds('the sample descriptor is six bytes', len(VIDEO) == 6)
+    tests.status('the other edition by its name', 1, 'check', data, '--edition', 'draft', has='refused 28 (draft): ')
 
 
 def packets(tests):

@@ -1,17 +1,19 @@
 """What all commands have in common: status, streams, help, arguments, pipes."""
+import re
 import subprocess
 
 from stream import good
 
-COMMANDS = ['check', 'units', 'list', 'escape', 'unescape', 'descriptor', 'mastering', 'buffer', 'packet', 'explain']
+COMMANDS = ['check', 'units', 'list', 'escape', 'unescape', 'salvage', 'descriptor', 'mastering', 'mux', 'sheet', 'seek', 'buffer', 'packet', 'explain']
 
 
 def run(tests):
     data = good().data
     tests.status('--version', 0, '--version', has=['av1ts 0.', 'over libav1ts with interface version '])
     ran = tests.status('--help', 0, '--help', has='usage: av1ts COMMAND')
+    listed = re.findall(r'^  (\w+) ', ran.stdout.decode(), re.M)
+    tests.holds(f'--help lists the commands: {listed}', listed == COMMANDS)
     for command in COMMANDS:
-        tests.holds(f'--help lists {command}', f'\n  {command} '.encode() in ran.stdout, ran)
         tests.status(f'{command} --help', 0, command, '--help', has=f'usage: av1ts {command} ')
         tests.status(f'help {command}', 0, 'help', command, has=f'usage: av1ts {command} ')
         tests.status(f'{command} with a wrong option', 2, command, '--nothing', error=[
@@ -28,9 +30,9 @@ def run(tests):
     tests.status('a value behind =', 0, 'check', data, '--packets=0..3', has='accepted')
     tests.status('an argument too many', 2, 'explain', '1', '2', error='2 is one argument too many')
     tests.status('an unknown edition', 2, 'check', data, '--edition', 'old', error='old is neither current nor draft')
-    odd = tests.file(data, '-odd.ts')
+    tests.file(data, '-odd.ts')
     tests.status('a name with a dash, behind --', 0, 'check', '--', '-odd.ts', has='-odd.ts: accepted', cwd=tests.work)
-    tests.holds('it was there', odd.endswith('-odd.ts'))
+    tests.status('a name with a dash', 2, 'check', '-odd.ts', error='there is no option -odd.ts', cwd=tests.work)
     strange = tests.work / 'a"b\\c\nd.ts'
     strange.write_bytes(data)
     tests.holds('a strange name in JSON', tests.json('a strange name', 'check', strange, '--json')['file'] == str(strange))

@@ -1,17 +1,31 @@
 """Runs the tool and counts what holds."""
 import json
 import subprocess
+import sys
 import tempfile
 from pathlib import Path
 
-ROOT = Path(__file__).resolve().parents[2]
+sys.path.append(str(Path(__file__).resolve().parents[1]))
+
+from counted import ROOT, Counted  # noqa: E402
+
 TOOL = ROOT / 'build/cargo/release/av1ts'
 
 
-class Tests:
-    def __init__(self, tool=TOOL):
-        self.tool = str(tool)
-        self.passed = self.failed = 0
+def build():
+    """Builds the tool; where it cannot be built, the test ends."""
+    if subprocess.run(['cargo', 'build', '--quiet', '--release', '--package', 'av1ts-tool'], cwd=ROOT).returncode != 0:
+        print('0 passed, 1 failed')
+        sys.exit(1)
+
+
+class Tests(Counted):
+    def __init__(self, tool=None):
+        """Another program by its name, or the tool, which is built first."""
+        super().__init__()
+        if tool is None:
+            build()
+        self.tool = str(Path(tool).resolve() if tool else TOOL)
         self.folder = tempfile.TemporaryDirectory()
         self.work = Path(self.folder.name)
 
@@ -26,12 +40,8 @@ class Tests:
         return str(path)
 
     def holds(self, name, condition, ran=None):
-        if condition:
-            self.passed += 1
-            return
-        self.failed += 1
-        shown = '' if ran is None else f'\n  status {ran.returncode}\n  {ran.stdout[:1500]!r}\n  {ran.stderr[:500]!r}'
-        print(f'failed: {name}{shown}')
+        shown = '' if condition or ran is None else f'  status {ran.returncode}\n  {ran.stdout[:1500]!r}\n  {ran.stderr[:500]!r}'
+        super().holds(name, condition, shown)
 
     def status(self, name, status, *args, has=(), error=(), **more):
         """The tool ends with a status; each text of `has` stands on standard output, of `error` on standard error."""
@@ -59,5 +69,4 @@ class Tests:
 
     def end(self):
         self.folder.cleanup()
-        print(f'{self.passed} passed, {self.failed} failed')
-        return self.failed > 0
+        return super().end()

@@ -1,5 +1,5 @@
 """The commands on one OBU, unit, descriptor, content, packet or number."""
-from stream import FRAME, NEXT, SIZE, UNIT, Stream, good, pat, pes
+from stream import SIZE, UNIT, good
 
 
 def run(tests):
@@ -95,7 +95,7 @@ def packet(tests):
     tests.status('half a packet', 2, 'packet', data[:-1], str(len(data) // SIZE - 1), error='no whole packet')
     tests.status('no number', 2, 'packet', data, 'x', error='x is no packet')
     tests.status('one argument', 2, 'packet', data, error='2 arguments are needed')
-    tests.holds('the sample frame has a size', FRAME[1] == len(FRAME) - 2 and pat() and pes(NEXT) and Stream())
+    tests.status('a number that is none of a packet', 2, 'packet', data, 1 << 48, error=f'{1 << 48} is no packet')
 
 
 def explain(tests):

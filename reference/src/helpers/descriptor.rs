@@ -1,7 +1,7 @@
 //! Calls on video descriptors, each compared with the reference.
 
-use crate::helpers::payload::{refused, room_label};
-use crate::helpers::under_test::{self, descriptor_answer, rewritten_answer, written_answer};
+use crate::helpers::payload::{before_8, outcome_label, refused, written};
+use crate::helpers::under_test::{self, descriptor_answer, rewritten_answer};
 use crate::kit::{Given, Lent, Suite, hex};
 use reference::descriptor::{self, FIELDS};
 
@@ -42,29 +42,20 @@ impl Caller {
         let given: &[u8; 10] = self.given.part().try_into().expect("ten were given");
         let got = under_test::write_descriptor(given, self.lent.lend(room));
         let wrote = descriptor::write(fields, room);
-        let mut labels = more.to_vec();
-        let (expected, written): (_, &[u8]) = match &wrote {
-            Err(refusal) => {
-                labels.push(match refusal.number {
-                    8 => room_label(6, room),
-                    _ => refusal.condition,
-                });
-                if refusal.number == 41 && room < 6 {
-                    labels.push("41 before 8");
-                }
-                (refused(refusal), &[])
-            }
-            Ok(bytes) => {
-                labels.push(room_label(6, room));
-                (written_answer(), bytes)
-            }
+        let mut labels = [more, &[outcome_label(&wrote, 6, room)]].concat();
+        if before_8(&wrote, 6, room) {
+            labels.push("41 before 8");
+        }
+        let (expected, bytes): (_, &[u8]) = match &wrote {
+            Err(refusal) => (refused(refusal), &[]),
+            Ok(bytes) => (written(6), bytes),
         };
-        let passed = got == expected && self.lent.holds(written) && self.given.unchanged(fields);
+        let passed = got == expected && self.lent.holds(bytes) && self.given.unchanged(fields);
         suite.case(&labels, passed, || {
             format!(
                 "write descriptor, room {room}: expected {expected:?} and {}, got {got:?} and {}; \
                  {fields:?}",
-                hex(written),
+                hex(bytes),
                 hex(self.lent.part())
             )
         });
@@ -95,7 +86,7 @@ impl Caller {
             0 => (true, "read, then written: the same"),
             _ => (false, "read, then written: not the same"),
         };
-        let passed = answer == written_answer() && self.lent.holds(bytes) == same;
+        let passed = answer == written(6) && self.lent.holds(bytes) == same;
         suite.case(&[label], passed, || {
             format!(
                 "read, then written: {got:?}, then {answer:?}; input {}",
@@ -111,20 +102,13 @@ impl Caller {
         let got = under_test::rewrite_descriptor(self.given.part(), self.lent.lend(room));
         let rewritten = descriptor::rewrite(bytes, room);
         let expected = rewritten_answer(&rewritten);
-        let mut labels = more.to_vec();
+        let mut labels = [more, &[outcome_label(&rewritten, 6, room)]].concat();
+        if before_8(&rewritten, 6, room) {
+            labels.push("40 before 8");
+        }
         let written: &[u8] = match &rewritten {
-            Err(refusal) => {
-                labels.push(match refusal.number {
-                    8 => room_label(6, room),
-                    _ => refusal.condition,
-                });
-                if refusal.number == 40 && room < 6 {
-                    labels.push("40 before 8");
-                }
-                &[]
-            }
+            Err(_) => &[],
             Ok(rewritten) => {
-                labels.push(room_label(6, room));
                 labels.push(if rewritten.dropped_delay {
                     "rewritten: a delay dropped"
                 } else {

@@ -1,8 +1,7 @@
 //! Mastering figures read and written, compared with the reference.
 
-use crate::helpers::payload::{refused, room_label};
-use crate::kit::{Given, Lent, Suite, hex};
-use av1ts::Answer;
+use crate::helpers::payload::{before_8, outcome_label, refused, written};
+use crate::kit::{Given, Lent, Suite, from_hex, hex};
 use av1ts::mastering::{Mastering, read_mastering, write_mastering};
 use reference::mastering::{self, FIGURES, WRITTEN};
 
@@ -12,43 +11,49 @@ use reference::mastering::{self, FIGURES, WRITTEN};
 /// the first.
 pub struct Display {
     pub name: &'static str,
-    pub values: [u64; 10],
-    pub content: [u8; WRITTEN],
+    primaries: [u64; 6],
+    pub luminances: [u64; 2],
+    /// In hexadecimal digits.
+    content: &'static str,
 }
 
 /// Displays with the primaries of DCI-P3, BT.2020 and BT.709, red, green and blue, and white D65.
 pub const DISPLAYS: [Display; 3] = [
     Display {
         name: "P3-D65, 1,000 to 0.0001 cd/m2",
-        values: [
-            34_000, 16_000, 13_250, 34_500, 7_500, 3_000, 15_635, 16_450, 10_000_000, 1,
-        ],
-        content: [
-            0x02, 0xAE, 0x14, 0x51, 0xEC, 0x43, 0xD7, 0xB0, 0xA4, 0x26, 0x66, 0x0F, 0x5C, 0x50,
-            0x0D, 0x54, 0x39, 0x00, 0x03, 0xE8, 0x00, 0x00, 0x00, 0x00, 0x02, 0x80,
-        ],
+        primaries: [34_000, 16_000, 13_250, 34_500, 7_500, 3_000],
+        luminances: [10_000_000, 1],
+        content: "02AE1451EC43D7B0A426660F5C500D54390003E8000000000280",
     },
     Display {
         name: "BT.2020, 4,000 to 0.005 cd/m2",
-        values: [
-            35_400, 14_600, 8_500, 39_850, 6_550, 2_300, 15_635, 16_450, 40_000_000, 50,
-        ],
-        content: [
-            0x02, 0xB5, 0x3F, 0x4A, 0xC1, 0x2B, 0x85, 0xCC, 0x08, 0x21, 0x89, 0x0B, 0xC7, 0x50,
-            0x0D, 0x54, 0x39, 0x00, 0x0F, 0xA0, 0x00, 0x00, 0x00, 0x00, 0x52, 0x80,
-        ],
+        primaries: [35_400, 14_600, 8_500, 39_850, 6_550, 2_300],
+        luminances: [40_000_000, 50],
+        content: "02B53F4AC12B85CC0821890BC7500D5439000FA0000000005280",
     },
     Display {
         name: "BT.709, 100 to 0.01 cd/m2",
-        values: [
-            32_000, 16_500, 15_000, 30_000, 7_500, 3_000, 15_635, 16_450, 1_000_000, 100,
-        ],
-        content: [
-            0x02, 0xA3, 0xD7, 0x54, 0x7B, 0x4C, 0xCD, 0x99, 0x9A, 0x26, 0x66, 0x0F, 0x5C, 0x50,
-            0x0D, 0x54, 0x39, 0x00, 0x00, 0x64, 0x00, 0x00, 0x00, 0x00, 0xA4, 0x80,
-        ],
+        primaries: [32_000, 16_500, 15_000, 30_000, 7_500, 3_000],
+        luminances: [1_000_000, 100],
+        content: "02A3D7547B4CCD999A26660F5C500D543900006400000000A480",
     },
 ];
+
+impl Display {
+    /// All ten values, in the content's order.
+    pub fn values(&self) -> [u64; 10] {
+        let [a, b, c, d, e, f] = self.primaries;
+        let [max, min] = self.luminances;
+        [a, b, c, d, e, f, D65[0], D65[1], max, min]
+    }
+
+    pub fn content(&self) -> Vec<u8> {
+        from_hex(self.content)
+    }
+}
+
+/// The white point of all of them.
+const D65: [u64; 2] = [15_635, 16_450];
 
 /// The buffers of one caller, used again from call to call.
 #[derive(Default)]
@@ -91,32 +96,19 @@ impl Caller {
         let given: &[u64; 10] = self.values.part().try_into().expect("ten were given");
         let got = write_mastering(given, self.lent.lend(room));
         let wrote = mastering::write(values, room);
-        let mut labels = more.to_vec();
-        let (expected, written): (Answer, &[u8]) = match &wrote {
-            Err(refusal) => {
-                labels.push(match refusal.number {
-                    8 => room_label(WRITTEN, room),
-                    _ => refusal.condition,
-                });
-                if refusal.number == 49 && room < WRITTEN {
-                    labels.push("49 before 8");
-                }
-                (refused(refusal), &[])
-            }
-            Ok(bytes) => {
-                labels.push(room_label(WRITTEN, room));
-                let answer = Answer {
-                    count: WRITTEN as u64,
-                    ..Answer::default()
-                };
-                (answer, bytes)
-            }
+        let mut labels = [more, &[outcome_label(&wrote, WRITTEN, room)]].concat();
+        if before_8(&wrote, WRITTEN, room) {
+            labels.push("49 before 8");
+        }
+        let (expected, bytes): (_, &[u8]) = match &wrote {
+            Err(refusal) => (refused(refusal), &[]),
+            Ok(bytes) => (written(WRITTEN), bytes),
         };
-        let passed = got == expected && self.lent.holds(written) && self.values.unchanged(values);
+        let passed = got == expected && self.lent.holds(bytes) && self.values.unchanged(values);
         suite.case(&labels, passed, || {
             format!(
                 "write, room {room}: expected {expected:?} and {}, got {got:?} and {}; {values:?}",
-                hex(written),
+                hex(bytes),
                 hex(self.lent.part())
             )
         });

@@ -1,13 +1,21 @@
 //! One call of escape or unescape, compared with the reference.
 
-use crate::kit::{Given, Lent, Suite, hex};
+use crate::kit::{Given, Lent, Suite, hex, right};
 use av1ts::Answer;
-use reference::payload;
+use reference::payload::{self, Unescaped};
 use reference::refusal::Refusal;
 
 /// A refusal as the C interface answers it.
 pub fn refused(refusal: &Refusal) -> Answer {
     refused!(Answer, refusal)
+}
+
+/// What the C interface answers where so many bytes were written.
+pub fn written(count: usize) -> Answer {
+    Answer {
+        count: count as u64,
+        ..Answer::default()
+    }
 }
 
 /// How rooms stand to the need.
@@ -32,6 +40,19 @@ pub fn room_label(need: usize, room: usize) -> &'static str {
     } else {
         "8: several bytes short"
     }
+}
+
+/// The label of what is written into a room: how the room stands to the need, or a refusal but 8.
+pub fn outcome_label<T>(outcome: &Result<T, Refusal>, need: usize, room: usize) -> &'static str {
+    match outcome {
+        Err(refusal) if refusal.number != 8 => refusal.condition,
+        _ => room_label(need, room),
+    }
+}
+
+/// Whether a refusal comes before 8, which would be given too.
+pub fn before_8<T>(outcome: &Result<T, Refusal>, need: usize, room: usize) -> bool {
+    room < need && matches!(outcome, Err(refusal) if refusal.number != 8)
 }
 
 /// Rooms to try for a need: exactly enough, one less, none, one more and some more.
@@ -62,45 +83,12 @@ impl Caller {
         self.given.give(obu);
         let got = av1ts::payload::escape(self.given.part(), self.lent.lend(room));
         let expected = payload::escape(obu, room);
-        let mut labels = more.to_vec();
-        let (answer, written): (Answer, &[u8]) = match &expected {
-            Err(refusal) => {
-                labels.push(match refusal.number {
-                    8 => room_label(payload::escaped(obu).len(), room),
-                    _ => refusal.condition,
-                });
-                if refusal.number == 2 && room == 0 {
-                    labels.push("2: before 8");
-                }
-                (refused(refusal), &[])
-            }
-            Ok(written) => {
-                labels.push(room_label(written.len(), room));
-                labels.push(match written.len() - obu.len() {
-                    0 => "escape: nothing inserted",
-                    1 => "escape: one 03 inserted",
-                    _ => "escape: several 03 inserted",
-                });
-                if written.ends_with(&[0, 0]) {
-                    labels.push("escape: ends in 00 00");
-                }
-                (
-                    Answer {
-                        count: written.len() as u64,
-                        ..Answer::default()
-                    },
-                    written,
-                )
-            }
+        let labels = [more, &escape_labels(obu, room, &expected)].concat();
+        let (answer, bytes) = match expected {
+            Err(refusal) => (refused(&refusal), Vec::new()),
+            Ok(bytes) => (written(bytes.len()), bytes),
         };
-        let passed = got == answer && self.lent.holds(written) && self.given.unchanged(obu);
-        suite.case(&labels, passed, || {
-            format!(
-                "escape, room {room}: expected {answer:?}, got {got:?}, {}; input {}",
-                outputs(&self.lent, written),
-                hex(obu)
-            )
-        });
+        self.compare(suite, ("escape", obu), (got, answer), &bytes, &labels);
     }
 
     /// Unescapes a payload into a room and compares all that came of it with the reference.
@@ -108,77 +96,124 @@ impl Caller {
         self.given.give(payload);
         let got = av1ts::payload::unescape(self.given.part(), self.lent.lend(room));
         let expected = payload::unescape(payload, room);
-        let mut labels = more.to_vec();
-        let (answer, written): (Answer, &[u8]) = match &expected {
-            Err(refusal) => {
-                labels.push(match refusal.number {
-                    8 => room_label(payload::unescaped(payload).obu.len(), room),
-                    _ => refusal.condition,
-                });
-                if refusal.number == 2 && room == 0 {
-                    labels.push("2: before 8");
-                }
-                if refusal.number == 2 && payload::first_forbidden(payload).is_some() {
-                    labels.push("2: before 10");
-                }
-                if refusal.number == 10 {
-                    let rest = payload.len() - refusal.place as usize;
-                    if refusal.place == 0 {
-                        labels.push("10: at place 0");
-                    } else if rest == 3 || (rest == 4 && refusal.condition.contains("above")) {
-                        labels.push("10: at the payload's end");
-                    } else {
-                        labels.push("10: inside the payload");
-                    }
-                    if room == 0 {
-                        labels.push("10: before 8");
-                    }
-                }
-                (refused(refusal), &[])
-            }
-            Ok(unescaped) => {
-                labels.push(room_label(unescaped.obu.len(), room));
-                labels.push(match unescaped.dropped {
-                    0 => "unescape: nothing dropped",
-                    1 => "unescape: one 03 dropped",
-                    _ => "unescape: several 03 dropped",
-                });
-                if payload.ends_with(&[0, 0]) {
-                    labels.push("unescape: ends in 00 00");
-                }
-                if payload.ends_with(&[0, 0, 3]) {
-                    labels.push("unescape: ends in 00 00 03");
-                }
+        let labels = [more, &unescape_labels(payload, room, &expected)].concat();
+        let (answer, bytes) = match expected {
+            Err(refusal) => (refused(&refusal), Vec::new()),
+            Ok(Unescaped { obu, dropped }) => {
                 let answer = Answer {
-                    count: unescaped.obu.len() as u64,
-                    dropped: unescaped.dropped as u64,
-                    ..Answer::default()
+                    dropped: dropped as u64,
+                    ..written(obu.len())
                 };
-                (answer, &unescaped.obu)
+                (answer, obu)
             }
         };
-        let passed = got == answer && self.lent.holds(written) && self.given.unchanged(payload);
-        suite.case(&labels, passed, || {
+        self.compare(suite, ("unescape", payload), (got, answer), &bytes, &labels);
+    }
+
+    /// Compares an answer with the one expected, and the output with what must stand at its front.
+    fn compare(
+        &self,
+        suite: &mut Suite,
+        (call, input): (&str, &[u8]),
+        (got, expected): (Answer, Answer),
+        bytes: &[u8],
+        labels: &[&str],
+    ) {
+        let output = self.lent.holds(bytes);
+        let passed = got == expected && output && self.given.unchanged(input);
+        suite.case(labels, passed, || {
             format!(
-                "unescape, room {room}: expected {answer:?}, got {got:?}, {}; input {}",
-                outputs(&self.lent, written),
-                hex(payload)
+                "{call}, room {}: expected {expected:?} and {}, got {got:?}, output {}: {}; input {}",
+                self.lent.part().len(),
+                hex(bytes),
+                right(output),
+                hex(self.lent.part()),
+                hex(input)
             )
         });
     }
 }
 
-/// What is to be said of an output in the detail of a failure.
-fn outputs(lent: &Lent<u8>, written: &[u8]) -> String {
-    if lent.holds(written) {
-        "output right".to_string()
-    } else {
-        format!(
-            "output or guards wrong, expected {} have {}",
-            hex(written),
-            hex(lent.part())
-        )
+/// The labels of an OBU that is escaped.
+fn escape_labels(obu: &[u8], room: usize, escaped: &Result<Vec<u8>, Refusal>) -> Vec<&'static str> {
+    let need = escaped
+        .as_ref()
+        .map_or_else(|_| payload::escaped(obu).len(), Vec::len);
+    let mut labels = vec![outcome_label(escaped, need, room)];
+    match escaped {
+        Err(refusal) if refusal.number == 2 && room == 0 => labels.push("2: before 8"),
+        Err(_) => {}
+        Ok(written) => {
+            labels.push(match written.len() - obu.len() {
+                0 => "escape: nothing inserted",
+                1 => "escape: one 03 inserted",
+                _ => "escape: several 03 inserted",
+            });
+            if written.ends_with(&[0, 0]) {
+                labels.push("escape: ends in 00 00");
+            }
+        }
     }
+    labels
+}
+
+/// The labels of a payload that is unescaped.
+fn unescape_labels(
+    payload: &[u8],
+    room: usize,
+    unescaped: &Result<Unescaped, Refusal>,
+) -> Vec<&'static str> {
+    let mut labels = Vec::new();
+    match unescaped {
+        Err(refusal) => {
+            let need = payload::unescaped(payload).obu.len();
+            labels.push(outcome_label(unescaped, need, room));
+            match refusal.number {
+                2 => {
+                    if room == 0 {
+                        labels.push("2: before 8");
+                    }
+                    if payload::first_forbidden(payload).is_some() {
+                        labels.push("2: before 10");
+                    }
+                }
+                10 => labels.extend(forbidden_labels(payload, room, refusal)),
+                _ => {}
+            }
+        }
+        Ok(Unescaped { obu, dropped }) => {
+            labels.push(room_label(obu.len(), room));
+            labels.push(match dropped {
+                0 => "unescape: nothing dropped",
+                1 => "unescape: one 03 dropped",
+                _ => "unescape: several 03 dropped",
+            });
+            if payload.ends_with(&[0, 0]) {
+                labels.push("unescape: ends in 00 00");
+            }
+            if payload.ends_with(&[0, 0, 3]) {
+                labels.push("unescape: ends in 00 00 03");
+            }
+        }
+    }
+    labels
+}
+
+/// The labels of 10: where the forbidden sequence stands, and that it comes before 8.
+fn forbidden_labels(payload: &[u8], room: usize, refusal: &Refusal) -> Vec<&'static str> {
+    let rest = payload.len() - refusal.place as usize;
+    let at_end = rest == 3 || rest == 4 && refusal.condition.contains("above");
+    let mut labels = vec![if refusal.place == 0 {
+        "10: at place 0"
+    } else if at_end {
+        "10: at the payload's end"
+    } else {
+        "10: inside the payload"
+    }];
+    if room == 0 {
+        labels.push("10: before 8");
+    }
+    labels
 }
 
 /// The labels of both functions that inputs of every kind hit, beside those of rooms.

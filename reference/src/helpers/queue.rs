@@ -1,18 +1,16 @@
 //! Queues and what they send, compared with the reference, and units to queue.
 
+pub use crate::helpers::descriptor::EXAMPLE as VIDEO;
 use crate::helpers::segment;
 use crate::helpers::under_test::library;
 use crate::helpers::unit::{any_list, carry_closed};
-use crate::kit::{Given, Lent, Pattern, Random, Suite, hex};
+use crate::kit::{Given, Lent, Pattern, Random, Suite, hex, right};
 use av1ts::queue::{Channel, Queue, Queued, Sent};
 use reference::queue::send::{self, PCR_END};
 use reference::queue::{self as model, MOST_TIME, NOT_ACCEPTED};
 use reference::refusal::Refusal;
 use reference::segment::Unit;
 use reference::unit;
-
-/// A video descriptor that is right.
-pub const VIDEO: [u8; 6] = [0x80, 0x04, 0x81, 0x08, 0x0C, 0xC0];
 
 /// A channel that is right.
 pub const CHANNEL: Channel = Channel {
@@ -72,28 +70,19 @@ fn used(queue: &Queue) -> Queue {
     used
 }
 
-fn model_channel(channel: &Channel) -> send::Channel {
-    send::Channel {
-        program: channel.program,
-        map_pid: channel.map_pid,
-        av1_pid: channel.av1_pid,
-        pcr: channel.pcr,
-        pat_counter: channel.pat_counter,
-        map_counter: channel.map_counter,
-        av1_counter: channel.av1_counter,
-    }
-}
-
-fn channel_in_c(channel: &send::Channel) -> Channel {
-    Channel {
-        program: channel.program,
-        map_pid: channel.map_pid,
-        av1_pid: channel.av1_pid,
-        pcr: channel.pcr,
-        pat_counter: channel.pat_counter,
-        map_counter: channel.map_counter,
-        av1_counter: channel.av1_counter,
-    }
+/// The reference's channel as the C interface has it, or the other way: their fields are the same.
+macro_rules! channel_as {
+    ($($kind:ident)::+, $channel:expr) => {
+        $($kind)::+ {
+            program: $channel.program,
+            map_pid: $channel.map_pid,
+            av1_pid: $channel.av1_pid,
+            pcr: $channel.pcr,
+            pat_counter: $channel.pat_counter,
+            map_counter: $channel.map_counter,
+            av1_counter: $channel.av1_counter,
+        }
+    };
 }
 
 fn add(queue: Queue, store: &mut [u8], unit: &model::Queued, bytes: &[u8]) -> Queued {
@@ -143,7 +132,8 @@ fn send(queue: Queue, store: &[u8], channel: Channel, descriptor: &[u8], out: &m
         return av1ts::queue::send(queue, store, channel, descriptor, out);
     }
     let model = from_c(&queue, store);
-    let sent = send::send(&model, &model_channel(&channel), descriptor, out.len());
+    let given = channel_as!(send::Channel, channel);
+    let sent = send::send(&model, &given, descriptor, out.len());
     if let Ok(sent) = &sent {
         out[..sent.bytes.len()].copy_from_slice(&sent.bytes);
     }
@@ -186,7 +176,7 @@ fn sent_answer(queue: Queue, channel: Channel, sent: &Result<send::Sent, Refusal
         Ok(sent) => Sent {
             bytes: sent.bytes.len() as u64,
             packets: sent.packets as u64,
-            next: channel_in_c(&sent.next),
+            next: channel_as!(Channel, sent.next),
             ..Sent::default()
         },
     }
@@ -373,7 +363,8 @@ impl Session {
             self.descriptor.part(),
             self.out.lend(room),
         );
-        let sent = send::send(&self.model, &model_channel(channel), descriptor, room);
+        let given = channel_as!(send::Channel, channel);
+        let sent = send::send(&self.model, &given, descriptor, room);
         let expected = sent_answer(self.queue, *channel, &sent);
         let bytes: &[u8] = sent.as_ref().map_or(&[], |sent| &sent.bytes);
         let output = self.out.holds(bytes);
@@ -389,7 +380,7 @@ impl Session {
                  got {got:?}, output {}",
                 self.queue,
                 hex(descriptor),
-                if output { "right" } else { "or guards wrong" }
+                right(output)
             )
         });
         self.queue = got.queue;

@@ -3,7 +3,7 @@
 pub mod encoded;
 
 use crate::helpers::under_test;
-use crate::kit::{Given, Lent, Suite, hex};
+use crate::kit::{Given, Lent, Suite, hex, right};
 use reference::salvage::{self, Mark, Salvaged};
 use reference::unit::{self, MOST_OBUS, START_CODE};
 
@@ -152,7 +152,7 @@ impl Caller {
             format!(
                 "salvage, rooms {bytes_room} and {marks_room}: expected {answer:?} and marks \
                  {marks:?}, got {got:?}, outputs {}; input {}",
-                if outputs { "right" } else { "or guards wrong" },
+                right(outputs),
                 hex(input)
             )
         });

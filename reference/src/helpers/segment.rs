@@ -6,14 +6,25 @@ pub mod make;
 pub mod pairs;
 pub mod set_up;
 
-use crate::helpers::under_test::{self, segment_answer};
-use crate::kit::{Given, Lent, Suite};
+use crate::helpers::under_test::{self, SegmentOutputs, segment_answer};
+use crate::kit::{Given, Lent, Suite, right};
 use reference::packet;
 use reference::refusal::Refusal;
 use reference::segment::{self, Accepted, Rooms, Unit};
 
 /// The reference's verdict.
 pub type Verdict = Result<Accepted, Refusal>;
+
+/// Whether a verdict is a refusal by a number.
+pub fn refused_by(verdict: &Verdict, number: u64) -> bool {
+    matches!(verdict, Err(refusal) if refusal.number == number)
+}
+
+/// Whether a verdict is a refusal by a number at a place.
+pub fn refused_at(verdict: &Verdict, number: u64, place: usize) -> bool {
+    let at = (number, place as u64);
+    matches!(verdict, Err(refusal) if (refusal.number, refusal.place) == at)
+}
 
 /// The buffers of one caller, used again from call to call.
 #[derive(Default)]
@@ -28,7 +39,23 @@ impl Caller {
         self.check_as(suite, segment, rooms, more, |_| true);
     }
 
-    /// The same, where the reference's verdict must also be the one intended.
+    /// The same with room for whatever the segment holds.
+    pub fn check_wide(&mut self, suite: &mut Suite, segment: &[u8], more: &[&str]) {
+        self.check(suite, segment, wide(segment), more);
+    }
+
+    /// With that room, where the reference's verdict must also be the one intended.
+    pub fn check_wide_as(
+        &mut self,
+        suite: &mut Suite,
+        segment: &[u8],
+        more: &[&str],
+        intended: impl FnOnce(&Verdict) -> bool,
+    ) {
+        self.check_as(suite, segment, wide(segment), more, intended);
+    }
+
+    /// Into rooms, where the reference's verdict must also be the one intended.
     pub fn check_as(
         &mut self,
         suite: &mut Suite,
@@ -63,12 +90,8 @@ impl Caller {
         intended: impl FnOnce(&Verdict) -> bool,
     ) {
         self.given.give(segment);
-        let bytes = self.given.part();
-        let (out, lengths, times) = self.outputs.lend(rooms);
-        let got = match edition {
-            None => under_test::check_segment(bytes, out, lengths, times),
-            Some(edition) => under_test::check_segment_edition(edition, bytes, out, lengths, times),
-        };
+        let outputs = self.outputs.lend(rooms);
+        let got = under_test::check_segment(edition, self.given.part(), outputs);
         let verdict = segment::check_edition(edition.unwrap_or(0), segment, rooms);
         let expected = segment_answer(&verdict);
         let closing;
@@ -86,7 +109,7 @@ impl Caller {
         suite.case(&[more, &[label]].concat(), passed, || {
             format!(
                 "edition {edition:?}, {rooms:?}: expected {expected:?}, got {got:?}, outputs {}{}; {}",
-                if outputs { "right" } else { "or guards wrong" },
+                right(outputs),
                 if is_intended { "" } else { ", not as intended" },
                 packets_text(segment)
             )
@@ -103,7 +126,7 @@ pub struct Outputs {
 }
 
 impl Outputs {
-    pub fn lend(&mut self, rooms: Rooms) -> (&mut [u8], &mut [usize], &mut [u64]) {
+    pub fn lend(&mut self, rooms: Rooms) -> SegmentOutputs<'_> {
         (
             self.bytes.lend(rooms.bytes),
             self.lengths.lend(rooms.lengths),

@@ -2,7 +2,7 @@
 //! that carry them.
 
 use crate::helpers::segment::set_up::{AV1, MAP, OTHER, PROGRAM};
-use crate::helpers::segment::{Caller, Verdict, wide};
+use crate::helpers::segment::{Caller, Verdict};
 use crate::helpers::unit::{List, any_obu, carry_list};
 use crate::kit::{Random, Suite};
 use reference::comparison::{Comparison, Found};
@@ -382,6 +382,12 @@ impl Header {
             }
             _ => {}
         }
+        let (subsampling, position) = self.subsampling(writer, twelve_bit);
+        (twelve_bit, mono, subsampling, position)
+    }
+
+    /// color_range, both subsamplings and the position.
+    fn subsampling(&self, writer: &mut Writer, twelve_bit: bool) -> ((bool, bool), u8) {
         writer.any(1);
         let (x, y) = match self.profile {
             0 => (true, true),
@@ -414,7 +420,7 @@ impl Header {
                 _ => "chroma_sample_position 3",
             });
         }
-        (twelve_bit, mono, (x, y), position)
+        ((x, y), position)
     }
 }
 
@@ -557,9 +563,7 @@ pub fn check(
     let bytes = segment(&packets(video, units));
     let found = found_label(expected);
     let labels = [labels, &[found]].concat();
-    caller.check_as(suite, &bytes, wide(&bytes), &labels, |verdict| {
-        is(verdict, expected)
-    });
+    caller.check_wide_as(suite, &bytes, &labels, |verdict| is(verdict, expected));
 }
 
 /// What is found, as a label.
@@ -577,7 +581,7 @@ pub const FOUND: [&str; 11] = [
     "none found",
 ];
 
-pub fn found_label(expected: Expected) -> &'static str {
+fn found_label(expected: Expected) -> &'static str {
     match expected {
         Some((_, Found::Field(field))) => FOUND[field],
         Some((_, Found::CutShort)) => FOUND[9],

@@ -1,8 +1,8 @@
 //! Sheets, compared with the reference, and sheets to read.
 
 use crate::helpers::segment::Outputs;
-use crate::helpers::under_test::{self, library};
-use crate::kit::{Given, Lent, Random, Suite, hex};
+use crate::helpers::under_test::{SegmentOutputs, check_segment, library, rooms_of};
+use crate::kit::{Given, Lent, Random, Suite, hex, right};
 use av1ts::sheet::{Sheet as SheetRead, SheetFound, SheetWritten};
 use reference::refusal::Refusal;
 use reference::segment::Rooms;
@@ -11,19 +11,15 @@ use reference::sheet::{self, MOST_LISTED_TIME, Obu, Sheet, Stream, Unit, Written
 fn write_sheet(
     edition: u64,
     segment: &[u8],
-    outputs: (&mut [u8], &mut [usize], &mut [u64]),
+    outputs: SegmentOutputs,
     sheet: &mut [u8],
 ) -> SheetWritten {
-    let (out, lengths, times) = outputs;
     if library() {
+        let (out, lengths, times) = outputs;
         return av1ts::sheet::write_sheet(edition, segment, out, lengths, times, sheet);
     }
-    let rooms = Rooms {
-        bytes: out.len(),
-        lengths: lengths.len(),
-        times: times.len(),
-    };
-    under_test::check_segment_edition(edition, segment, out, lengths, times);
+    let rooms = rooms_of(&outputs);
+    check_segment(Some(edition), segment, outputs);
     let written = sheet::write(edition, segment, rooms, sheet.len());
     if let Ok(bytes) = &written.sheet {
         sheet[..bytes.len()].copy_from_slice(bytes);
@@ -170,7 +166,7 @@ impl Caller {
         suite.case(&[more, &[label]].concat(), passed, || {
             format!(
                 "read into {rooms:?}: expected {expected:?} ({label}), got {got:?}, outputs {}; {}",
-                if outputs { "right" } else { "or guards wrong" },
+                right(outputs),
                 hex(bytes)
             )
         });

@@ -1,7 +1,7 @@
 //! The functions under test of descriptors, segments and salvaging: the library's, or the reference's
-//! own.
+//! own. Those of queues and sheets stand beside their callers.
 
-use crate::helpers::payload::refused;
+use crate::helpers::payload::{refused, written};
 use av1ts::Answer;
 use av1ts::descriptor::{Descriptor, Rewritten};
 use av1ts::salvage::Salvaged;
@@ -39,7 +39,7 @@ pub fn write_descriptor(fields: &[u8; 10], out: &mut [u8]) -> Answer {
         Err(refusal) => refused(&refusal),
         Ok(bytes) => {
             out[..6].copy_from_slice(&bytes);
-            written_answer()
+            written(6)
         }
     }
 }
@@ -55,34 +55,19 @@ pub fn rewrite_descriptor(bytes: &[u8], out: &mut [u8]) -> Rewritten {
     rewritten_answer(&rewritten)
 }
 
-pub fn check_segment(
-    bytes: &[u8],
-    out: &mut [u8],
-    lengths: &mut [usize],
-    times: &mut [u64],
-) -> Segment {
+/// The check of a segment, by the function that takes an edition or by the one that takes none.
+pub fn check_segment(edition: Option<u64>, bytes: &[u8], outputs: SegmentOutputs) -> Segment {
+    let rooms = rooms_of(&outputs);
+    let (out, lengths, times) = outputs;
     if library() {
-        return av1ts::segment::check_segment(bytes, out, lengths, times);
+        return match edition {
+            None => av1ts::segment::check_segment(bytes, out, lengths, times),
+            Some(edition) => {
+                av1ts::segment::check_segment_edition(edition, bytes, out, lengths, times)
+            }
+        };
     }
-    check_segment_edition(0, bytes, out, lengths, times)
-}
-
-pub fn check_segment_edition(
-    edition: u64,
-    bytes: &[u8],
-    out: &mut [u8],
-    lengths: &mut [usize],
-    times: &mut [u64],
-) -> Segment {
-    if library() {
-        return av1ts::segment::check_segment_edition(edition, bytes, out, lengths, times);
-    }
-    let rooms = Rooms {
-        bytes: out.len(),
-        lengths: lengths.len(),
-        times: times.len(),
-    };
-    let verdict = segment::check_edition(edition, bytes, rooms);
+    let verdict = segment::check_edition(edition.unwrap_or(0), bytes, rooms);
     match &verdict {
         Err(_) => {
             out.fill(0);
@@ -101,6 +86,18 @@ pub fn check_segment_edition(
         }
     }
     segment_answer(&verdict)
+}
+
+/// The three outputs of a check, lent: bytes, lengths and times.
+pub type SegmentOutputs<'a> = (&'a mut [u8], &'a mut [usize], &'a mut [u64]);
+
+/// How long the outputs of a check are.
+pub fn rooms_of((bytes, lengths, times): &SegmentOutputs) -> Rooms {
+    Rooms {
+        bytes: bytes.len(),
+        lengths: lengths.len(),
+        times: times.len(),
+    }
 }
 
 pub fn salvage(input: &[u8], out: &mut [u8], marks: &mut [u8]) -> Salvaged {
@@ -150,14 +147,6 @@ pub fn descriptor_answer(read: &Result<descriptor::Video, Refusal>) -> Descripto
             delay: u64::from(video.delay.unwrap_or(0)),
             ..Descriptor::default()
         },
-    }
-}
-
-/// What the C interface answers where a descriptor was written.
-pub fn written_answer() -> Answer {
-    Answer {
-        count: 6,
-        ..Answer::default()
     }
 }
 

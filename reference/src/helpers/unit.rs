@@ -8,7 +8,7 @@ pub mod widths;
 use crate::helpers::leb128::shortest;
 use crate::helpers::obu::{CONDITIONS, build};
 use crate::helpers::payload::{refused, room_label};
-use crate::kit::{Given, Lent, Random, Suite, hex};
+use crate::kit::{Given, Lent, Random, Suite, hex, right};
 use av1ts::Answer;
 use av1ts::walk::Step;
 use reference::obu::Kind::{self, ShownAgain, Type};
@@ -133,7 +133,7 @@ impl Caller {
             format!(
                 "read, rooms {bytes_room} and {lengths_room}: expected {answer:?}, got {got:?}, \
                  outputs {}; input {}",
-                if outputs { "right" } else { "or guards wrong" },
+                right(outputs),
                 hex(carried)
             )
         });
@@ -189,7 +189,7 @@ impl Caller {
             format!(
                 "write, room {room}: expected {answer:?}, got {got:?}, output {}; lengths {:?}{} \
                  OBUs {}",
-                if output { "right" } else { "or guards wrong" },
+                right(output),
                 &lengths[..lengths.len().min(8)],
                 if lengths.len() > 8 { "..." } else { "" },
                 hex(obus)

@@ -24,33 +24,14 @@ pub struct Rewritten {
     pub dropped_delay: u64,
 }
 
-extern "C" {
-    fn av1ts_read_descriptor(bytes: *const u8, len: usize) -> Descriptor;
-    fn av1ts_write_descriptor(field: *const u8, out: *mut u8, out_len: usize) -> Answer;
-    fn av1ts_rewrite_descriptor(
-        bytes: *const u8,
-        len: usize,
-        out: *mut u8,
-        out_len: usize,
-    ) -> Rewritten;
-}
+c_functions! {
+    /// The values of a video descriptor, which is given with tag and length.
+    av1ts_read_descriptor as read_descriptor(in bytes: u8) -> Descriptor;
 
-/// The values of a video descriptor, which is given with tag and length.
-pub fn read_descriptor(bytes: &[u8]) -> Descriptor {
-    // SAFETY: the slice is valid for its length.
-    unsafe { call!(av1ts_read_descriptor(in bytes)) }
-}
+    /// Writes a video descriptor without delay to the front of `out`; `count` is the number of bytes
+    /// written.
+    av1ts_write_descriptor as write_descriptor(ten field: u8, out out: u8) -> Answer;
 
-/// Writes a video descriptor without delay to the front of `out`; `count` is the number of bytes
-/// written.
-pub fn write_descriptor(field: &[u8; 10], out: &mut [u8]) -> Answer {
-    // SAFETY: the C side reads ten bytes of `field`, and `out` is valid for its length; the two do
-    // not overlap.
-    unsafe { call!(av1ts_write_descriptor(field.as_ptr(), out out)) }
-}
-
-/// Reads a video descriptor and writes it without delay to the front of `out`.
-pub fn rewrite_descriptor(bytes: &[u8], out: &mut [u8]) -> Rewritten {
-    // SAFETY: both slices are valid for their lengths and do not overlap.
-    unsafe { call!(av1ts_rewrite_descriptor(in bytes, out out)) }
+    /// Reads a video descriptor and writes it without delay to the front of `out`.
+    av1ts_rewrite_descriptor as rewrite_descriptor(in bytes: u8, out out: u8) -> Rewritten;
 }

@@ -12,21 +12,11 @@ pub struct Mastering {
     pub figure: [f64; 10],
 }
 
-extern "C" {
-    fn av1ts_read_mastering(content: *const u8, len: usize) -> Mastering;
-    fn av1ts_write_mastering(value: *const u64, out: *mut u8, out_len: usize) -> Answer;
-}
+c_functions! {
+    /// The figures of a content, from its metadata type on.
+    av1ts_read_mastering as read_mastering(in content: u8) -> Mastering;
 
-/// The figures of a content, from its metadata type on.
-pub fn read_mastering(content: &[u8]) -> Mastering {
-    // SAFETY: the slice is valid for its length.
-    unsafe { call!(av1ts_read_mastering(in content)) }
-}
-
-/// Writes the content of ten values of ST 2086, in the content's order, to the front of `out`;
-/// `count` is the number of bytes written.
-pub fn write_mastering(value: &[u64; 10], out: &mut [u8]) -> Answer {
-    // SAFETY: the C side reads ten numbers of `value`, and `out` is valid for its length; the two do
-    // not overlap.
-    unsafe { call!(av1ts_write_mastering(value.as_ptr(), out out)) }
+    /// Writes the content of ten values of ST 2086, in the content's order, to the front of `out`;
+    /// `count` is the number of bytes written.
+    av1ts_write_mastering as write_mastering(ten value: u64, out out: u8) -> Answer;
 }

@@ -52,73 +52,23 @@ pub struct Sent {
     pub queue: Queue,
 }
 
-extern "C" {
-    fn av1ts_queue_add(
-        queue: Queue,
-        store: *mut u8,
-        store_len: usize,
-        unit: *const u8,
-        unit_len: usize,
-        pts: u64,
-        dts: u64,
-        marked: u64,
+c_functions! {
+    /// Puts a unit behind the queued ones, its bytes behind theirs in `store`.
+    av1ts_queue_add as add(
+        queue: Queue, out store: u8, in unit: u8, pts: u64, dts: u64, flag marked
     ) -> Queued;
-    fn av1ts_queue_drop(queue: Queue, store: *mut u8, store_len: usize) -> Queued;
-    fn av1ts_queue_clear(queue: Queue) -> Queued;
-    fn av1ts_queue_total(queue: Queue) -> u64;
-    fn av1ts_queue_send(
-        queue: Queue,
-        store: *const u8,
-        store_len: usize,
-        channel: Channel,
-        descriptor: *const u8,
-        descriptor_len: usize,
-        out: *mut u8,
-        out_len: usize,
+
+    /// Takes out the oldest unit; the bytes of the others move to the front of `store`.
+    av1ts_queue_drop as drop_oldest(queue: Queue, out store: u8) -> Queued;
+
+    /// Takes out all units.
+    av1ts_queue_clear as clear(queue: Queue) -> Queued;
+
+    /// The bytes that are queued, as the queue has them stored.
+    av1ts_queue_total as total(queue: Queue) -> u64;
+
+    /// Writes the packets of all queued units to the front of `out`, which empties the queue.
+    av1ts_queue_send as send(
+        queue: Queue, in store: u8, channel: Channel, in descriptor: u8, out out: u8
     ) -> Sent;
-}
-
-/// Puts a unit behind the queued ones, its bytes behind theirs in `store`.
-pub fn add(
-    queue: Queue,
-    store: &mut [u8],
-    unit: &[u8],
-    pts: u64,
-    dts: u64,
-    marked: bool,
-) -> Queued {
-    // SAFETY: both slices are valid for their lengths and do not overlap; the C side takes any
-    // queue.
-    unsafe { call!(av1ts_queue_add(queue, out store, in unit, pts, dts, u64::from(marked))) }
-}
-
-/// Takes out the oldest unit; the bytes of the others move to the front of `store`.
-pub fn drop_oldest(queue: Queue, store: &mut [u8]) -> Queued {
-    // SAFETY: the slice is valid for its length; the C side takes any queue.
-    unsafe { call!(av1ts_queue_drop(queue, out store)) }
-}
-
-/// Takes out all units.
-pub fn clear(queue: Queue) -> Queued {
-    // SAFETY: nothing is lent; the C side takes any queue.
-    unsafe { av1ts_queue_clear(queue) }
-}
-
-/// The bytes that are queued, as the queue has them stored.
-pub fn total(queue: Queue) -> u64 {
-    // SAFETY: nothing is lent; the C side takes any queue.
-    unsafe { av1ts_queue_total(queue) }
-}
-
-/// Writes the packets of all queued units to the front of `out`, which empties the queue.
-pub fn send(
-    queue: Queue,
-    store: &[u8],
-    channel: Channel,
-    descriptor: &[u8],
-    out: &mut [u8],
-) -> Sent {
-    // SAFETY: the slices are valid for their lengths and the output overlaps no other; the C side
-    // takes any queue.
-    unsafe { call!(av1ts_queue_send(queue, in store, channel, in descriptor, out out)) }
 }

@@ -23,20 +23,10 @@ pub struct Replayed {
     pub state: ReplayState,
 }
 
-extern "C" {
-    fn av1ts_replay(
-        state: ReplayState,
-        rate: u64,
-        times: *const u64,
-        times_len: usize,
-        counts: *const u64,
-        counts_len: usize,
+c_functions! {
+    /// Replays arrivals, each a time and a byte count, from a state on, at a drain rate in bits a
+    /// second. A state that no run reaches is number 47 at place 0.
+    av1ts_replay as replay(
+        state: ReplayState, rate: u64, in times: u64, in counts: u64
     ) -> Replayed;
-}
-
-/// Replays arrivals, each a time and a byte count, from a state on, at a drain rate in bits a second.
-/// A state that no run reaches is number 47 at place 0.
-pub fn replay(state: ReplayState, rate: u64, times: &[u64], counts: &[u64]) -> Replayed {
-    // SAFETY: both slices are valid for their lengths.
-    unsafe { call!(av1ts_replay(state, rate, in times, in counts)) }
 }

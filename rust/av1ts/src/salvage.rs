@@ -14,21 +14,9 @@ pub struct Salvaged {
     pub accepted: u64,
 }
 
-extern "C" {
-    fn av1ts_salvage(
-        unit: *const u8,
-        len: usize,
-        out: *mut u8,
-        out_len: usize,
-        marks: *mut u8,
-        marks_len: usize,
-    ) -> Salvaged;
-}
-
-/// Writes the tsOBUs that are right to the front of `out`, each in the writer's form, and a mark for
-/// each tsOBU of the input to the front of `marks`: 0 kept, 1 kept with a closing 03 removed, else the
-/// number that it was dropped with.
-pub fn salvage(unit: &[u8], out: &mut [u8], marks: &mut [u8]) -> Salvaged {
-    // SAFETY: the slices are valid for their lengths and none overlaps another.
-    unsafe { call!(av1ts_salvage(in unit, out out, out marks)) }
+c_functions! {
+    /// Writes the tsOBUs that are right to the front of `out`, each in the writer's form, and a mark
+    /// for each tsOBU of the input to the front of `marks`: 0 kept, 1 kept with a closing 03 removed,
+    /// else the number that it was dropped with.
+    av1ts_salvage as salvage(in unit: u8, out out: u8, out marks: u8) -> Salvaged;
 }

@@ -21,55 +21,17 @@ pub struct Segment {
     pub field: u64,
 }
 
-extern "C" {
-    fn av1ts_check_segment(
-        segment: *const u8,
-        len: usize,
-        out: *mut u8,
-        out_len: usize,
-        lengths: *mut usize,
-        lengths_len: usize,
-        times: *mut u64,
-        times_len: usize,
+c_functions! {
+    /// Writes the carried units back to back to the front of `out`, their lengths to the front of
+    /// `lengths`, and their PTS and DTS in turn to the front of `times`. A refusal leaves zeros
+    /// throughout the three.
+    av1ts_check_segment as check_segment(
+        in segment: u8, out out: u8, out lengths: usize, out times: u64
     ) -> Segment;
-    fn av1ts_check_segment_edition(
-        edition: u64,
-        segment: *const u8,
-        len: usize,
-        out: *mut u8,
-        out_len: usize,
-        lengths: *mut usize,
-        lengths_len: usize,
-        times: *mut u64,
-        times_len: usize,
+
+    /// The same in an edition: 0 current, 1 draft, any other is number 44. Under draft a unit without
+    /// times has 8,589,934,592 for both.
+    av1ts_check_segment_edition as check_segment_edition(
+        edition: u64, in segment: u8, out out: u8, out lengths: usize, out times: u64
     ) -> Segment;
-}
-
-/// Writes the carried units back to back to the front of `out`, their lengths to the front of
-/// `lengths`, and their PTS and DTS in turn to the front of `times`. A refusal leaves zeros
-/// throughout the three.
-pub fn check_segment(
-    segment: &[u8],
-    out: &mut [u8],
-    lengths: &mut [usize],
-    times: &mut [u64],
-) -> Segment {
-    // SAFETY: the slices are valid for their lengths and none overlaps another.
-    unsafe { call!(av1ts_check_segment(in segment, out out, out lengths, out times)) }
-}
-
-/// The same in an edition: 0 current, 1 draft, any other is number 44. Under draft a unit without
-/// times has 8,589,934,592 for both.
-pub fn check_segment_edition(
-    edition: u64,
-    segment: &[u8],
-    out: &mut [u8],
-    lengths: &mut [usize],
-    times: &mut [u64],
-) -> Segment {
-    // SAFETY: the slices are valid for their lengths and none overlaps another; the C side takes any
-    // edition.
-    unsafe {
-        call!(av1ts_check_segment_edition(edition, in segment, out out, out lengths, out times))
-    }
 }

@@ -35,59 +35,19 @@ pub struct SheetFound {
     pub dts: u64,
 }
 
-extern "C" {
-    fn av1ts_write_sheet(
-        edition: u64,
-        segment: *const u8,
-        len: usize,
-        out: *mut u8,
-        out_len: usize,
-        lengths: *mut usize,
-        lengths_len: usize,
-        times: *mut u64,
-        times_len: usize,
-        sheet: *mut u8,
-        sheet_len: usize,
+c_functions! {
+    /// Checks a segment in an edition, as `check_segment_edition` does, and writes its sheet to the
+    /// front of `sheet`.
+    av1ts_write_sheet as write_sheet(
+        edition: u64, in segment: u8, out out: u8, out lengths: usize, out times: u64, out sheet: u8
     ) -> SheetWritten;
-    fn av1ts_read_sheet(
-        sheet: *const u8,
-        len: usize,
-        streams: *mut u64,
-        streams_len: usize,
-        units: *mut u64,
-        units_len: usize,
-        obus: *mut u64,
-        obus_len: usize,
+
+    /// Writes the numbers of the three sections, without their counts, to the front of each output:
+    /// two a stream, four a unit, four an OBU.
+    av1ts_read_sheet as read_sheet(
+        in sheet: u8, out streams: u64, out units: u64, out obus: u64
     ) -> Sheet;
-    fn av1ts_sheet_unit(sheet: *const u8, len: usize, unit: u64) -> SheetFound;
-}
 
-/// Checks a segment in an edition, as `check_segment_edition` does, and writes its sheet to the
-/// front of `sheet`.
-pub fn write_sheet(
-    edition: u64,
-    segment: &[u8],
-    out: &mut [u8],
-    lengths: &mut [usize],
-    times: &mut [u64],
-    sheet: &mut [u8],
-) -> SheetWritten {
-    // SAFETY: the slices are valid for their lengths and none overlaps another; the C side takes
-    // any edition.
-    unsafe {
-        call!(av1ts_write_sheet(edition, in segment, out out, out lengths, out times, out sheet))
-    }
-}
-
-/// Writes the numbers of the three sections, without their counts, to the front of each output: two
-/// a stream, four a unit, four an OBU.
-pub fn read_sheet(sheet: &[u8], streams: &mut [u64], units: &mut [u64], obus: &mut [u64]) -> Sheet {
-    // SAFETY: the slices are valid for their lengths and none overlaps another.
-    unsafe { call!(av1ts_read_sheet(in sheet, out streams, out units, out obus)) }
-}
-
-/// The unit of a number, from 0.
-pub fn sheet_unit(sheet: &[u8], unit: u64) -> SheetFound {
-    // SAFETY: the slice is valid for its length; the C side takes any number.
-    unsafe { call!(av1ts_sheet_unit(in sheet, unit)) }
+    /// The unit of a number, from 0.
+    av1ts_sheet_unit as sheet_unit(in sheet: u8, unit: u64) -> SheetFound;
 }

@@ -13,19 +13,10 @@ pub struct Step {
     pub next_at: u64,
 }
 
-extern "C" {
-    fn av1ts_walk_start(unit: *const u8, len: usize) -> Step;
-    fn av1ts_walk_step(unit: *const u8, len: usize, at: usize) -> Step;
-}
+c_functions! {
+    /// Number 9, or `next_at` of the first step.
+    av1ts_walk_start as walk_start(in unit: u8) -> Step;
 
-/// Number 9, or `next_at` of the first step.
-pub fn walk_start(unit: &[u8]) -> Step {
-    // SAFETY: the slice is valid for its length.
-    unsafe { call!(av1ts_walk_start(in unit)) }
-}
-
-/// The step at the place `at`, which is any number: one that no walk reaches is no misuse.
-pub fn walk_step(unit: &[u8], at: usize) -> Step {
-    // SAFETY: the slice is valid for its length; the C side takes any place.
-    unsafe { call!(av1ts_walk_step(in unit, at)) }
+    /// The step at the place `at`, which is any number: one that no walk reaches is no misuse.
+    av1ts_walk_step as walk_step(in unit: u8, at: usize) -> Step;
 }

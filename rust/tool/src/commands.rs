@@ -14,10 +14,10 @@ mod sheet;
 mod units;
 
 use crate::args::{Args, Shape};
-use crate::failure::{Done, Failure, fail};
+use crate::failure::{Done, Failure, Verdict, fail};
 use crate::library::Refused;
 use crate::refusals;
-use crate::screen::Screen;
+use crate::screen::{Screen, say};
 
 /// A command: how it is called and what it does.
 pub struct Command {
@@ -80,6 +80,23 @@ pub fn refused(name: &str, refused: Refused, at: &str) -> String {
         refused.number,
         refusals::name(refused.number)
     )
+}
+
+/// Says a refusal on standard error.
+pub fn refuse(name: &str, why: Refused, at: &str) -> Done {
+    say(&refused(name, why, at));
+    Ok(Verdict::Refused)
+}
+
+/// Prints a text, or says why there is none.
+pub fn print(screen: &mut Screen, name: &str, text: Result<String, Refused>) -> Done {
+    match text {
+        Ok(text) => {
+            screen.text(&text)?;
+            Ok(Verdict::Accepted)
+        }
+        Err(why) => refuse(name, why, ""),
+    }
 }
 
 /// The bytes of a command that takes a file, or with --hex the digits on the command line.

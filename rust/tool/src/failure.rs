@@ -14,7 +14,11 @@ pub enum Verdict {
 impl Verdict {
     /// Of a number of the library, of which 0 is no refusal.
     pub fn of(number: u64) -> Verdict {
-        if number == 0 {
+        Verdict::accepted_if(number == 0)
+    }
+
+    pub fn accepted_if(fine: bool) -> Verdict {
+        if fine {
             Verdict::Accepted
         } else {
             Verdict::Refused

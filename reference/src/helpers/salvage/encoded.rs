@@ -1,5 +1,7 @@
 //! Access units as encoders wrote them, each OBU in hexadecimal digits.
 
+use crate::kit::from_hex;
+
 /// Of two pictures of 256 by 128 in four tiles (libaom), of ten of 64 by 64 with hidden frames and
 /// frames that are shown again (SVT-AV1), and of a test picture of 64 by 48 (libaom).
 const UNITS: &[&[&str]] = &[
@@ -30,16 +32,10 @@ const UNITS: &[&[&str]] = &[
     ],
 ];
 
-fn bytes(digits: &str) -> Vec<u8> {
-    (0..digits.len() / 2)
-        .map(|at| u8::from_str_radix(&digits[2 * at..2 * at + 2], 16).expect("two digits"))
-        .collect()
-}
-
 /// The units, each a list of OBUs.
 pub fn units() -> Vec<Vec<Vec<u8>>> {
     UNITS
         .iter()
-        .map(|unit| unit.iter().map(|obu| bytes(obu)).collect())
+        .map(|unit| unit.iter().map(|obu| from_hex(obu)).collect())
         .collect()
 }

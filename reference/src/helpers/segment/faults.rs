@@ -50,28 +50,28 @@ impl Base {
 }
 
 // The places of the base's packets.
-pub const NULL_FIRST: usize = 0;
-pub const UNLISTED_FIRST: usize = 1;
+const NULL_FIRST: usize = 0;
+const UNLISTED_FIRST: usize = 1;
 pub const PAT: usize = 2;
-pub const MAP_ALONE: usize = 4;
+const MAP_ALONE: usize = 4;
 pub const PMT: usize = 5;
 pub const PCR: usize = 6;
-pub const START_0: usize = 7;
-pub const LATER_0: usize = 8;
-pub const OTHER_1: usize = 9;
-pub const LATER_0B: usize = 10;
-pub const PAT_AGAIN: usize = 11;
-pub const START_1: usize = 12;
-pub const NULL_1: usize = 13;
+const START_0: usize = 7;
+const LATER_0: usize = 8;
+const OTHER_1: usize = 9;
+const LATER_0B: usize = 10;
+const PAT_AGAIN: usize = 11;
+const START_1: usize = 12;
+const NULL_1: usize = 13;
 pub const PMT_AGAIN: usize = 14;
-pub const OTHER_2: usize = 15;
-pub const START_2: usize = 16;
-pub const UNLISTED_2: usize = 17;
-pub const LATER_2: usize = 18;
-pub const AV1_ALONE: usize = 19;
-pub const OTHER_3: usize = 20;
-pub const MAP_LAST: usize = 21;
-pub const COUNT: usize = 22;
+const OTHER_2: usize = 15;
+const START_2: usize = 16;
+const UNLISTED_2: usize = 17;
+const LATER_2: usize = 18;
+const AV1_ALONE: usize = 19;
+const OTHER_3: usize = 20;
+const MAP_LAST: usize = 21;
+const COUNT: usize = 22;
 
 /// Three units, the first over three packets, the second in one and the third over two.
 pub fn base() -> Base {
@@ -142,6 +142,49 @@ pub struct Fault {
     pub moment: usize,
     pub apply: Rc<dyn Fn(&mut Base)>,
 }
+
+/// Bits of the header of a PES that are turned over: the condition, the byte, and the bits.
+const START: &[(&str, usize, u8)] = &[
+    ("29: prefix", 0, 0x01),
+    ("29: prefix", 1, 0x80),
+    ("29: prefix", 2, 0x01),
+    ("29: prefix", 2, 0x02),
+    ("29: stream_id", 3, 0x01),
+    ("29: stream_id", 3, 0x5D),
+    ("29: the bits 10", 6, 0x80),
+    ("29: the bits 10", 6, 0x40),
+    ("29: the bits 10", 6, 0xC0),
+    ("29: scrambling", 6, 0x10),
+    ("29: scrambling", 6, 0x20),
+    ("29: scrambling", 6, 0x30),
+    ("29: no data_alignment", 6, 0x04),
+    ("29: PTS prefix", 9, 0x10),
+    ("29: PTS prefix", 9, 0x20),
+    ("29: PTS prefix", 9, 0x80),
+    ("29: PTS marker bits", 9, 0x01),
+    ("29: PTS marker bits", 11, 0x01),
+    ("29: PTS marker bits", 13, 0x01),
+];
+
+/// Changes of the unit, which is 00 00 01 12 00 00 00 01 30 AA AA .., by their places in it; of the
+/// one without changes there are 65 OBUs.
+const UNIT: &[(&str, &[(usize, u8)])] = &[
+    ("9: no start code at the head", &[(2, 2)]),
+    ("9: no start code at the head", &[(0, 1)]),
+    ("1: more than 64 OBUs", &[]),
+    ("3: no bytes", &[(3, 0), (4, 0), (5, 1), (6, 0x12)]),
+    ("10: 00 00 00", &[(10, 0), (11, 0), (12, 0)]),
+    ("10: 00 00 02", &[(10, 0), (11, 0), (12, 2)]),
+    ("10: 00 00 03 then above 3", &[(10, 0), (11, 0), (12, 3)]),
+    ("4: forbidden bit", &[(3, 0x92)]),
+    ("5: size above what remains", &[(4, 1)]),
+    ("5: delimiter with content", &[(3, 0x10)]),
+    ("6: tile list", &[(3, 0x42)]),
+    ("7: after a frame", &[(3, 0x32)]),
+    // AA is content whose fifth bit is 1.
+    ("42: reduced_still_picture_header", &[(8, 0x08)]),
+    ("7: ends before the frame", &[(8, 0x28)]),
+];
 
 /// Faults as they are collected.
 #[derive(Default)]
@@ -260,17 +303,9 @@ impl Faults {
         });
     }
 
-    /// What every packet with payload of PID 0 or the map PID must have. A later section that is
-    /// changed is not equal.
+    /// What every packet with payload of PID 0 or the map PID must have.
     pub fn sections(&mut self, number: u64, at: usize, later: bool) {
         let name = |text: &str| format!("{number}: {text}");
-        let content = |text: &str| {
-            name(if later {
-                "later section not equal"
-            } else {
-                text
-            })
-        };
         self.add(&name("no payload start"), at, move |base| {
             base.packets[at].start = false;
         });
@@ -296,6 +331,19 @@ impl Faults {
                 base.packets[at].patches.push((end.min(187), 0x7F));
             }
         });
+        self.contents(number, at, later);
+    }
+
+    /// What every section must have. A later one that is changed is not equal.
+    fn contents(&mut self, number: u64, at: usize, later: bool) {
+        let name = |text: &str| format!("{number}: {text}");
+        let content = |text: &str| {
+            name(if later {
+                "later section not equal"
+            } else {
+                text
+            })
+        };
         self.section(&content("another table"), at, |section| {
             section.body[0] ^= 1;
         });
@@ -421,22 +469,24 @@ impl Faults {
         self.pmt_of("26: an entry on the map PID", PMT, |entries| {
             entries[0].pid = MAP;
         });
-        let many = "27: more than 12 entries";
-        self.pmt_of(many, PMT, |entries| more_entries(entries, 13));
-        self.pmt_of(many, PMT, |entries| more_entries(entries, 15));
-        // 13 entries, none of AV1.
-        self.pmt_of(many, PMT, |entries| {
-            more_entries(entries, 13);
-            entries[1].stream_type = 0x1B;
+        self.pmt_of_many();
+        self.av1_entry();
+        self.later_pmt();
+    }
+
+    /// A later PMT that is not equal.
+    fn later_pmt(&mut self) {
+        let later = "26: later section not equal";
+        self.pmt_of(later, PMT_AGAIN, |entries| {
+            entries.pop();
         });
-        // A thirteenth that is not whole.
-        self.section(many, PMT, |section| {
-            let mut entries = entries();
-            more_entries(&mut entries, 12);
-            section.body = pmt_body(&entries);
-            section.body.push(0x0F);
-            section.set_length();
-        });
+        self.pmt_of(later, PMT_AGAIN, |entries| more_entries(entries, 13));
+        self.pmt_of(later, PMT_AGAIN, |entries| entries.clear());
+        self.pmt_of(later, PMT_AGAIN, |entries| entries[1].stream_type = 7);
+    }
+
+    /// 28: the AV1 entry and its descriptors.
+    fn av1_entry(&mut self) {
         let none = "28: no AV1 entry";
         self.pmt_of(none, PMT, |entries| entries[1].descriptors.clear());
         self.pmt_of(none, PMT, |entries| entries.clear());
@@ -484,38 +534,31 @@ impl Faults {
             entries[1].descriptors.push(0);
             entries[1].descriptors[7] = 5;
         });
-        let later = "26: later section not equal";
-        self.pmt_of(later, PMT_AGAIN, |entries| {
-            entries.pop();
+    }
+
+    /// 27: more than twelve entries.
+    fn pmt_of_many(&mut self) {
+        let many = "27: more than 12 entries";
+        self.pmt_of(many, PMT, |entries| more_entries(entries, 13));
+        self.pmt_of(many, PMT, |entries| more_entries(entries, 15));
+        // 13 entries, none of AV1.
+        self.pmt_of(many, PMT, |entries| {
+            more_entries(entries, 13);
+            entries[1].stream_type = 0x1B;
         });
-        self.pmt_of(later, PMT_AGAIN, |entries| more_entries(entries, 13));
-        self.pmt_of(later, PMT_AGAIN, |entries| entries.clear());
-        self.pmt_of(later, PMT_AGAIN, |entries| entries[1].stream_type = 7);
+        // A thirteenth that is not whole.
+        self.section(many, PMT, |section| {
+            let mut entries = entries();
+            more_entries(&mut entries, 12);
+            section.body = pmt_body(&entries);
+            section.body.push(0x0F);
+            section.set_length();
+        });
     }
 
     /// 29, 30 and 8 of a packet that starts a PES.
     pub fn start(&mut self, at: usize, with_dts: bool) {
-        for (condition, byte, mask) in [
-            ("29: prefix", 0, 0x01),
-            ("29: prefix", 1, 0x80),
-            ("29: prefix", 2, 0x01),
-            ("29: prefix", 2, 0x02),
-            ("29: stream_id", 3, 0x01),
-            ("29: stream_id", 3, 0x5D),
-            ("29: the bits 10", 6, 0x80),
-            ("29: the bits 10", 6, 0x40),
-            ("29: the bits 10", 6, 0xC0),
-            ("29: scrambling", 6, 0x10),
-            ("29: scrambling", 6, 0x20),
-            ("29: scrambling", 6, 0x30),
-            ("29: no data_alignment", 6, 0x04),
-            ("29: PTS prefix", 9, 0x10),
-            ("29: PTS prefix", 9, 0x20),
-            ("29: PTS prefix", 9, 0x80),
-            ("29: PTS marker bits", 9, 0x01),
-            ("29: PTS marker bits", 11, 0x01),
-            ("29: PTS marker bits", 13, 0x01),
-        ] {
+        for &(condition, byte, mask) in START {
             self.header(condition, at, move |bytes| bytes[byte] ^= mask);
         }
         if with_dts {
@@ -613,24 +656,7 @@ impl Faults {
                 }
             });
         }
-        // The unit is 00 00 01 12 00 00 00 01 30 AA AA ...
-        for (condition, changes) in [
-            ("9: no start code at the head", &[(2, 2)][..]),
-            ("9: no start code at the head", &[(0, 1)]),
-            ("1: more than 64 OBUs", &[]),
-            ("3: no bytes", &[(3, 0), (4, 0), (5, 1), (6, 0x12)]),
-            ("10: 00 00 00", &[(10, 0), (11, 0), (12, 0)]),
-            ("10: 00 00 02", &[(10, 0), (11, 0), (12, 2)]),
-            ("10: 00 00 03 then above 3", &[(10, 0), (11, 0), (12, 3)]),
-            ("4: forbidden bit", &[(3, 0x92)]),
-            ("5: size above what remains", &[(4, 1)]),
-            ("5: delimiter with content", &[(3, 0x10)]),
-            ("6: tile list", &[(3, 0x42)]),
-            ("7: after a frame", &[(3, 0x32)]),
-            // AA is content whose fifth bit is 1.
-            ("42: reduced_still_picture_header", &[(8, 0x08)]),
-            ("7: ends before the frame", &[(8, 0x28)]),
-        ] {
+        for &(condition, changes) in UNIT {
             if changes.is_empty() && began != START_0 {
                 // The others are too short for so many.
                 continue;
@@ -719,6 +745,35 @@ fn counter_of(base: &Base, at: usize) -> u8 {
     bytes[at * SIZE + 3] & 0x0F
 }
 
+/// 24 of every kind of PID, with payload and without.
+fn counters(faults: &mut Faults) {
+    faults.counter("24: PID 0, without payload", PAT + 1);
+    faults.counter("24: PID 0, with payload", PAT_AGAIN);
+    faults.counter("24: map PID, with payload", PMT);
+    // With 15 more it would be a copy of the first PMT.
+    faults.counter_by("24: map PID, with payload", PMT_AGAIN, [1, 2, 14]);
+    faults.counter("24: map PID, without payload", MAP_LAST);
+    faults.counter("24: AV1 PID, with payload", START_0);
+    faults.counter("24: AV1 PID, with payload", LATER_0);
+    faults.counter("24: AV1 PID, with payload", START_1);
+    faults.counter("24: AV1 PID, with payload", START_2);
+    faults.counter("24: AV1 PID, without payload", AV1_ALONE);
+    faults.counter("24: other listed PID, without payload", OTHER_2);
+    faults.counter("24: other listed PID, with payload", OTHER_3);
+}
+
+/// 8 at each packet that adds bytes to a unit.
+fn rooms(faults: &mut Faults) {
+    let first = [184 - 14, 184, 409 + 14 - 368];
+    let whole: usize = first.iter().sum();
+    faults.rooms(START_0, Some(0), first[0] - 1);
+    faults.rooms(LATER_0, None, first[0] + first[1] - 1);
+    faults.rooms(LATER_0B, None, whole - 1);
+    faults.rooms(START_1, Some(1), whole + 69 - 1);
+    faults.rooms(START_2, Some(2), whole + 69 + 170 - 1);
+    faults.rooms(LATER_2, None, whole + 69 + 209 - 1);
+}
+
 /// All faults of the base.
 pub fn all() -> Vec<Fault> {
     let mut faults = Faults::default();
@@ -746,19 +801,7 @@ pub fn all() -> Vec<Fault> {
     ] {
         faults.packet(at);
     }
-    faults.counter("24: PID 0, without payload", PAT + 1);
-    faults.counter("24: PID 0, with payload", PAT_AGAIN);
-    faults.counter("24: map PID, with payload", PMT);
-    // With 15 more it would be a copy of the first PMT.
-    faults.counter_by("24: map PID, with payload", PMT_AGAIN, [1, 2, 14]);
-    faults.counter("24: map PID, without payload", MAP_LAST);
-    faults.counter("24: AV1 PID, with payload", START_0);
-    faults.counter("24: AV1 PID, with payload", LATER_0);
-    faults.counter("24: AV1 PID, with payload", START_1);
-    faults.counter("24: AV1 PID, with payload", START_2);
-    faults.counter("24: AV1 PID, without payload", AV1_ALONE);
-    faults.counter("24: other listed PID, without payload", OTHER_2);
-    faults.counter("24: other listed PID, with payload", OTHER_3);
+    counters(&mut faults);
     faults.pat();
     faults.pmt();
     faults.start(START_0, false);
@@ -773,14 +816,7 @@ pub fn all() -> Vec<Fault> {
     faults.add("31: no PCR yet", START_0, |base| {
         base.packets[PCR].pid = UNLISTED
     });
-    let first = [184 - 14, 184, 409 + 14 - 368];
-    let whole: usize = first.iter().sum();
-    faults.rooms(START_0, Some(0), first[0] - 1);
-    faults.rooms(LATER_0, None, first[0] + first[1] - 1);
-    faults.rooms(LATER_0B, None, whole - 1);
-    faults.rooms(START_1, Some(1), whole + 69 - 1);
-    faults.rooms(START_2, Some(2), whole + 69 + 170 - 1);
-    faults.rooms(LATER_2, None, whole + 69 + 209 - 1);
+    rooms(&mut faults);
     faults.closing(START_0, START_1);
     faults.closing(START_1, START_2);
     faults.closing(START_2, COUNT);

@@ -37,6 +37,7 @@ pub const FEATURES: &[&str] = &[
     "PCR PID is the map PID",
     "PCR PID is 1FFF",
     "PES in one packet",
+    "PES in a few packets",
     "PES over many packets",
     "stuffing of one byte",
     "stuffing of several bytes",
@@ -92,6 +93,21 @@ struct Maker<'a> {
     clock: u64,
 }
 
+/// So many PIDs that are all different, and none the map's.
+fn any_pids(random: &mut Random, map_pid: u16, streams: usize) -> Vec<u16> {
+    let mut pids = Vec::new();
+    while pids.len() < streams {
+        let pid = match random.below(6) {
+            0 => 1 + random.below(15) as u16,
+            _ => 1 + random.below(0x1FFE) as u16,
+        };
+        if pid != map_pid && !pids.contains(&pid) {
+            pids.push(pid);
+        }
+    }
+    pids
+}
+
 /// Makes a segment of at most so many units, each of at most about so many bytes.
 pub fn make(random: &mut Random, most_units: usize, longest: usize) -> Made {
     let map_pid = match random.below(8) {
@@ -104,16 +120,7 @@ pub fn make(random: &mut Random, most_units: usize, longest: usize) -> Made {
         1 => 12,
         _ => 1 + random.below(12),
     };
-    let mut pids = Vec::new();
-    while pids.len() < streams {
-        let pid = match random.below(6) {
-            0 => 1 + random.below(15) as u16,
-            _ => 1 + random.below(0x1FFE) as u16,
-        };
-        if pid != map_pid && !pids.contains(&pid) {
-            pids.push(pid);
-        }
-    }
+    let pids = any_pids(random, map_pid, streams);
     let av1_pid = random.pick(&pids);
     let unit_count = match random.below(6) {
         0 => 0,
@@ -144,37 +151,40 @@ pub fn make(random: &mut Random, most_units: usize, longest: usize) -> Made {
     maker.write_pmt(program);
     maker.clock = maker.random.next() >> 32;
     maker.go(unit_count, longest);
-
-    let mut features = maker.features;
-    features.push(match streams {
-        1 => "1 stream",
-        12 => "12 streams",
-        _ => "2 to 11 streams",
-    });
-    features.push(match unit_count {
-        0 => "no unit",
-        1 => "one unit",
-        _ => "several units",
-    });
-    features.sort_unstable();
-    features.dedup();
-    Made {
-        packets: maker.packets,
-        accepted: Accepted {
-            comparison: comparison::compare(maker.video.as_ref(), &maker.units),
-            program,
-            pid: maker.av1_pid,
-            units: maker.units,
-            totals: maker.totals,
-        },
-        listing: maker.listing,
-        map_pid,
-        pids: maker.pids,
-        features,
-    }
+    maker.made(program)
 }
 
 impl Maker<'_> {
+    /// What was made.
+    fn made(mut self, program: u16) -> Made {
+        self.has(match self.pids.len() {
+            1 => "1 stream",
+            12 => "12 streams",
+            _ => "2 to 11 streams",
+        });
+        self.has(match self.units.len() {
+            0 => "no unit",
+            1 => "one unit",
+            _ => "several units",
+        });
+        self.features.sort_unstable();
+        self.features.dedup();
+        Made {
+            packets: self.packets,
+            accepted: Accepted {
+                comparison: comparison::compare(self.video.as_ref(), &self.units),
+                program,
+                pid: self.av1_pid,
+                units: self.units,
+                totals: self.totals,
+            },
+            listing: self.listing,
+            map_pid: self.map_pid,
+            pids: self.pids,
+            features: self.features,
+        }
+    }
+
     fn has(&mut self, feature: &'static str) {
         self.features.push(feature);
     }
@@ -575,7 +585,8 @@ impl Maker<'_> {
         self.put(packet);
     }
 
-    fn put_unit(&mut self, longest: usize, with_pcr: bool) {
+    /// A PES of any unit, which is noted.
+    fn any_pes(&mut self, longest: usize) -> Pes {
         let most = 1 + self.random.below(5);
         let list = any_list(self.random, most.max(2), longest);
         let unit = carry_closed(self.random, &list);
@@ -607,7 +618,11 @@ impl Maker<'_> {
             pts,
             dts: dts.unwrap_or(pts),
         });
+        pes
+    }
 
+    fn put_unit(&mut self, longest: usize, with_pcr: bool) {
+        let pes = self.any_pes(longest);
         let bytes = pes.bytes();
         let mut rest = &bytes[..];
         let mut count = 0;

@@ -1,5 +1,6 @@
 //! What the segments of the suites have in common: their PIDs, their PAT and PMT, a PCR, and a unit.
 
+pub use crate::helpers::descriptor::EXAMPLE as VIDEO;
 use reference::compose::{self, Entry, Packet};
 
 pub const PROGRAM: u16 = 0x0203;
@@ -8,9 +9,6 @@ pub const AV1: u16 = 0x0101;
 pub const OTHER: u16 = 0x0102;
 pub const SECOND: u16 = 0x0103;
 pub const UNLISTED: u16 = 0x0300;
-
-/// A video descriptor that is right.
-pub const VIDEO: [u8; 6] = [0x80, 0x04, 0x81, 0x08, 0x0C, 0xC0];
 
 /// The entries of the base's PMT.
 pub fn entries() -> Vec<Entry> {

@@ -8,26 +8,28 @@ use reference::descriptor::CONDITIONS_40;
 
 pub const SUITE: Definition = Definition {
     name: "descriptor-read",
-    labels: || {
-        let mut list = labels(CONDITIONS_40);
-        list.extend(labels(&[
-            "read: with delay",
-            "read: without delay",
-            "read, then written: the same",
-            "read, then written: not the same",
-            "01's example",
-            "no bytes",
-            "one byte short",
-            "one byte more",
-        ]));
-        list
-    },
+    labels: || labels(&[CONDITIONS_40, LABELS].concat()),
     run,
 };
+
+const LABELS: &[&str] = &[
+    "read: with delay",
+    "read: without delay",
+    "read, then written: the same",
+    "read, then written: not the same",
+    "01's example",
+    "no bytes",
+    "one byte short",
+    "one byte more",
+];
+
+/// A descriptor with a delay.
+const WITH_DELAY: [u8; 6] = [0x80, 0x04, 0x81, 0xBF, 0xF3, 0x9A];
 
 fn run(suite: &mut Suite) {
     let mut caller = Caller::default();
     let mut random = Random::new(20);
+    // 01's example, with its fields.
     caller.read(suite, &EXAMPLE, &["01's example"]);
     let read = under_test::read_descriptor(&EXAMPLE);
     let fixed = read.number == 0
@@ -38,8 +40,7 @@ fn run(suite: &mut Suite) {
     });
 
     // All values of every two bytes, around descriptors with and without a delay.
-    let with_delay = [0x80, 0x04, 0x81, 0xBF, 0xF3, 0x9A];
-    for base in [EXAMPLE, with_delay] {
+    for base in [EXAMPLE, WITH_DELAY] {
         for first in 0..6 {
             for second in first + 1..6 {
                 for value in 0..=u16::MAX {
@@ -70,8 +71,12 @@ fn run(suite: &mut Suite) {
         caller.read(suite, &bytes[..6], &[]);
     }
 
-    // All lengths up to 300, cut from and added to descriptors that are right.
-    for base in [EXAMPLE, with_delay] {
+    lengths(suite, &mut caller);
+}
+
+/// All lengths up to 300, cut from and added to descriptors that are right.
+fn lengths(suite: &mut Suite, caller: &mut Caller) {
+    for base in [EXAMPLE, WITH_DELAY] {
         for length in (0..300).chain([1000, 65_542, 100_000]) {
             let label = match length {
                 0 => "no bytes",

@@ -7,25 +7,23 @@ use reference::descriptor::CONDITIONS_40;
 
 pub const SUITE: Definition = Definition {
     name: "descriptor-rewrite",
-    labels: || {
-        let mut list = labels(CONDITIONS_40);
-        list.extend(labels(&[
-            "one field swept",
-            "the last two bytes",
-            "rewritten: a delay dropped",
-            "rewritten: no delay",
-            "rewritten, then read",
-            "40 before 8",
-            "8: no room",
-            "8: several bytes short",
-            "8: one byte short",
-            "room exactly enough",
-            "room more than enough",
-        ]));
-        list
-    },
+    labels: || labels(&[CONDITIONS_40, LABELS].concat()),
     run,
 };
+
+const LABELS: &[&str] = &[
+    "one field swept",
+    "the last two bytes",
+    "rewritten: a delay dropped",
+    "rewritten: no delay",
+    "rewritten, then read",
+    "40 before 8",
+    "8: no room",
+    "8: several bytes short",
+    "8: one byte short",
+    "room exactly enough",
+    "room more than enough",
+];
 
 /// The bits of each field behind tag and length: marker, version, the ten fields, the reserved bit,
 /// whether a delay is present, and the low four bits.

@@ -2,7 +2,7 @@
 //! by each figure, rooms.
 
 use crate::helpers::mastering::{Caller, DISPLAYS};
-use crate::helpers::payload::ROOMS;
+use crate::helpers::payload::{ROOMS, written};
 use crate::kit::{Definition, Random, Suite, hex, labels};
 use reference::mastering::{FIGURES, WRITTEN, nearest};
 
@@ -132,12 +132,13 @@ fn run(suite: &mut Suite) {
 
     for display in &DISPLAYS {
         let mut out = [0; WRITTEN];
-        let got = av1ts::mastering::write_mastering(&display.values, &mut out);
-        let passed = (got.number, got.count) == (0, WRITTEN as u64) && out == display.content;
+        let values = display.values();
+        let got = av1ts::mastering::write_mastering(&values, &mut out);
+        let passed = got == written(WRITTEN) && out[..] == display.content();
         suite.case(&["a known display"], passed, || {
             format!("{}: {got:?} {}", display.name, hex(&out))
         });
-        caller.write(suite, &display.values, WRITTEN, &["a known display"]);
+        caller.write(suite, &values, WRITTEN, &["a known display"]);
     }
     chromaticities(suite, &mut caller);
     luminances(suite, &mut caller);

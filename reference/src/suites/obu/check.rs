@@ -8,18 +8,16 @@ use std::collections::HashMap;
 
 pub const SUITE: Definition = Definition {
     name: "obu",
-    labels: || {
-        let mut list = labels(CONDITIONS);
-        list.extend(labels(&[
-            "accepted",
-            "accepted: shown again",
-            "put together",
-            "worked",
-        ]));
-        list
-    },
+    labels: || labels(&[CONDITIONS, LABELS].concat()),
     run,
 };
+
+const LABELS: &[&str] = &[
+    "accepted",
+    "accepted: shown again",
+    "put together",
+    "worked",
+];
 
 /// Every OBU of `len` bytes that can be put together with header, extension and content bytes of
 /// the alphabet, and what it was put together from: its kind and the width of its size.

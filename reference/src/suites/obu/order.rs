@@ -8,13 +8,11 @@ use reference::order;
 
 pub const SUITE: Definition = Definition {
     name: "order",
-    labels: || {
-        let mut list = labels(order::CONDITIONS);
-        list.extend(labels(&["legal", "worked"]));
-        list
-    },
+    labels: || labels(&[order::CONDITIONS, LABELS].concat()),
     run,
 };
+
+const LABELS: &[&str] = &["legal", "worked"];
 
 const LONGEST: usize = 5;
 

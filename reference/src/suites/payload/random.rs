@@ -6,17 +6,11 @@ use reference::payload::{self, ESCAPE_LIMIT, UNESCAPE_LIMIT};
 
 pub const SUITE: Definition = Definition {
     name: "payload-random",
-    labels: || {
-        let mut list = labels(&[COMMON, ROOMS].concat());
-        list.extend(labels(&[
-            "full size",
-            "spoilt payload",
-            "random bytes as payload",
-        ]));
-        list
-    },
+    labels: || labels(&[COMMON, ROOMS, LABELS].concat()),
     run,
 };
+
+const LABELS: &[&str] = &["full size", "spoilt payload", "random bytes as payload"];
 
 /// Bytes of one of several makes, from even ones to zeros alone.
 fn bytes(random: &mut Random, len: usize) -> Vec<u8> {

@@ -100,10 +100,7 @@ fn run(suite: &mut Suite) {
         let passed = got.number == 10
             && got.place == place
             && out == [0xEE; 16]
-            && second.map_or_else(
-                |refusal| refusal.number == 10 && refusal.place == place,
-                |_| false,
-            );
+            && matches!(second, Err(refusal) if (refusal.number, refusal.place) == (10, place));
         suite.case(&["worked: unescape refused"], passed, || hex(payload));
         caller.unescape(suite, payload, payload.len(), &[]);
         caller.unescape(suite, payload, 0, &[]);

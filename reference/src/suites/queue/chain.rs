@@ -2,7 +2,7 @@
 //! are one segment.
 
 use crate::helpers::queue::{Session, VIDEO, any_channel, any_unit, carried};
-use crate::helpers::segment::wide;
+use crate::helpers::segment::{refused_by, wide};
 use crate::kit::{Definition, Random, Suite, labels};
 use av1ts::queue::Channel;
 use reference::packet::SIZE;
@@ -69,10 +69,20 @@ fn chain(suite: &mut Suite, random: &mut Random, sends: usize) {
         };
     }
     session.accepted(suite, &first, &bytes, &units, &labels);
+    that_does_not_go_on(suite, random, &mut session, &first, &channel, bytes);
+}
 
-    // One more send that does not continue: refused at its first packets, or where it differs.
+/// One more send that does not continue: refused at its first packets, or where it differs.
+fn that_does_not_go_on(
+    suite: &mut Suite,
+    random: &mut Random,
+    session: &mut Session,
+    first: &Channel,
+    channel: &Channel,
+    mut bytes: Vec<u8>,
+) {
     let unit = any_unit(random, 30);
-    let mut other = channel;
+    let mut other = *channel;
     let mut video = VIDEO;
     let (label, number) = match random.below(3) {
         0 => {
@@ -95,13 +105,11 @@ fn chain(suite: &mut Suite, random: &mut Random, sends: usize) {
     let sent = session.send(suite, &other, &video, 100 * SIZE, &[]);
     bytes.extend(sent.expect("it can be sent").bytes);
     let rooms = wide(&bytes);
-    session.check.check_as(
-        suite,
-        &bytes,
-        rooms,
-        &[label],
-        |verdict| matches!(verdict, Err(refusal) if refusal.number == number),
-    );
+    session
+        .check
+        .check_as(suite, &bytes, rooms, &[label], |verdict| {
+            refused_by(verdict, number)
+        });
 }
 
 fn run(suite: &mut Suite) {

@@ -109,7 +109,27 @@ fn bytes_of(units: usize) -> usize {
 
 fn run(suite: &mut Suite) {
     let mut random = Random::new(502);
-    // Every condition, into queues of every number of units, with a store that has room or none.
+    conditions(suite);
+    rooms(suite);
+    // Any units, damaged or not, into stores that may be short.
+    for _ in 0..4000 {
+        let mut session = Session::new(random.below(200));
+        for _ in 0..10 {
+            let mut unit = any_unit(&mut random, 12);
+            if random.one_in(2) {
+                let at = random.below(unit.bytes.len());
+                unit.bytes[at] = random.pick(&[0, 1, 2, 3, 0x30, 0x12, 0xFF]);
+            }
+            if random.one_in(16) {
+                unit.pts += MOST_TIME;
+            }
+            session.add(suite, &unit, &[]);
+        }
+    }
+}
+
+/// Every condition, into queues of every number of units, with a store that has room or none.
+fn conditions(suite: &mut Suite) {
     for units in [0, 1, 7, 8] {
         let roomy = bytes_of(units) + 1_600_000;
         for (room, short) in [(roomy, false), (bytes_of(units), true)] {
@@ -151,8 +171,10 @@ fn run(suite: &mut Suite) {
             session.add(suite, &right, labels);
         }
     }
+}
 
-    // Rooms around the boundary, for units of several lengths.
+/// Rooms around the boundary, for units of several lengths.
+fn rooms(suite: &mut Suite) {
     for units in 0..8 {
         for length in [4, 5, 11, 200] {
             let need = bytes_of(units) + length;
@@ -169,22 +191,6 @@ fn run(suite: &mut Suite) {
                 session.drop_oldest(suite, &[]);
                 session.add(suite, &queued(plain(length)), &[]);
             }
-        }
-    }
-
-    // Any units, damaged or not, into stores that may be short.
-    for _ in 0..4000 {
-        let mut session = Session::new(random.below(200));
-        for _ in 0..10 {
-            let mut unit = any_unit(&mut random, 12);
-            if random.one_in(2) {
-                let at = random.below(unit.bytes.len());
-                unit.bytes[at] = random.pick(&[0, 1, 2, 3, 0x30, 0x12, 0xFF]);
-            }
-            if random.one_in(16) {
-                unit.pts += MOST_TIME;
-            }
-            session.add(suite, &unit, &[]);
         }
     }
 }

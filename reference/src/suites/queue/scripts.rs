@@ -5,7 +5,7 @@ use crate::helpers::queue::{
 };
 use crate::kit::{Definition, Random, Suite, labels};
 use reference::queue::{
-    DTS_TOO_LONG, FULL, MOST_QUEUED, MOST_TIME, NOT_ACCEPTED, PTS_TOO_LONG, STORE_TOO_SHORT,
+    DTS_TOO_LONG, FULL, MOST_QUEUED, MOST_TIME, NOT_ACCEPTED, PTS_TOO_LONG, Queued, STORE_TOO_SHORT,
 };
 use reference::refusal::OUTPUT_TOO_SHORT;
 
@@ -49,6 +49,34 @@ enum Freed {
     Clear,
 }
 
+impl Freed {
+    /// The label of a unit that takes that room, where so many bytes are still queued.
+    fn label(self, queued: usize) -> &'static str {
+        match self {
+            Freed::Nothing => "room not used",
+            Freed::Drop if queued > 0 => "a drop between adds",
+            Freed::Drop => "room used again after a drop",
+            Freed::Send => "room used again after a send",
+            Freed::Clear => "room used again after clear",
+        }
+    }
+}
+
+/// A unit that is right, or wrong in some way, or as long as what is left of the store.
+fn right_or_wrong(random: &mut Random, longest: usize, left: usize) -> Queued {
+    let mut unit = any_unit(random, longest);
+    match random.below(24) {
+        0 => unit.pts = MOST_TIME + 1 + any_time(random),
+        1 => unit.dts = MOST_TIME + 1 + any_time(random),
+        2 => unit.bytes.push(0x01),
+        3 => unit.bytes.truncate(3),
+        4 if left >= 4 => unit.bytes = plain(left),
+        5 if left >= 4 => unit.bytes = plain(left + 1),
+        _ => {}
+    }
+    unit
+}
+
 fn one(suite: &mut Suite, random: &mut Random, room: usize, longest: usize, steps: usize) {
     let mut session = Session::new(room);
     let mut freed = Freed::Nothing;
@@ -57,50 +85,30 @@ fn one(suite: &mut Suite, random: &mut Random, room: usize, longest: usize, step
     for _ in 0..steps {
         match random.below(16) {
             0..=8 => {
-                let mut unit = any_unit(random, longest);
-                let left = room - session.total();
-                match random.below(24) {
-                    0 => unit.pts = MOST_TIME + 1 + any_time(random),
-                    1 => unit.dts = MOST_TIME + 1 + any_time(random),
-                    2 => unit.bytes.push(0x01),
-                    3 => unit.bytes.truncate(3),
-                    4 if left >= 4 => unit.bytes = plain(left),
-                    5 if left >= 4 => unit.bytes = plain(left + 1),
-                    _ => {}
-                }
+                let unit = right_or_wrong(random, longest, room - session.total());
+                let end = session.total() + unit.bytes.len();
                 let mut labels = Vec::new();
-                let total = session.total();
-                if total + unit.bytes.len() <= reached {
-                    labels.push(match freed {
-                        Freed::Nothing => "room not used",
-                        Freed::Drop if total > 0 => "a drop between adds",
-                        Freed::Drop => "room used again after a drop",
-                        Freed::Send => "room used again after a send",
-                        Freed::Clear => "room used again after clear",
-                    });
+                if end <= reached {
+                    labels.push(freed.label(session.total()));
                 }
-                if total + unit.bytes.len() == room {
+                if end == room {
                     labels.push("the store is exactly full");
                 }
                 session.add(suite, &unit, &labels);
                 reached = reached.max(session.total());
             }
             9..=11 => {
-                let last = session.model.units.len() == 1;
-                let labels: &[&str] = if last {
-                    &["dropping the last one"]
-                } else {
-                    &[]
+                let labels: &[&str] = match session.model.units.len() {
+                    1 => &["dropping the last one"],
+                    _ => &[],
                 };
                 session.drop_oldest(suite, labels);
                 freed = Freed::Drop;
             }
             12 => {
-                let empty = session.model.units.is_empty();
-                let labels: &[&str] = if empty {
-                    &["clearing an empty queue"]
-                } else {
-                    &[]
+                let labels: &[&str] = match session.model.units.len() {
+                    0 => &["clearing an empty queue"],
+                    _ => &[],
                 };
                 session.clear(suite, labels);
                 freed = Freed::Clear;

@@ -143,13 +143,26 @@ fn refusal_of(descriptor: &[u8]) -> Option<String> {
 
 fn run(suite: &mut Suite) {
     let mut random = Random::new(504);
+    not_allowed(suite, &mut random);
+    // What is still allowed.
+    for channel in boundaries() {
+        let mut session = filled(suite, &mut random, 2);
+        session.send_wide(suite, &channel, &["at the boundary"]);
+    }
+
+    descriptors(suite, &mut random);
+    rooms(suite, &mut random);
+}
+
+/// What is not allowed, and two of it.
+fn not_allowed(suite: &mut Suite, random: &mut Random) {
     let right = Given {
         channel: CHANNEL,
         descriptor: VIDEO.to_vec(),
     };
     let changes = changes();
     for units in [0, 1, 8] {
-        let mut session = filled(suite, &mut random, units);
+        let mut session = filled(suite, random, units);
         for (index, change) in changes.iter().enumerate() {
             let mut given = right.clone();
             change(&mut given);
@@ -172,19 +185,17 @@ fn run(suite: &mut Suite) {
         let labels = ["the queue is sent after a refusal"];
         session.send_wide(suite, &CHANNEL, &labels);
     }
-    for channel in boundaries() {
-        let mut session = filled(suite, &mut random, 2);
-        session.send_wide(suite, &channel, &["at the boundary"]);
-    }
+}
 
-    // Every value of every byte of the descriptor, most of them not allowed.
+/// Every value of every byte of the descriptor, most of them not allowed.
+fn descriptors(suite: &mut Suite, random: &mut Random) {
     let mut session = Session::new(1000);
     for at in 0..6 {
         for byte in 0..=255 {
             let mut descriptor = VIDEO;
             descriptor[at] = byte;
             if descriptor::read(&descriptor).is_ok() {
-                session.add(suite, &any_unit(&mut random, 30), &[]);
+                session.add(suite, &any_unit(random, 30), &[]);
             }
             let mut labels = vec!["every descriptor byte changed"];
             if descriptor::read(&descriptor).map_or(false, |video| video.delay.is_some()) {
@@ -195,14 +206,16 @@ fn run(suite: &mut Suite) {
     }
     let mut delayed = VIDEO;
     delayed[5] = 0xD7;
-    session.add(suite, &any_unit(&mut random, 30), &[]);
+    session.add(suite, &any_unit(random, 30), &[]);
     let labels = ["a descriptor with delay, as given"];
     session.send(suite, &CHANNEL, &delayed, 100_000, &labels);
+}
 
-    // Rooms around the need.
+/// Rooms around the need.
+fn rooms(suite: &mut Suite, random: &mut Random) {
     for round in 0..400 {
-        let mut session = filled(suite, &mut random, round % 9);
-        let channel = any_channel(&mut random);
+        let mut session = filled(suite, random, round % 9);
+        let channel = any_channel(random);
         let mut copy = session.model.clone();
         let mut need = 3 * SIZE;
         for unit in copy.units.drain(..) {

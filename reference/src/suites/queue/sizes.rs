@@ -71,6 +71,22 @@ fn priority(suite: &mut Suite, packet: &[u8], place: usize) {
 fn run(suite: &mut Suite) {
     let mut random = Random::new(503);
     let mut session = Session::new(100_000);
+    lengths(suite, &mut session);
+    frames(suite, &mut session);
+    // Several units of any lengths.
+    for _ in 0..1500 {
+        for _ in 0..random.below(9) {
+            let longest = random.pick(&[10, 50, 200, 1000]);
+            let unit = any_unit(&mut random, longest);
+            session.add(suite, &unit, &[]);
+        }
+        let channel = any_channel(&mut random);
+        session.send_wide(suite, &channel, &["several units"]);
+    }
+}
+
+/// Every length up to four packets.
+fn lengths(suite: &mut Suite, session: &mut Session) {
     for length in 4..184 * 4 + 4 {
         for marked in [false, true] {
             for dts in [90_000, 89_000] {
@@ -82,7 +98,7 @@ fn run(suite: &mut Suite) {
                 };
                 let mark = if marked { "marked" } else { "not marked" };
                 let label = format!("{mark}, a PES of {} bytes", pes(&unit).len());
-                let packet = one(suite, &mut session, &unit, &[&label]);
+                let packet = one(suite, session, &unit, &[&label]);
                 if marked {
                     let label = "the mark: random_access_indicator 1";
                     let passed = packet[3] & 0x30 == 0x30 && packet[5] & 0x40 != 0;
@@ -95,8 +111,10 @@ fn run(suite: &mut Suite) {
             }
         }
     }
+}
 
-    // The frame at every place, of every kind; what stands before it looks like frames.
+/// The frame at every place, of every kind; what stands before it looks like frames.
+fn frames(suite: &mut Suite, session: &mut Session) {
     let alike = [0x30, 0x18, 0x00, 0x01, 0x30, 0x1A, 0x32];
     for place in 4..220 {
         let kinds: [(&[u8], &str); 4] = [
@@ -117,31 +135,20 @@ fn run(suite: &mut Suite) {
                     marked: true,
                 };
                 let header = if dts == 5 { 14 } else { 19 };
-                let packet = one(suite, &mut session, &unit, &[label]);
+                let packet = one(suite, session, &unit, &[label]);
                 priority(suite, &packet, header + place);
                 for at in 4..place - 2 {
                     unit.bytes[at] = alike[at % alike.len()];
                 }
                 let labels = [label, "bytes alike before the first frame"];
-                let packet = one(suite, &mut session, &unit, &labels);
+                let packet = one(suite, session, &unit, &labels);
                 priority(suite, &packet, header + place);
                 unit.bytes.resize(unit.bytes.len().max(400), 0x66);
                 if frame[0] == 0x30 {
-                    let packet = one(suite, &mut session, &unit, &labels);
+                    let packet = one(suite, session, &unit, &labels);
                     priority(suite, &packet, header + place);
                 }
             }
         }
-    }
-
-    // Several units of any lengths.
-    for _ in 0..1500 {
-        for _ in 0..random.below(9) {
-            let longest = random.pick(&[10, 50, 200, 1000]);
-            let unit = any_unit(&mut random, longest);
-            session.add(suite, &unit, &[]);
-        }
-        let channel = any_channel(&mut random);
-        session.send_wide(suite, &channel, &["several units"]);
     }
 }

@@ -1,9 +1,9 @@
 //! States that no run reaches: 47 at place 0, and the state is given back as it was.
 
-use crate::helpers::replay::{Caller, Trace, answer, any_rate, any_trace, from_c};
+use crate::helpers::replay::{Caller, Trace, any_rate, any_trace};
 use crate::kit::{Definition, Random, Suite, labels};
 use av1ts::replay::{ReplayState, Replayed};
-use reference::replay::{self, MOST_ARRIVALS, MOST_BYTES, SIZE, drain_at_once, fill_of};
+use reference::replay::{MOST_ARRIVALS, MOST_BYTES, SIZE, drain_at_once, fill_of};
 
 pub const SUITE: Definition = Definition {
     name: "replay-states",
@@ -35,190 +35,135 @@ pub const SUITE: Definition = Definition {
     run,
 };
 
-/// A state that a run came to, and changes that take it to where no run comes.
+/// A state that a run came to, changed in ways that take it to where no run comes.
+struct Changes<'a> {
+    state: &'a ReplayState,
+    list: Vec<(&'static str, ReplayState)>,
+}
+
+impl Changes<'_> {
+    fn add(&mut self, label: &'static str, change: impl FnOnce(&mut ReplayState)) {
+        let mut changed = *self.state;
+        change(&mut changed);
+        self.list.push((label, changed));
+    }
+
+    /// Flags, arrivals and fills; `any` is a number that is not 0.
+    fn of_all(&mut self, any: u64, flag: u64) {
+        let most_fill = fill_of(MOST_BYTES) as u64;
+        self.add("has_last above 1", |state| state.has_last = flag);
+        self.add("has_above above 1", |state| state.has_above = flag);
+        self.add("more than 1,000,000 arrivals", |state| {
+            state.has_last = 1;
+            state.arrivals = MOST_ARRIVALS + any;
+        });
+        let label = "fill above the highest";
+        self.add(label, |state| state.fill = state.highest + 1);
+        self.add(label, |state| state.fill = u64::MAX - any);
+        let label = "highest above what so many arrivals bring";
+        self.add(label, |state| {
+            state.highest = state.arrivals * most_fill + 1
+        });
+        self.add(label, |state| {
+            (state.fill, state.highest) = (u64::MAX, u64::MAX)
+        });
+    }
+
+    /// The last time and the arrivals.
+    fn of_last(&mut self, any: u64) {
+        if self.state.has_last == 1 {
+            self.add("no last time, but arrivals", |state| {
+                (state.has_last, state.last) = (0, 0)
+            });
+            self.add("a last time, but no arrivals", |state| state.arrivals = 0);
+            return;
+        }
+        let label = "no last time, but one in its place";
+        self.add(label, |state| state.last = any);
+        let label = "no last time, but arrivals";
+        self.add(label, |state| state.arrivals = 1 + any % 100);
+        self.add("no last time, but a fill", |state| {
+            (state.fill, state.highest) = (1, 1)
+        });
+        let label = "no last time, but a highest fill";
+        self.add(label, |state| state.highest = any);
+        let label = "no last time, but one above";
+        self.add(label, |state| state.has_above = 1);
+        self.add("a last time, but no arrivals", |state| {
+            (state.has_last, state.last) = (1, any)
+        });
+    }
+
+    /// The first arrival above, and the highest fill.
+    fn of_above(&mut self, any: u64) {
+        let arrivals = self.state.arrivals;
+        let (in_place, highest_is, highest_is_not) = (
+            "none above, but one in its place",
+            "none above, but the highest is",
+            "one above, but the highest is not",
+        );
+        if self.state.has_above == 0 {
+            self.add(in_place, |state| state.above = any);
+            if arrivals > 0 {
+                self.add(highest_is_not, |state| {
+                    (state.has_above, state.above) = (1, arrivals - 1)
+                });
+            }
+            if arrivals > 3 {
+                self.add(highest_is, |state| state.highest = SIZE as u64 + 1);
+            }
+            return;
+        }
+        self.add(in_place, |state| {
+            (state.has_above, state.above) = (0, state.above.max(1))
+        });
+        self.add(highest_is, |state| (state.has_above, state.above) = (0, 0));
+        self.add(highest_is_not, |state| {
+            (state.fill, state.highest) = (0, SIZE as u64)
+        });
+        for above in [arrivals, arrivals + any] {
+            let label = "the one above has not arrived";
+            self.add(label, |state| state.above = above);
+        }
+    }
+}
+
+/// The changes of a state, each with what is then wrong.
 fn changes(state: &ReplayState, random: &mut Random) -> Vec<(&'static str, ReplayState)> {
     let any = 1 + random.below(1 << 30) as u64;
     let flag = random.pick(&[2, 3, 256, 1 << 32, u64::MAX]);
-    let most_fill = fill_of(MOST_BYTES) as u64;
-    let mut list = vec![
-        (
-            "has_last above 1",
-            ReplayState {
-                has_last: flag,
-                ..*state
-            },
-        ),
-        (
-            "has_above above 1",
-            ReplayState {
-                has_above: flag,
-                ..*state
-            },
-        ),
-        (
-            "more than 1,000,000 arrivals",
-            ReplayState {
-                has_last: 1,
-                arrivals: MOST_ARRIVALS + any,
-                ..*state
-            },
-        ),
-        (
-            "fill above the highest",
-            ReplayState {
-                fill: state.highest + 1,
-                ..*state
-            },
-        ),
-        (
-            "fill above the highest",
-            ReplayState {
-                fill: u64::MAX - any,
-                ..*state
-            },
-        ),
-        (
-            "highest above what so many arrivals bring",
-            ReplayState {
-                highest: state.arrivals * most_fill + 1,
-                ..*state
-            },
-        ),
-        (
-            "highest above what so many arrivals bring",
-            ReplayState {
-                fill: u64::MAX,
-                highest: u64::MAX,
-                ..*state
-            },
-        ),
-    ];
-    if state.has_last == 0 {
-        for (label, changed) in [
-            (
-                "no last time, but one in its place",
-                ReplayState {
-                    last: any,
-                    ..*state
-                },
-            ),
-            (
-                "no last time, but arrivals",
-                ReplayState {
-                    arrivals: 1 + any % 100,
-                    ..*state
-                },
-            ),
-            (
-                "no last time, but a fill",
-                ReplayState {
-                    fill: 1,
-                    highest: 1,
-                    ..*state
-                },
-            ),
-            (
-                "no last time, but a highest fill",
-                ReplayState {
-                    highest: any,
-                    ..*state
-                },
-            ),
-            (
-                "no last time, but one above",
-                ReplayState {
-                    has_above: 1,
-                    ..*state
-                },
-            ),
-            (
-                "a last time, but no arrivals",
-                ReplayState {
-                    has_last: 1,
-                    last: any,
-                    ..*state
-                },
-            ),
-        ] {
-            list.push((label, changed));
-        }
-    } else {
-        list.push((
-            "no last time, but arrivals",
-            ReplayState {
-                has_last: 0,
-                last: 0,
-                ..*state
-            },
-        ));
-        list.push((
-            "a last time, but no arrivals",
-            ReplayState {
-                arrivals: 0,
-                ..*state
-            },
-        ));
+    let list = Vec::new();
+    let mut changes = Changes { state, list };
+    changes.of_all(any, flag);
+    changes.of_last(any);
+    changes.of_above(any);
+    changes.list
+}
+
+/// Whether a state's numbers contradict each other, by the header's words: "has_last or has_above
+/// neither 1 nor 0 with a 0 beside it; arrivals above 1,000,000; fill above highest; highest above
+/// arrivals times 40,608,000,000; a last time without arrivals or arrivals without one; above not
+/// below arrivals, or not there exactly where highest is above 4,096 times 27,000,000".
+fn contradicts(state: &ReplayState) -> bool {
+    let is_flag = |has, beside| has == 1 || (has, beside) == (0, 0);
+    let highest = u128::from(state.highest);
+    !is_flag(state.has_last, state.last)
+        || !is_flag(state.has_above, state.above)
+        || state.arrivals > MOST_ARRIVALS
+        || state.fill > state.highest
+        || highest > u128::from(state.arrivals) * fill_of(MOST_BYTES)
+        || (state.has_last == 1) != (state.arrivals > 0)
+        || state.has_above == 1 && state.above >= state.arrivals
+        || (state.has_above == 1) != (highest > SIZE)
+}
+
+/// The answer to a state that no run reaches.
+fn of_47(state: ReplayState) -> Replayed {
+    Replayed {
+        number: 47,
+        place: 0,
+        state,
     }
-    if state.has_above == 0 {
-        list.push((
-            "none above, but one in its place",
-            ReplayState {
-                above: any,
-                ..*state
-            },
-        ));
-        if state.arrivals > 0 {
-            list.push((
-                "one above, but the highest is not",
-                ReplayState {
-                    has_above: 1,
-                    above: state.arrivals - 1,
-                    ..*state
-                },
-            ));
-        }
-        if state.arrivals > 3 {
-            list.push((
-                "none above, but the highest is",
-                ReplayState {
-                    highest: SIZE as u64 + 1,
-                    ..*state
-                },
-            ));
-        }
-    } else {
-        list.push((
-            "none above, but one in its place",
-            ReplayState {
-                has_above: 0,
-                above: state.above.max(1),
-                ..*state
-            },
-        ));
-        list.push((
-            "none above, but the highest is",
-            ReplayState {
-                has_above: 0,
-                above: 0,
-                ..*state
-            },
-        ));
-        list.push((
-            "one above, but the highest is not",
-            ReplayState {
-                fill: 0,
-                highest: SIZE as u64,
-                ..*state
-            },
-        ));
-        for above in [state.arrivals, state.arrivals + any] {
-            list.push((
-                "the one above has not arrived",
-                ReplayState { above, ..*state },
-            ));
-        }
-    }
-    list
 }
 
 /// 47 at place 0 and the state as it was, whatever the rate and the trace are.
@@ -230,15 +175,43 @@ fn refused(suite: &mut Suite, caller: &mut Caller, label: &str, state: ReplaySta
         (7, Trace::new(&[(time, 189)]), "with a wrong arrival too"),
     ] {
         let got = caller.call(state, rate, &trace);
-        let expected = Replayed {
-            number: 47,
-            place: 0,
-            state,
-        };
-        let passed = got == expected && caller.unchanged(&trace);
+        let expected = of_47(state);
+        let passed = contradicts(&state) && got == expected && caller.unchanged(&trace);
         suite.case(&[label, how], passed, || {
             format!("{state:?}: expected 47, got {got:?}")
         });
+    }
+}
+
+/// A state of any numbers: refused exactly where they contradict each other, else replayed as the
+/// rules say of it.
+fn any_numbers(suite: &mut Suite, caller: &mut Caller, random: &mut Random) {
+    let mut number = |most: u64| match random.below(4) {
+        0 => 0,
+        1 => random.next() % 4,
+        2 => random.next() % (most + 1),
+        _ => random.next(),
+    };
+    let state = ReplayState {
+        fill: number(1 << 40),
+        highest: number(1 << 40),
+        has_last: number(1),
+        last: number(1 << 40),
+        arrivals: number(MOST_ARRIVALS),
+        has_above: number(1),
+        above: number(100),
+    };
+    let rate = any_rate(random);
+    let trace = Trace::new(&[(state.last, 7), (state.last.saturating_add(5), 188)]);
+    if contradicts(&state) {
+        let got = caller.call(state, rate, &trace);
+        let passed = got == of_47(state);
+        suite.case(&["any numbers: refused"], passed, || {
+            format!("{state:?}: expected 47, got {got:?}")
+        });
+    } else {
+        let labels = ["any numbers: replayed"];
+        caller.replay(suite, state, rate, &trace, drain_at_once, &labels);
     }
 }
 
@@ -257,49 +230,7 @@ fn run(suite: &mut Suite) {
             refused(suite, &mut caller, label, state, time);
         }
     }
-
-    // Any numbers: refused so, or replayed as the rules say of that state.
     for _ in 0..100_000 {
-        let mut number = |most: u64| match random.below(4) {
-            0 => 0,
-            1 => random.next() % 4,
-            2 => random.next() % (most + 1),
-            _ => random.next(),
-        };
-        let state = ReplayState {
-            fill: number(1 << 40),
-            highest: number(1 << 40),
-            has_last: number(1),
-            last: number(1 << 40),
-            arrivals: number(MOST_ARRIVALS),
-            has_above: number(1),
-            above: number(100),
-        };
-        let rate = any_rate(&mut random);
-        let trace = Trace::new(&[(state.last, 7), (state.last.saturating_add(5), 188)]);
-        let got = caller.call(state, rate, &trace);
-        let is_refused = got
-            == Replayed {
-                number: 47,
-                place: 0,
-                state,
-            };
-        let flags = state.has_last <= 1 && state.has_above <= 1;
-        let run = replay::replay(
-            from_c(&state),
-            rate,
-            &trace.times,
-            &trace.counts,
-            drain_at_once,
-        );
-        let is_replayed = flags && answer(&run) == Some(got);
-        let label = if is_refused {
-            "any numbers: refused"
-        } else {
-            "any numbers: replayed"
-        };
-        suite.case(&[label], is_refused || is_replayed, || {
-            format!("{state:?}: {got:?}, the rules give {run:?}")
-        });
+        any_numbers(suite, &mut caller, &mut random);
     }
 }

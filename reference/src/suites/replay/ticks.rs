@@ -29,25 +29,7 @@ fn run(suite: &mut Suite) {
     let mut caller = Caller::default();
     let mut random = Random::new(16);
 
-    // The reference's own two ways.
-    for _ in 0..20_000 {
-        let rate = any_rate(&mut random);
-        let ticks = random.below(300) as u64;
-        let around = u128::from(rate) * u128::from(ticks);
-        let fill = match random.below(3) {
-            0 => around.saturating_sub(1) + random.below(3) as u128,
-            1 => u128::from(random.next() >> 20),
-            _ => around * random.below(4) as u128 / 2,
-        };
-        let (one, other) = (
-            drain_by_ticks(fill, rate, ticks),
-            drain_at_once(fill, rate, ticks),
-        );
-        suite.case(&["at once as by ticks"], one == other, || {
-            format!("{fill} at {rate} for {ticks}: {one} and {other}")
-        });
-    }
-
+    two_ways(suite, &mut random);
     let fresh = ReplayState::default();
     for round in 0..20_000 {
         let rate = any_rate(&mut random);
@@ -87,5 +69,26 @@ fn run(suite: &mut Suite) {
         let rate = 7_000_000 + random.below(2_000_000) as u64;
         let trace = any_trace(&mut random, 60_000, 13_000);
         caller.replay(suite, fresh, rate, &trace, drain_at_once, &["long run"]);
+    }
+}
+
+/// The reference's own two ways.
+fn two_ways(suite: &mut Suite, random: &mut Random) {
+    for _ in 0..20_000 {
+        let rate = any_rate(random);
+        let ticks = random.below(300) as u64;
+        let around = u128::from(rate) * u128::from(ticks);
+        let fill = match random.below(3) {
+            0 => around.saturating_sub(1) + random.below(3) as u128,
+            1 => u128::from(random.next() >> 20),
+            _ => around * random.below(4) as u128 / 2,
+        };
+        let (one, other) = (
+            drain_by_ticks(fill, rate, ticks),
+            drain_at_once(fill, rate, ticks),
+        );
+        suite.case(&["at once as by ticks"], one == other, || {
+            format!("{fill} at {rate} for {ticks}: {one} and {other}")
+        });
     }
 }

@@ -8,29 +8,24 @@ use crate::kit::{Definition, Random, Suite, labels};
 
 pub const SUITE: Definition = Definition {
     name: "salvage-damaged",
-    labels: || {
-        let mut list = labels(DROPPED);
-        list.extend(labels(NOT_ACCEPTED));
-        list.extend(labels(RESULTS));
-        list.extend(labels(DAMAGES));
-        list.extend(labels(&[
-            "encoded: as written",
-            "encoded: bit flipped",
-            "encoded: cut at the end",
-            "encoded: cut at the front",
-            "encoded: byte lost",
-            "encoded: byte put in",
-            "encoded: start code put in",
-            "made up: as written",
-            "several damages",
-            "1: more than 64 tsOBUs",
-            "laws",
-            "laws: an accepted unit drops nothing",
-        ]));
-        list
-    },
+    labels: || labels(&[DROPPED, NOT_ACCEPTED, RESULTS, DAMAGES, LABELS].concat()),
     run,
 };
+
+const LABELS: &[&str] = &[
+    "encoded: as written",
+    "encoded: bit flipped",
+    "encoded: cut at the end",
+    "encoded: cut at the front",
+    "encoded: byte lost",
+    "encoded: byte put in",
+    "encoded: start code put in",
+    "made up: as written",
+    "several damages",
+    "1: more than 64 tsOBUs",
+    "laws",
+    "laws: an accepted unit drops nothing",
+];
 
 fn one(suite: &mut Suite, caller: &mut Caller, input: &[u8], more: &[&str]) {
     caller.salvage_wide(suite, input, more);

@@ -8,24 +8,22 @@ use reference::unit::{START_CODE, start_codes};
 
 pub const SUITE: Definition = Definition {
     name: "salvage-leading",
-    labels: || {
-        let mut list = labels(RESULTS);
-        list.extend(labels(&[
-            "no start code: all bytes are leading",
-            "no start code: no bytes at all",
-            "leading zeros",
-            "leading bytes that end in one zero",
-            "leading bytes that end in 00 00",
-            "leading bytes that end in 00 00 03",
-            "leading bytes that end in 00 00 02",
-            "leading bytes of an OBU",
-            "leading bytes, many",
-            "every short string",
-        ]));
-        list
-    },
+    labels: || labels(&[RESULTS, LABELS].concat()),
     run,
 };
+
+const LABELS: &[&str] = &[
+    "no start code: all bytes are leading",
+    "no start code: no bytes at all",
+    "leading zeros",
+    "leading bytes that end in one zero",
+    "leading bytes that end in 00 00",
+    "leading bytes that end in 00 00 03",
+    "leading bytes that end in 00 00 02",
+    "leading bytes of an OBU",
+    "leading bytes, many",
+    "every short string",
+];
 
 /// What leading bytes are like.
 fn label(leading: &[u8]) -> Option<&'static str> {

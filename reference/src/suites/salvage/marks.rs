@@ -64,10 +64,10 @@ fn one(suite: &mut Suite, caller: &mut Caller, list: &List, index: usize) {
 type Case = (Vec<u8>, Vec<u8>, Vec<u8>, [u64; 4]);
 
 /// Units with the answer, the result and the marks that the papers say.
-fn worked(suite: &mut Suite) {
+fn cases() -> Vec<Case> {
     let frame = tsobu(&[0x30, 0xAA]);
     let delimiter = tsobu(&[0x12, 0x00]);
-    let cases: Vec<Case> = vec![
+    vec![
         (vec![], vec![], vec![], [0, 0, 0, 0]),
         (vec![0, 0], vec![], vec![], [0, 0, 2, 0]),
         (vec![0x55; 7], vec![], vec![], [0, 0, 7, 0]),
@@ -123,8 +123,11 @@ fn worked(suite: &mut Suite) {
             vec![0, 0],
             [2, 2, 0, 0],
         ),
-    ];
-    for (input, result, marks, [tsobus, kept, leading, accepted]) in cases {
+    ]
+}
+
+fn worked(suite: &mut Suite) {
+    for (input, result, marks, [tsobus, kept, leading, accepted]) in cases() {
         let expected = Salvaged {
             bytes: result.len() as u64,
             tsobus,
@@ -157,31 +160,38 @@ fn long(head: &[u8], len: usize) -> Vec<u8> {
     bytes
 }
 
+fn delimiter() -> Vec<u8> {
+    vec![0x12, 0x00]
+}
+
+fn frame() -> Vec<u8> {
+    vec![0x32, 0x01, 0x66]
+}
+
+/// A padding with a closing 03.
+fn closed() -> Vec<u8> {
+    vec![0x78, 0x00, 0x00, 0x03]
+}
+
 fn run(suite: &mut Suite) {
     worked(suite);
     let mut caller = Caller::default();
-    let delimiter = vec![0x12, 0x00];
-    let frame = vec![0x32, 0x01, 0x66];
-    let closed = vec![0x78, 0x00, 0x00, 0x03];
+    in_every_place(suite, &mut caller);
+    too_long(suite, &mut caller);
+    not_accepted(suite, &mut caller);
+}
 
-    // What breaks rules of one OBU, in every place of a unit, and two of them one after the other.
+/// What breaks rules of one OBU, in every place of a unit, and two of them one after the other.
+fn in_every_place(suite: &mut Suite, caller: &mut Caller) {
     let mut bad = bad_obus();
     bad.extend(illegal_payloads());
     for payload in &bad {
         for (list, index) in [
             (vec![payload.clone()], 0),
-            (vec![payload.clone(), frame.clone()], 0),
-            (vec![delimiter.clone(), payload.clone(), frame.clone()], 1),
-            (
-                vec![
-                    closed.clone(),
-                    payload.clone(),
-                    closed.clone(),
-                    frame.clone(),
-                ],
-                1,
-            ),
-            (vec![delimiter.clone(), frame.clone(), payload.clone()], 2),
+            (vec![payload.clone(), frame()], 0),
+            (vec![delimiter(), payload.clone(), frame()], 1),
+            (vec![closed(), payload.clone(), closed(), frame()], 1),
+            (vec![delimiter(), frame(), payload.clone()], 2),
             (
                 vec![
                     vec![0x18, 0x00],
@@ -191,20 +201,17 @@ fn run(suite: &mut Suite) {
                 1,
             ),
         ] {
-            one(suite, &mut caller, &list, index);
+            one(suite, caller, &list, index);
         }
         for second in &bad {
-            let list = vec![
-                payload.clone(),
-                closed.clone(),
-                second.clone(),
-                frame.clone(),
-            ];
+            let list = vec![payload.clone(), closed(), second.clone(), frame()];
             caller.salvage_wide(suite, &carry(&list), &[]);
         }
     }
+}
 
-    // An OBU that is too long, and breaks each of the others too.
+/// An OBU that is too long, and breaks each of the others too.
+fn too_long(suite: &mut Suite, caller: &mut Caller) {
     let over = MOST_BYTES + 1;
     let illegal = [&long(&[0x30], over)[..], &[0, 0, 2]].concat();
     for payload in [
@@ -217,16 +224,13 @@ fn run(suite: &mut Suite) {
         long(&[0x40], over),
         long(&[0x08, 0x08], over),
     ] {
-        one(suite, &mut caller, &vec![payload.clone()], 0);
-        one(
-            suite,
-            &mut caller,
-            &vec![delimiter.clone(), payload, frame.clone()],
-            1,
-        );
+        one(suite, caller, &vec![payload.clone()], 0);
+        one(suite, caller, &vec![delimiter(), payload, frame()], 1);
     }
+}
 
-    // Results that reading does not accept, by each condition of the order.
+/// Results that reading does not accept, by each condition of the order.
+fn not_accepted(suite: &mut Suite, caller: &mut Caller) {
     for kinds in [
         &[0x78, 0x10, 0x30][..],
         &[0x20],

@@ -1,9 +1,9 @@
-//! Units that are refused when their PES closes: every condition of reading_conditions, with its place, closed
-//! by the next start or by the segment's end, and what comes between.
+//! Units that are refused when their PES closes: every condition of reading, with its place, closed by the
+//! next start or by the segment's end, and what comes between.
 
 use crate::helpers::obu::KINDS;
 use crate::helpers::segment::set_up::{AV1, OTHER, UNLISTED, head, pat_body, unit};
-use crate::helpers::segment::{Caller, closing_labels, wide};
+use crate::helpers::segment::{Caller, closing_labels, refused_at, refused_by, wide};
 use crate::helpers::unit::broken::{bad_obus, illegal_payloads};
 use crate::helpers::unit::{carry, carry_list, reading_conditions, shortest_obu};
 use crate::kit::{Definition, Random, Suite, labels};
@@ -93,12 +93,9 @@ fn one(suite: &mut Suite, caller: &mut Caller, random: &mut Random, carried: &[u
         }
         let bytes = segment(&packets);
         let more = [more, &[label]].concat();
-        caller.check_as(suite, &bytes, wide(&bytes), &more, |verdict| match number {
+        caller.check_wide_as(suite, &bytes, &more, |verdict| match number {
             None => verdict.is_ok(),
-            Some(number) => verdict.as_ref().map_or_else(
-                |refusal| (refusal.number, refusal.place) == (number, began as u64),
-                |_| false,
-            ),
+            Some(number) => refused_at(verdict, number, began),
         });
 
         // With a PES length that is wrong too, 32 comes first.
@@ -111,11 +108,8 @@ fn one(suite: &mut Suite, caller: &mut Caller, random: &mut Random, carried: &[u
             changed[began].bytes_mut()[4..6].copy_from_slice(&length.to_be_bytes());
             let bytes = segment(&changed);
             let labels = ["32 before the unit", &format!("32 before {number}")];
-            caller.check_as(suite, &bytes, wide(&bytes), &labels, |verdict| {
-                verdict.as_ref().map_or_else(
-                    |refusal| (refusal.number, refusal.place) == (32, began as u64),
-                    |_| false,
-                )
+            caller.check_wide_as(suite, &bytes, &labels, |verdict| {
+                refused_at(verdict, 32, began)
             });
         }
     }
@@ -140,7 +134,15 @@ fn run(suite: &mut Suite) {
             one(suite, &mut caller, &mut random, &carry(&list), &[]);
         }
     }
-    // Orders, numbers of OBUs, and no start code; 16 is a frame shown again.
+    orders_and_heads(suite, &mut caller, &mut random);
+    between(suite, &mut caller, &mut random);
+    long_units(suite, &mut caller);
+    long_obus(suite, &mut caller, &mut random);
+    long_lengths(suite, &mut caller);
+}
+
+/// Orders, numbers of OBUs, and no start code; 16 is a frame shown again.
+fn orders_and_heads(suite: &mut Suite, caller: &mut Caller, random: &mut Random) {
     for kinds in [
         &[1, 2, 6][..],
         &[4],
@@ -164,12 +166,12 @@ fn run(suite: &mut Suite) {
             .iter()
             .map(|&kind| shortest_obu(KINDS[kind]))
             .collect();
-        one(suite, &mut caller, &mut random, &carry_list(&list), &[]);
+        one(suite, caller, random, &carry_list(&list), &[]);
     }
     for count in [63, 64, 65, 66, 200] {
         let mut list = vec![vec![0x78]; count - 1];
-        list.push(frame.clone());
-        one(suite, &mut caller, &mut random, &carry(&list), &[]);
+        list.push(vec![0x32, 0x01, 0x66]);
+        one(suite, caller, random, &carry(&list), &[]);
     }
     for carried in [
         &[][..],
@@ -184,25 +186,27 @@ fn run(suite: &mut Suite) {
         } else {
             &[]
         };
-        one(suite, &mut caller, &mut random, carried, more);
+        one(suite, caller, random, carried, more);
     }
+}
 
-    between(suite, &mut caller, &mut random);
-    long_units(suite, &mut caller, &mut random);
-    long_lengths(suite, &mut caller);
+/// A segment that must be refused by a number at a place.
+fn expect(
+    suite: &mut Suite,
+    caller: &mut Caller,
+    packets: &[Packet],
+    label: &str,
+    (number, place): (u64, usize),
+) {
+    let bytes = segment(packets);
+    caller.check_wide_as(suite, &bytes, &[label], |verdict| {
+        refused_at(verdict, number, place)
+    });
 }
 
 /// What comes between a unit's start and its closing.
 fn between(suite: &mut Suite, caller: &mut Caller, random: &mut Random) {
     let bad = [0, 0, 1, 0x40];
-    let mut expect = |suite: &mut Suite, packets: &[Packet], label: &str, want: (u64, u64)| {
-        let bytes = segment(packets);
-        caller.check_as(suite, &bytes, wide(&bytes), &[label], |verdict| {
-            verdict
-                .as_ref()
-                .map_or_else(|refusal| (refusal.number, refusal.place) == want, |_| false)
-        });
-    };
     for _ in 0..50 {
         let mut packets = head();
         let first = packets.len();
@@ -212,9 +216,10 @@ fn between(suite: &mut Suite, caller: &mut Caller, random: &mut Random) {
         two.extend(Pes::new(2, None, &[0, 0, 1]).packets(AV1));
         expect(
             suite,
+            caller,
             &two,
             "an earlier unit comes first",
-            (6, first as u64),
+            (6, first),
         );
 
         // A packet without payload, with payload start, does not close; nor does another PID's.
@@ -224,45 +229,70 @@ fn between(suite: &mut Suite, caller: &mut Caller, random: &mut Random) {
         open.push(Packet::section(0, pat_body()));
         let mut wrong = Packet::new(UNLISTED, false, Load::Bytes(vec![0x22; 184]));
         wrong.patches.push((0, 0x48));
-        let at = open.len() as u64;
+        let at = open.len();
         let mut later = open.clone();
         later.push(wrong);
         expect(
             suite,
+            caller,
             &later,
             "payload start without payload does not close",
             (21, at),
         );
         expect(
             suite,
+            caller,
             &later,
             "another PID's start does not close",
             (21, at),
         );
-        expect(suite, &later, "a later packet before the closing", (21, at));
-
-        // At the closing packet 24 comes first, 29 and the rest after.
-        let mut counter = packets.clone();
-        let mut start = Pes::new(2, None, &unit(random.below(40))).packets(AV1);
-        start[0].counter = Some(4);
-        let at = counter.len() as u64;
-        counter.extend(start.clone());
-        expect(suite, &counter, "24 at the closing packet", (24, at));
-        let mut prefix = packets.clone();
-        start[0].counter = None;
-        start[0].bytes_mut()[random.below(4)] ^= 1 << random.below(8);
-        prefix.extend(start);
         expect(
             suite,
-            &prefix,
-            "29 at the closing packet comes after",
-            (6, first as u64),
+            caller,
+            &later,
+            "a later packet before the closing",
+            (21, at),
         );
+
+        at_the_closing_packet(suite, caller, random, &packets, first);
     }
 }
 
-/// Units around 1,573,056 bytes as carried, and around 1,048,576 bytes of OBUs.
-fn long_units(suite: &mut Suite, caller: &mut Caller, random: &mut Random) {
+/// At the closing packet 24 comes first, 29 and the rest after.
+fn at_the_closing_packet(
+    suite: &mut Suite,
+    caller: &mut Caller,
+    random: &mut Random,
+    packets: &[Packet],
+    first: usize,
+) {
+    let mut counter = packets.to_vec();
+    let mut start = Pes::new(2, None, &unit(random.below(40))).packets(AV1);
+    start[0].counter = Some(4);
+    let at = counter.len();
+    counter.extend(start.clone());
+    expect(
+        suite,
+        caller,
+        &counter,
+        "24 at the closing packet",
+        (24, at),
+    );
+    let mut prefix = packets.to_vec();
+    start[0].counter = None;
+    start[0].bytes_mut()[random.below(4)] ^= 1 << random.below(8);
+    prefix.extend(start);
+    expect(
+        suite,
+        caller,
+        &prefix,
+        "29 at the closing packet comes after",
+        (6, first),
+    );
+}
+
+/// Units around 1,573,056 bytes as carried.
+fn long_units(suite: &mut Suite, caller: &mut Caller) {
     for total in [
         units::MOST_CARRIED - 1,
         units::MOST_CARRIED,
@@ -298,16 +328,14 @@ fn long_units(suite: &mut Suite, caller: &mut Caller, random: &mut Random) {
                 _ if total > units::MOST_CARRIED => "1,573,057 bytes as carried",
                 _ => "1,573,055 bytes as carried",
             };
-            caller.check(suite, &bytes, wide(&bytes), &[label]);
+            caller.check_wide(suite, &bytes, &[label]);
             if index == 0 && total > units::MOST_CARRIED {
                 for less in [1, 2, 200] {
                     let mut rooms = wide(&bytes);
                     rooms.bytes = carried.len() - less;
                     let label = "8 before a unit too long";
                     caller.check_as(suite, &bytes, rooms, &[label], |verdict| {
-                        verdict
-                            .as_ref()
-                            .map_or_else(|refusal| refusal.number == 8, |_| false)
+                        refused_by(verdict, 8)
                     });
                 }
                 let mut rooms = wide(&bytes);
@@ -316,6 +344,10 @@ fn long_units(suite: &mut Suite, caller: &mut Caller, random: &mut Random) {
             }
         }
     }
+}
+
+/// Units around 1,048,576 bytes of OBUs.
+fn long_obus(suite: &mut Suite, caller: &mut Caller, random: &mut Random) {
     for total in [
         units::MOST_BYTES - 1,
         units::MOST_BYTES,
@@ -348,7 +380,7 @@ fn long_lengths(suite: &mut Suite, caller: &mut Caller) {
             } else {
                 "PES length wrong"
             };
-            caller.check_as(suite, &bytes, wide(&bytes), &[label], |verdict| {
+            caller.check_wide_as(suite, &bytes, &[label], |verdict| {
                 verdict.is_ok() == (length == 0 || length == after)
             });
         }

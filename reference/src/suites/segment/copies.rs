@@ -1,11 +1,11 @@
 //! The repeated packet: copies of every kind of packet, and what is no copy.
 
 use crate::helpers::segment::faults::base;
-use crate::helpers::segment::make::make;
+use crate::helpers::segment::make::{Made, make};
 use crate::helpers::segment::set_up::{
     AV1, MAP, OTHER, PROGRAM, SECOND, entries, head, pat_body, pmt_body, unit,
 };
-use crate::helpers::segment::{Caller, Verdict, exact, wide};
+use crate::helpers::segment::{Caller, Verdict, exact, refused_at, refused_by, wide};
 use crate::kit::{Definition, Random, Suite, labels};
 use reference::compose::{self, Load, Packet, Pes, segment};
 use reference::packet::{NULL, SIZE};
@@ -127,11 +127,8 @@ fn refused(
     more: &[&str],
 ) {
     let bytes = packets.concat();
-    caller.check_as(suite, &bytes, wide(&bytes), more, |verdict| {
-        verdict.as_ref().map_or_else(
-            |refusal| (refusal.number, refusal.place) == (number, place as u64),
-            |_| false,
-        )
+    caller.check_wide_as(suite, &bytes, more, |verdict| {
+        refused_at(verdict, number, place)
     });
 }
 
@@ -229,6 +226,47 @@ fn pes(sizes: [usize; 3]) -> Vec<Packet> {
     packets
 }
 
+/// A packet of a PES: its name, which of three packets it is, their payloads, and what is changed.
+type OfPes = (&'static str, usize, [usize; 3], fn(&mut Packet));
+
+const OF_PES: &[OfPes] = &[
+    ("a start", 0, [184, 184, 50], |_| {}),
+    ("a start with stuffing", 0, [150, 184, 50], |_| {}),
+    ("a start with PCR", 0, [176, 184, 50], |packet| {
+        packet.pcr = Some((5, 150));
+    }),
+    ("a start with PCR and OPCR", 0, [160, 184, 50], |packet| {
+        packet.pcr = Some((7, 160));
+        packet.flags = 0x08;
+    }),
+    ("a start with OPCR alone", 0, [160, 184, 50], |packet| {
+        packet.flags = 0x08;
+    }),
+    (
+        "a start with a field of no flags",
+        0,
+        [183, 184, 50],
+        |_| {},
+    ),
+    ("a middle packet", 1, [184, 184, 50], |_| {}),
+    ("a middle packet with PCR", 1, [184, 176, 50], |packet| {
+        packet.pcr = Some((9, 170));
+    }),
+    // Behind a field of length 0 stands what would be flags with a PCR.
+    (
+        "a middle packet with a field of no flags",
+        1,
+        [184, 183, 50],
+        |packet| {
+            packet.bytes_mut()[0] = 0x10;
+        },
+    ),
+    ("a last packet", 2, [184, 184, 50], |_| {}),
+    ("a last packet with PCR", 2, [184, 184, 50], |packet| {
+        packet.pcr = Some((11, 180));
+    }),
+];
+
 /// The kinds of packets with payload that can be copied.
 fn kinds() -> Vec<Kind> {
     let pcr = Some((0x1_2345_6789, 150));
@@ -243,58 +281,11 @@ fn kinds() -> Vec<Kind> {
             at,
         });
     };
-    let of_pes = |sizes, at: usize, change: fn(&mut Packet)| {
+    for &(name, at, sizes, change) in OF_PES {
         let mut packets = pes(sizes);
         change(&mut packets[at]);
-        packets
-    };
-    add("a start", 0, of_pes([184, 184, 50], 0, |_| {}));
-    add(
-        "a start with stuffing",
-        0,
-        of_pes([150, 184, 50], 0, |_| {}),
-    );
-    add(
-        "a start with PCR",
-        0,
-        of_pes([176, 184, 50], 0, |packet| packet.pcr = Some((5, 150))),
-    );
-    add(
-        "a start with PCR and OPCR",
-        0,
-        of_pes([160, 184, 50], 0, |packet| {
-            packet.pcr = Some((7, 160));
-            packet.flags = 0x08;
-        }),
-    );
-    add(
-        "a start with OPCR alone",
-        0,
-        of_pes([160, 184, 50], 0, |packet| packet.flags = 0x08),
-    );
-    add(
-        "a start with a field of no flags",
-        0,
-        of_pes([183, 184, 50], 0, |_| {}),
-    );
-    add("a middle packet", 1, of_pes([184, 184, 50], 1, |_| {}));
-    add(
-        "a middle packet with PCR",
-        1,
-        of_pes([184, 176, 50], 1, |packet| packet.pcr = Some((9, 170))),
-    );
-    // Behind a field of length 0 stands what would be flags with a PCR.
-    add(
-        "a middle packet with a field of no flags",
-        1,
-        of_pes([184, 183, 50], 1, |packet| packet.bytes_mut()[0] = 0x10),
-    );
-    add("a last packet", 2, of_pes([184, 184, 50], 2, |_| {}));
-    add(
-        "a last packet with PCR",
-        2,
-        of_pes([184, 184, 50], 2, |packet| packet.pcr = Some((11, 180))),
-    );
+        add(name, at, packets);
+    }
     for (pid, names) in [
         (0, ["a PAT", "a PAT beside a field", "a PAT with PCR"]),
         (MAP, ["a PMT", "a PMT beside a field", "a PMT with PCR"]),
@@ -335,14 +326,11 @@ fn changed(suite: &mut Suite, caller: &mut Caller, kind: &Kind, place: usize, ma
     if !(6..12).contains(&place) {
         let bytes = packets.concat();
         let label = format!("{name}, a byte changed: 24");
-        let at_24 = verdict(&packets).map_or_else(|refusal| refusal.number == 24, |_| false);
+        let at_24 = refused_by(&verdict(&packets), 24);
         let more: Vec<&str> = at_24.then_some(label.as_str()).into_iter().collect();
-        caller.check_as(suite, &bytes, wide(&bytes), &more, |verdict| {
+        caller.check_wide_as(suite, &bytes, &more, |verdict| {
             // From the payload or what stands behind a PCR on, nothing else is looked at.
-            let is_24 = verdict.as_ref().map_or_else(
-                |refusal| (refusal.number, refusal.place) == (24, second as u64),
-                |_| false,
-            );
+            let is_24 = refused_at(verdict, 24, second);
             is_24 || place < 12
         });
     } else if !kind.has_pcr() {
@@ -419,96 +407,98 @@ fn sequence(pid: u16, before: u8, steps: &[(bool, bool, u8)]) -> Vec<Bytes> {
     split(&segment(&packets))
 }
 
+/// With payload or not, with discontinuity or not.
+const PLAIN: (bool, bool) = (true, false);
+const JUMP: (bool, bool) = (true, true);
+const NONE: (bool, bool) = (false, false);
+/// The steps, each with what its counter is more than the first's; and at which 24 comes, if any.
+type Row = (&'static str, &'static [((bool, bool), u8)], Option<usize>);
+const ROWS: &[Row] = &[
+    (
+        "without payload between",
+        &[(PLAIN, 0), (NONE, 0), (PLAIN, 0)],
+        Some(2),
+    ),
+    (
+        "without payload between",
+        &[(PLAIN, 0), (PLAIN, 0), (NONE, 0), (PLAIN, 0)],
+        Some(3),
+    ),
+    (
+        "the last packet without payload",
+        &[(NONE, 15), (PLAIN, 15)],
+        Some(1),
+    ),
+    ("discontinuity: both packets", &[(JUMP, 0), (JUMP, 0)], None),
+    (
+        "discontinuity: the second alone",
+        &[(PLAIN, 0), (JUMP, 0)],
+        None,
+    ),
+    (
+        "discontinuity: the first alone",
+        &[(JUMP, 0), (PLAIN, 0)],
+        Some(1),
+    ),
+    (
+        "discontinuity: three packets",
+        &[(JUMP, 0), (JUMP, 0), (JUMP, 0), (JUMP, 0)],
+        None,
+    ),
+    (
+        "discontinuity: three packets",
+        &[(PLAIN, 0), (PLAIN, 0), (JUMP, 0), (PLAIN, 1)],
+        None,
+    ),
+    (
+        "discontinuity: three packets",
+        &[(PLAIN, 0), (JUMP, 0), (PLAIN, 0)],
+        Some(2),
+    ),
+    (
+        "after a copy: the next counter",
+        &[(PLAIN, 0), (PLAIN, 0), (PLAIN, 1)],
+        None,
+    ),
+    (
+        "after a copy: without payload",
+        &[(PLAIN, 0), (PLAIN, 0), (NONE, 0), (PLAIN, 1)],
+        None,
+    ),
+    (
+        "after a copy: without payload",
+        &[(PLAIN, 0), (PLAIN, 0), (NONE, 1)],
+        Some(2),
+    ),
+    (
+        "after a copy: another counter",
+        &[(PLAIN, 0), (PLAIN, 0), (PLAIN, 2)],
+        Some(2),
+    ),
+    (
+        "after a copy: another counter",
+        &[(PLAIN, 0), (PLAIN, 0), (PLAIN, 15)],
+        Some(2),
+    ),
+    (
+        "after a copy: the next and its copy",
+        &[(PLAIN, 0), (PLAIN, 0), (PLAIN, 1), (PLAIN, 1), (PLAIN, 2)],
+        None,
+    ),
+    (
+        "after a copy: the next and its copy",
+        &[(PLAIN, 0), (PLAIN, 0), (PLAIN, 1), (PLAIN, 1), (PLAIN, 1)],
+        Some(4),
+    ),
+    (
+        "after a copy: an older packet",
+        &[(PLAIN, 0), (PLAIN, 1), (PLAIN, 0)],
+        Some(2),
+    ),
+];
+
 /// What stands between two copies, before them and after them.
 fn in_a_row(suite: &mut Suite, caller: &mut Caller) {
-    const PLAIN: (bool, bool) = (true, false);
-    const JUMP: (bool, bool) = (true, true);
-    const NONE: (bool, bool) = (false, false);
-    // The steps, each with what its counter is more than the first's; and at which 24 comes, if any.
-    type Row = (&'static str, &'static [((bool, bool), u8)], Option<usize>);
-    const ROWS: &[Row] = &[
-        (
-            "without payload between",
-            &[(PLAIN, 0), (NONE, 0), (PLAIN, 0)],
-            Some(2),
-        ),
-        (
-            "without payload between",
-            &[(PLAIN, 0), (PLAIN, 0), (NONE, 0), (PLAIN, 0)],
-            Some(3),
-        ),
-        (
-            "the last packet without payload",
-            &[(NONE, 15), (PLAIN, 15)],
-            Some(1),
-        ),
-        ("discontinuity: both packets", &[(JUMP, 0), (JUMP, 0)], None),
-        (
-            "discontinuity: the second alone",
-            &[(PLAIN, 0), (JUMP, 0)],
-            None,
-        ),
-        (
-            "discontinuity: the first alone",
-            &[(JUMP, 0), (PLAIN, 0)],
-            Some(1),
-        ),
-        (
-            "discontinuity: three packets",
-            &[(JUMP, 0), (JUMP, 0), (JUMP, 0), (JUMP, 0)],
-            None,
-        ),
-        (
-            "discontinuity: three packets",
-            &[(PLAIN, 0), (PLAIN, 0), (JUMP, 0), (PLAIN, 1)],
-            None,
-        ),
-        (
-            "discontinuity: three packets",
-            &[(PLAIN, 0), (JUMP, 0), (PLAIN, 0)],
-            Some(2),
-        ),
-        (
-            "after a copy: the next counter",
-            &[(PLAIN, 0), (PLAIN, 0), (PLAIN, 1)],
-            None,
-        ),
-        (
-            "after a copy: without payload",
-            &[(PLAIN, 0), (PLAIN, 0), (NONE, 0), (PLAIN, 1)],
-            None,
-        ),
-        (
-            "after a copy: without payload",
-            &[(PLAIN, 0), (PLAIN, 0), (NONE, 1)],
-            Some(2),
-        ),
-        (
-            "after a copy: another counter",
-            &[(PLAIN, 0), (PLAIN, 0), (PLAIN, 2)],
-            Some(2),
-        ),
-        (
-            "after a copy: another counter",
-            &[(PLAIN, 0), (PLAIN, 0), (PLAIN, 15)],
-            Some(2),
-        ),
-        (
-            "after a copy: the next and its copy",
-            &[(PLAIN, 0), (PLAIN, 0), (PLAIN, 1), (PLAIN, 1), (PLAIN, 2)],
-            None,
-        ),
-        (
-            "after a copy: the next and its copy",
-            &[(PLAIN, 0), (PLAIN, 0), (PLAIN, 1), (PLAIN, 1), (PLAIN, 1)],
-            Some(4),
-        ),
-        (
-            "after a copy: an older packet",
-            &[(PLAIN, 0), (PLAIN, 1), (PLAIN, 0)],
-            Some(2),
-        ),
-    ];
     for pid in WATCHED {
         for start in 0..16 {
             for (label, row, at) in ROWS {
@@ -525,9 +515,7 @@ fn in_a_row(suite: &mut Suite, caller: &mut Caller) {
                     refused(suite, caller, &packets, (24, 3 + at), &more);
                 } else {
                     let bytes = packets.concat();
-                    caller.check_as(suite, &bytes, wide(&bytes), &more, |verdict| {
-                        verdict.is_ok()
-                    });
+                    caller.check_wide_as(suite, &bytes, &more, |verdict| verdict.is_ok());
                 }
             }
         }
@@ -559,9 +547,7 @@ fn across_naming(suite: &mut Suite, caller: &mut Caller) {
         let mut packets = split(&segment(&packets));
         let plain = verdict(&packets);
         let bytes = packets.concat();
-        caller.check_as(suite, &bytes, wide(&bytes), &[label], |verdict| {
-            verdict.is_ok()
-        });
+        caller.check_wide_as(suite, &bytes, &[label], |verdict| verdict.is_ok());
         let expected = one_more(&plain.expect("the first after naming"), pid);
         let copy = packets[at + 2].clone();
         packets.insert(at + 3, copy.clone());
@@ -596,9 +582,7 @@ fn clocks(suite: &mut Suite, caller: &mut Caller) {
         packets.extend(Pes::new(90, None, &unit(20)).packets(AV1));
         let mut packets = split(&segment(&packets));
         let bytes = packets.concat();
-        caller.check_as(suite, &bytes, wide(&bytes), &[label], |verdict| {
-            verdict.is_ok()
-        });
+        caller.check_wide_as(suite, &bytes, &[label], |verdict| verdict.is_ok());
         // Without the copies there is none.
         packets.drain(2..order.len());
         refused(suite, caller, &packets, (31, 2), &[label]);
@@ -620,6 +604,30 @@ fn many_units(suite: &mut Suite, caller: &mut Caller) {
     }
     let more = ["1,024 units, every packet copied", "exact rooms"];
     accepted(suite, caller, &doubled, &expected, &more);
+}
+
+/// The class of a PID whose counter is watched, once the map or all PIDs are named.
+fn watched_class(made: &Made, pid: u16, (map, all): (bool, bool)) -> Option<Class> {
+    if pid == 0 || map && pid == made.map_pid {
+        Some(Class::Section)
+    } else if all && pid == made.accepted.pid {
+        Some(Class::Av1)
+    } else if all && made.pids.contains(&pid) {
+        Some(Class::OtherListed)
+    } else {
+        None
+    }
+}
+
+/// A copy; of a PCR in it the base and the reserved bits may be any.
+fn any_copy(random: &mut Random, packet: &[u8]) -> Bytes {
+    let mut copy = packet.to_vec();
+    if copy[3] & 0x20 != 0 && copy[4] >= 7 && copy[5] & 0x10 != 0 {
+        for byte in &mut copy[6..10] {
+            *byte = random.next() as u8;
+        }
+    }
+    copy
 }
 
 /// Segments made at random, with copies put in.
@@ -647,28 +655,14 @@ fn made(suite: &mut Suite, caller: &mut Caller, random: &mut Random) {
             copied.extend::<Vec<Bytes>>(now);
             waiting = later;
             copied.push(packet.clone());
-            let class = if pid == 0 || named_map && pid == made.map_pid {
-                Some(Class::Section)
-            } else if named_all && pid == made.accepted.pid {
-                Some(Class::Av1)
-            } else if named_all && made.pids.contains(&pid) {
-                Some(Class::OtherListed)
-            } else {
-                None
-            };
+            let class = watched_class(&made, pid, (named_map, named_all));
             match class {
                 Some(class)
                     if has_payload(packet)
                         && !has_discontinuity(packet)
                         && (all || random.one_in(4)) =>
                 {
-                    let mut copy = packet.clone();
-                    if copy[3] & 0x20 != 0 && copy[4] >= 7 && copy[5] & 0x10 != 0 {
-                        // The base and the reserved bits may be any.
-                        for byte in &mut copy[6..10] {
-                            *byte = random.next() as u8;
-                        }
-                    }
+                    let mut copy = any_copy(random, packet);
                     if !all && random.one_in(30) {
                         let at = 12 + random.below(SIZE - 12);
                         copy[at] ^= 1 << random.below(8);
@@ -684,14 +678,10 @@ fn made(suite: &mut Suite, caller: &mut Caller, random: &mut Random) {
         }
         copied.extend(waiting);
         if wrong {
-            let bytes = copied.concat();
-            caller.check(suite, &bytes, wide(&bytes), &["made: copies, one wrong"]);
+            let label = "made: copies, one wrong";
+            caller.check_wide(suite, &copied.concat(), &[label]);
         } else {
-            let label = if all {
-                "made: copies of all"
-            } else {
-                "made: copies of some"
-            };
+            let label = ["made: copies of some", "made: copies of all"][usize::from(all)];
             accepted(suite, caller, &copied, &expected, &[label]);
         }
     }
@@ -724,7 +714,7 @@ fn runs(suite: &mut Suite, caller: &mut Caller, random: &mut Random) {
             packets.push(packet);
         }
         let bytes = segment(&packets);
-        caller.check(suite, &bytes, wide(&bytes), &["runs"]);
+        caller.check_wide(suite, &bytes, &["runs"]);
     }
 }
 

@@ -1,10 +1,10 @@
 //! Counters: every last counter with every next one, with and without payload and discontinuity, on
 //! every kind of PID, and from where they count.
 
+use crate::helpers::segment::Caller;
 use crate::helpers::segment::set_up::{
     AV1, MAP, OTHER, SECOND, UNLISTED, entries, head, pat_body, pmt_body, unit,
 };
-use crate::helpers::segment::{Caller, wide};
 use crate::kit::{Definition, Random, Suite, labels};
 use reference::compose::{Load, Packet, Pes, segment};
 use reference::packet::NULL;
@@ -12,24 +12,22 @@ use reference::segment::CONDITIONS_24;
 
 pub const SUITE: Definition = Definition {
     name: "segment-counters",
-    labels: || {
-        let mut list = labels(CONDITIONS_24);
-        list.extend(labels(&[
-            "accepted",
-            "discontinuity, with payload",
-            "discontinuity, without payload",
-            "field of no flags",
-            "the first packet sets it",
-            "before the PAT",
-            "before the PMT",
-            "not watched",
-            "repeated sections do not start anew",
-            "runs",
-        ]));
-        list
-    },
+    labels: || labels(&[CONDITIONS_24, LABELS].concat()),
     run,
 };
+
+const LABELS: &[&str] = &[
+    "accepted",
+    "discontinuity, with payload",
+    "discontinuity, without payload",
+    "field of no flags",
+    "the first packet sets it",
+    "before the PAT",
+    "before the PMT",
+    "not watched",
+    "repeated sections do not start anew",
+    "runs",
+];
 
 /// PAT, PMT and PCR, with counter 0; then all is listed.
 fn counted_head() -> Vec<Packet> {
@@ -85,14 +83,20 @@ fn packet(pid: u16, kind: Kind, counter: u8) -> Packet {
 fn run(suite: &mut Suite) {
     let mut caller = Caller::default();
     let mut random = Random::new(31);
+    steps(suite, &mut caller, &mut random);
+    first_packets(suite, &mut caller, &mut random);
+    repeated_sections(suite, &mut caller);
+    runs(suite, &mut caller, &mut random);
+}
 
+/// Every last counter with every next one, and one more step.
+fn steps(suite: &mut Suite, caller: &mut Caller, random: &mut Random) {
     for pid in [0, MAP, AV1, OTHER, SECOND, UNLISTED, NULL] {
         for last in 0..16 {
             for next in 0..16 {
                 for kind in KINDS {
                     let mut packets = counted_head();
                     // The section's own packet gave the last counter of its PID, or the clock did.
-                    let steps = [last, next];
                     let first = match pid {
                         0 => Some(0),
                         MAP => Some(1),
@@ -100,7 +104,7 @@ fn run(suite: &mut Suite) {
                         _ => None,
                     };
                     match first {
-                        Some(at) => packets[at].counter = Some(steps[0]),
+                        Some(at) => packets[at].counter = Some(last),
                         None => packets.push(packet(pid, Kind::Payload, last)),
                     }
                     packets.push(packet(pid, kind, next));
@@ -112,21 +116,23 @@ fn run(suite: &mut Suite) {
                         _ => "a step",
                     };
                     let bytes = segment(&packets);
-                    caller.check(suite, &bytes, wide(&bytes), &[label]);
+                    caller.check_wide(suite, &bytes, &[label]);
                     // And one more step, from what has become the last counter.
                     for more in [next, (next + 1) % 16, (last + 1) % 16, (last + 2) % 16] {
                         packets.push(packet(pid, random.pick(&KINDS), more));
                         let bytes = segment(&packets);
-                        caller.check(suite, &bytes, wide(&bytes), &[label]);
+                        caller.check_wide(suite, &bytes, &[label]);
                         packets.pop();
                     }
                 }
             }
         }
     }
+}
 
-    // The first packet of a PID sets it, with payload or without; those before the section that
-    // names it do not count.
+/// The first packet of a PID sets it, with payload or without; those before the section that
+/// names it do not count.
+fn first_packets(suite: &mut Suite, caller: &mut Caller, random: &mut Random) {
     for pid in [MAP, AV1, OTHER] {
         for earlier in 0..16 {
             for first in 0..16 {
@@ -166,16 +172,18 @@ fn run(suite: &mut Suite) {
                     }
                     let labels = [label, "the first packet sets it"];
                     let bytes = segment(&packets);
-                    caller.check(suite, &bytes, wide(&bytes), &labels);
+                    caller.check_wide(suite, &bytes, &labels);
                     packets.push(packet(pid, random.pick(&KINDS), (first + 1) % 16));
                     let bytes = segment(&packets);
-                    caller.check(suite, &bytes, wide(&bytes), &labels);
+                    caller.check_wide(suite, &bytes, &labels);
                 }
             }
         }
     }
+}
 
-    // Repeated sections do not start counters anew.
+/// Repeated sections do not start counters anew.
+fn repeated_sections(suite: &mut Suite, caller: &mut Caller) {
     for pid in [0, MAP, AV1, OTHER] {
         for section in [0, MAP] {
             for next in 0..16 {
@@ -185,12 +193,14 @@ fn run(suite: &mut Suite) {
                 packets.push(packet(pid, Kind::Payload, next));
                 let bytes = segment(&packets);
                 let label = "repeated sections do not start anew";
-                caller.check(suite, &bytes, wide(&bytes), &[label]);
+                caller.check_wide(suite, &bytes, &[label]);
             }
         }
     }
+}
 
-    // Long runs over several PIDs, mostly right.
+/// Long runs over several PIDs, mostly right.
+fn runs(suite: &mut Suite, caller: &mut Caller, random: &mut Random) {
     for _ in 0..4000 {
         let mut packets = counted_head();
         let mut last = [0u8; 4];
@@ -215,6 +225,6 @@ fn run(suite: &mut Suite) {
             packets.push(one);
         }
         let bytes = segment(&packets);
-        caller.check(suite, &bytes, wide(&bytes), &["runs"]);
+        caller.check_wide(suite, &bytes, &["runs"]);
     }
 }

@@ -8,56 +8,54 @@ use reference::packet::{self, SIZE};
 
 pub const SUITE: Definition = Definition {
     name: "segment-damaged",
-    labels: || {
-        let mut list = labels(packet::CONDITIONS);
-        list.extend(labels(&[
-            "bit flipped",
-            "byte replaced",
-            "bit flipped in a header",
-            "bit flipped in a section, CRC repaired",
-            "byte replaced in a section, CRC repaired",
-            "byte replaced in the AV1 PID",
-            "cut at the end",
-            "cut at the front",
-            "cut by packets",
-            "packet taken out",
-            "packet repeated",
-            "packets swapped",
-            "packet of another segment",
-            "several damages",
-            "room too short",
-            "accepted",
-            "20: not a multiple of 188",
-            "24: PID 0, with payload",
-            "24: map PID, with payload",
-            "24: AV1 PID, with payload",
-            "24: AV1 PID, without payload",
-            "24: other listed PID, with payload",
-            "25: CRC",
-            "25: no payload start",
-            "25: later section not equal",
-            "26: CRC",
-            "26: no payload start",
-            "26: later section not equal",
-            "28: no AV1 entry",
-            "29: before any start",
-            "29: prefix",
-            "30: flags 00",
-            "31: no PCR yet",
-            "32: PES longer than its length",
-            "32: PES shorter than its length",
-            "33: no PAT",
-            "33: no PMT",
-            "8: bytes of a starting packet",
-            "8: bytes of a later packet",
-            "closing: 9: no start code at the head",
-            "closing: 5: size above what remains",
-            "closing: 5: size below what remains",
-        ]));
-        list
-    },
+    labels: || labels(&[packet::CONDITIONS, LABELS].concat()),
     run,
 };
+
+const LABELS: &[&str] = &[
+    "bit flipped",
+    "byte replaced",
+    "bit flipped in a header",
+    "bit flipped in a section, CRC repaired",
+    "byte replaced in a section, CRC repaired",
+    "byte replaced in the AV1 PID",
+    "cut at the end",
+    "cut at the front",
+    "cut by packets",
+    "packet taken out",
+    "packet repeated",
+    "packets swapped",
+    "packet of another segment",
+    "several damages",
+    "room too short",
+    "accepted",
+    "20: not a multiple of 188",
+    "24: PID 0, with payload",
+    "24: map PID, with payload",
+    "24: AV1 PID, with payload",
+    "24: AV1 PID, without payload",
+    "24: other listed PID, with payload",
+    "25: CRC",
+    "25: no payload start",
+    "25: later section not equal",
+    "26: CRC",
+    "26: no payload start",
+    "26: later section not equal",
+    "28: no AV1 entry",
+    "29: before any start",
+    "29: prefix",
+    "30: flags 00",
+    "31: no PCR yet",
+    "32: PES longer than its length",
+    "32: PES shorter than its length",
+    "33: no PAT",
+    "33: no PMT",
+    "8: bytes of a starting packet",
+    "8: bytes of a later packet",
+    "closing: 9: no start code at the head",
+    "closing: 5: size above what remains",
+    "closing: 5: size below what remains",
+];
 
 /// The index of a packet on one of some PIDs.
 fn packet_of(random: &mut Random, bytes: &[u8], pids: &[u16]) -> Option<usize> {
@@ -74,16 +72,29 @@ fn packet_of(random: &mut Random, bytes: &[u8], pids: &[u16]) -> Option<usize> {
     Some(random.pick(&found))
 }
 
+/// Damages a segment in one way and names it.
 fn damage(random: &mut Random, made: &Made, other: &[u8], bytes: &mut Vec<u8>) -> &'static str {
     if bytes.len() < SIZE {
         bytes.push(0x47);
         return "cut at the end";
     }
-    let count = bytes.len() / SIZE;
-    let index = random.below(count);
+    let index = random.below(bytes.len() / SIZE);
     let any = random.below(bytes.len());
     let flip = 1u8 << random.below(8);
     match random.below(16) {
+        how @ 0..=9 => damage_bytes(random, made, bytes, (how, index, any, flip)),
+        how => damage_packets(random, other, bytes, (how, index, any)),
+    }
+}
+
+/// Bytes of any kind of packet, of a section or of the AV1 PID changed.
+fn damage_bytes(
+    random: &mut Random,
+    made: &Made,
+    bytes: &mut [u8],
+    (how, index, any, flip): (usize, usize, usize, u8),
+) -> &'static str {
+    match how {
         0 => {
             bytes[any] ^= flip;
             "bit flipped"
@@ -117,7 +128,7 @@ fn damage(random: &mut Random, made: &Made, other: &[u8], bytes: &mut Vec<u8>) -
             repair_crc(packet);
             "byte replaced in a section, CRC repaired"
         }
-        8 | 9 => {
+        _ => {
             let index = match packet_of(random, bytes, &[made.accepted.pid]) {
                 Some(index) => index,
                 _ => return "nothing",
@@ -131,6 +142,18 @@ fn damage(random: &mut Random, made: &Made, other: &[u8], bytes: &mut Vec<u8>) -
             };
             "byte replaced in the AV1 PID"
         }
+    }
+}
+
+/// Packets cut off, taken out, repeated, swapped or replaced.
+fn damage_packets(
+    random: &mut Random,
+    other: &[u8],
+    bytes: &mut Vec<u8>,
+    (how, index, any): (usize, usize, usize),
+) -> &'static str {
+    let count = bytes.len() / SIZE;
+    match how {
         10 => {
             if random.one_in(4) {
                 bytes.truncate(any);

@@ -7,7 +7,9 @@ use crate::helpers::segment::make::make;
 use crate::helpers::segment::set_up::{
     AV1, MAP, OTHER, SECOND, VIDEO, entries, head_of, pat_body, pmt_body, unit,
 };
-use crate::helpers::segment::{Caller, Verdict, exact, faults as segment_faults, wide};
+use crate::helpers::segment::{
+    Caller, Verdict, exact, faults as segment_faults, refused_at, refused_by, wide,
+};
 use crate::helpers::unit::reading_conditions;
 use crate::kit::{Definition, Random, Suite, labels};
 use reference::compose::{Entry, Load, Packet, Pes, repair_crc, segment};
@@ -94,18 +96,9 @@ fn one(
     };
     let more = [more, &[&label]].concat();
     caller.check_edition(suite, edition, bytes, rooms, &more, |verdict| {
-        let is_30 = verdict
-            .as_ref()
-            .map_or_else(|refusal| refusal.number == 30, |_| false);
+        let is_30 = refused_by(verdict, 30);
         intended(verdict) && !(is_30 && edition == DRAFT)
     });
-}
-
-fn is(verdict: &Verdict, number: u64, place: usize) -> bool {
-    verdict.as_ref().map_or_else(
-        |refusal| (refusal.number, refusal.place) == (number, place as u64),
-        |_| false,
-    )
 }
 
 /// Every fault of the base, in a recording of each edition.
@@ -137,9 +130,9 @@ fn faults(suite: &mut Suite, caller: &mut Caller) {
             caller.check_edition(suite, edition, &bytes, rooms, &more, |verdict| {
                 match fault.number {
                     // The header's length byte decides where the unit begins.
-                    30 if edition == DRAFT => !is(verdict, 30, fault.place),
+                    30 if edition == DRAFT => !refused_at(verdict, 30, fault.place),
                     28 if edition == DRAFT && of_tag => verdict.is_ok(),
-                    number => is(verdict, number, fault.place),
+                    number => refused_at(verdict, number, fault.place),
                 }
             });
         }
@@ -152,7 +145,7 @@ fn faults(suite: &mut Suite, caller: &mut Caller) {
         (DRAFT, &current, "current recording under draft"),
     ] {
         one(suite, caller, edition, &base.bytes(), &[label], |verdict| {
-            is(verdict, 28, PMT)
+            refused_at(verdict, 28, PMT)
         });
     }
     for (edition, base) in [(CURRENT, &current), (DRAFT, &draft)] {
@@ -252,8 +245,15 @@ fn without_times(length: u8, unit: &[u8]) -> Vec<u8> {
     bytes
 }
 
-/// PES headers under draft: with no times and every length byte, and with all values of each byte.
+/// PES headers under draft: without times, with all values of each byte, short, and with times.
 fn headers(suite: &mut Suite, caller: &mut Caller) {
+    length_bytes(suite, caller);
+    changed_headers(suite, caller);
+    times(suite, caller);
+}
+
+/// No times, and every length byte.
+fn length_bytes(suite: &mut Suite, caller: &mut Caller) {
     for length in 0..=255 {
         let whole = without_times(length, &unit(40));
         for first in [60, 120, 184] {
@@ -281,7 +281,7 @@ fn headers(suite: &mut Suite, caller: &mut Caller) {
                     &[label],
                     |verdict| {
                         if 9 + usize::from(length) > first.len() {
-                            return is(verdict, 29, 3);
+                            return refused_at(verdict, 29, 3);
                         }
                         let expected = Unit {
                             bytes: unit(40),
@@ -306,9 +306,12 @@ fn headers(suite: &mut Suite, caller: &mut Caller) {
         DRAFT,
         &around(&[&bytes[..184], &bytes[184..]]),
         &[label],
-        |verdict| is(verdict, 29, 3),
+        |verdict| refused_at(verdict, 29, 3),
     );
-    // Every byte of the header with every value; short payloads.
+}
+
+/// Every byte of the header with every value; short payloads.
+fn changed_headers(suite: &mut Suite, caller: &mut Caller) {
     let mut stuffed = Pes::new(0x1_FFFF_FFFF, Some(0), &unit(20));
     stuffed.stuffing = 4;
     let good = [
@@ -332,7 +335,7 @@ fn headers(suite: &mut Suite, caller: &mut Caller) {
                     DRAFT,
                     &around(&[&bytes]),
                     &[label],
-                    |verdict| label != "draft: flags 01" || is(verdict, 29, 3),
+                    |verdict| label != "draft: flags 01" || refused_at(verdict, 29, 3),
                 );
             }
         }
@@ -352,7 +355,11 @@ fn headers(suite: &mut Suite, caller: &mut Caller) {
             }
         }
     }
-    // Times that are there are as under current, the greatest too.
+}
+
+/// Times that are there are as under current, the greatest too; and a unit that is wrong behind a
+/// header without times.
+fn times(suite: &mut Suite, caller: &mut Caller) {
     for (pts, dts) in [(0, None), (0x1_FFFF_FFFF, None), (5, Some(0x1_FFFF_FFFF))] {
         let bytes = around(&[&Pes::new(pts, dts, &unit(9)).bytes()]);
         let label = ["draft: a time as carried"];
@@ -408,7 +415,7 @@ fn unknown(suite: &mut Suite, caller: &mut Caller) {
             for (rooms, more) in [(rooms, "44"), (none, "44: no rooms")] {
                 let more = [label, more, "44: an unknown edition"];
                 caller.check_edition(suite, edition, bytes, rooms, &more, |verdict| {
-                    is(verdict, 44, 0)
+                    refused_at(verdict, 44, 0)
                 });
             }
         }
@@ -416,7 +423,7 @@ fn unknown(suite: &mut Suite, caller: &mut Caller) {
             for edition in [CURRENT, DRAFT] {
                 let more = ["20 in an edition"];
                 caller.check_edition(suite, edition, bytes, rooms, &more, |verdict| {
-                    is(verdict, 20, 0)
+                    refused_at(verdict, 20, 0)
                 });
             }
         }
@@ -446,9 +453,7 @@ fn made(suite: &mut Suite, caller: &mut Caller, random: &mut Random) {
                 verdict.as_ref() == Ok(&made.accepted)
             });
             one(suite, caller, 1 - edition, &bytes, &[], |verdict| {
-                verdict
-                    .as_ref()
-                    .map_or_else(|refusal| refusal.number == 28, |_| false)
+                refused_by(verdict, 28)
             });
             // A few bytes changed, sections with their CRC repaired.
             for _ in 0..1 + random.below(3) {

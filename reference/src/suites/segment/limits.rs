@@ -54,6 +54,7 @@ fn run(suite: &mut Suite) {
     let mut caller = Caller::default();
     packets(suite, &mut caller);
     units(suite, &mut caller);
+    among_others(suite, &mut caller);
     streams(suite, &mut caller);
 
     // Every length up to three packets and some more.
@@ -62,7 +63,7 @@ fn run(suite: &mut Suite) {
     for length in 0..=3 * SIZE + 20 {
         let part = &bytes[..length];
         let label = "every length up to three packets";
-        caller.check(suite, part, wide(part), &[label]);
+        caller.check_wide(suite, part, &[label]);
         let mut wrong = part.to_vec();
         if let Some(first) = wrong.first_mut() {
             *first = 0;
@@ -71,16 +72,10 @@ fn run(suite: &mut Suite) {
     }
     for count in 1..=3 {
         let part = &bytes[..count * SIZE];
-        caller.check_as(
-            suite,
-            part,
-            wide(part),
-            &["place of 33"],
-            |verdict| match verdict {
-                Ok(_) => count > 1,
-                Err(refusal) => (refusal.number, refusal.place) == (33, count as u64),
-            },
-        );
+        caller.check_wide_as(suite, part, &["place of 33"], |verdict| match verdict {
+            Ok(_) => count > 1,
+            Err(refusal) => (refusal.number, refusal.place) == (33, count as u64),
+        });
     }
     for packet in [
         Packet::null(),
@@ -89,7 +84,7 @@ fn run(suite: &mut Suite) {
         Packet::new(UNLISTED, false, Load::Nothing),
     ] {
         let bytes = segment(&[packet]);
-        caller.check(suite, &bytes, wide(&bytes), &["one packet"]);
+        caller.check_wide(suite, &bytes, &["one packet"]);
     }
 }
 
@@ -140,7 +135,11 @@ fn packets(suite: &mut Suite, caller: &mut Caller) {
             caller.check(suite, &wrong, rooms, &[label]);
         }
     }
-    // Units in all packets: each 64 packets.
+    full_packets(suite, caller);
+}
+
+/// Units in all packets: each 64 packets.
+fn full_packets(suite: &mut Suite, caller: &mut Caller) {
     let mut packets = head();
     while packets.len() + 64 <= MOST_PACKETS {
         packets.extend(Pes::new(9, None, &unit(64 * 184 - 14 - 9)).packets(AV1));
@@ -153,15 +152,14 @@ fn packets(suite: &mut Suite, caller: &mut Caller) {
     let accepted = segment::check(&bytes, wide(&bytes)).expect("it is right");
     let rooms = exact(&accepted.units);
     caller.check(suite, &bytes, rooms, &["65,535 packets"]);
-    caller.check(suite, &bytes, wide(&bytes), &["65,535 packets"]);
+    caller.check_wide(suite, &bytes, &["65,535 packets"]);
     let mut short = rooms;
     short.bytes -= 1;
     caller.check(suite, &bytes, short, &["65,535 packets"]);
 }
 
-/// 1,024 units and 1,025, and 34 among the other refusals.
+/// 1,024 units and 1,025.
 fn units(suite: &mut Suite, caller: &mut Caller) {
-    let short = Pes::new(3, None, &[0, 0, 1, 0x30]).packets(AV1);
     for count in [
         1,
         MOST_UNITS - 1,
@@ -188,23 +186,19 @@ fn units(suite: &mut Suite, caller: &mut Caller) {
             rooms.lengths = MOST_UNITS + 4;
             caller.check(suite, &bytes, rooms, &[label]);
         }
-        caller.check_as(
-            suite,
-            &bytes,
-            wide(&bytes),
-            &[label],
-            |verdict| match verdict {
-                Ok(accepted) => count <= MOST_UNITS && accepted.units.len() == count,
-                Err(refusal) => count > MOST_UNITS && refusal.number == 34,
-            },
-        );
+        caller.check_wide_as(suite, &bytes, &[label], |verdict| match verdict {
+            Ok(accepted) => count <= MOST_UNITS && accepted.units.len() == count,
+            Err(refusal) => count > MOST_UNITS && refusal.number == 34,
+        });
     }
+}
 
-    // What else can be wrong at the packet that begins the 1,025th unit, in pairs with 34 and with
-    // each other.
+/// 34 among the other refusals: what else can be wrong at the packet that begins the 1,025th unit, in
+/// pairs with 34 and with each other.
+fn among_others(suite: &mut Suite, caller: &mut Caller) {
     let mut packets = head();
     for _ in 0..MOST_UNITS - 1 {
-        packets.extend(short.clone());
+        packets.extend(Pes::new(3, None, &[0, 0, 1, 0x30]).packets(AV1));
     }
     let last = packets.len();
     packets.extend(Pes::new(4, None, &unit(30)).packets(AV1));
@@ -239,9 +233,7 @@ fn units(suite: &mut Suite, caller: &mut Caller) {
     let mut fewer = base.clone();
     fewer.packets.remove(5);
     let bytes = fewer.bytes();
-    caller.check_as(suite, &bytes, wide(&bytes), &["1,024 units"], |verdict| {
-        verdict.is_ok()
-    });
+    caller.check_wide_as(suite, &bytes, &["1,024 units"], |verdict| verdict.is_ok());
 }
 
 /// Twelve streams that all have packets, their counters going on by themselves; thirteen.
@@ -272,16 +264,10 @@ fn streams(suite: &mut Suite, caller: &mut Caller) {
                 _ => "fewer streams",
             };
             let bytes = segment(&packets);
-            caller.check_as(
-                suite,
-                &bytes,
-                wide(&bytes),
-                &[label],
-                |verdict| match verdict {
-                    Ok(accepted) => count < 13 && accepted.units.len() == 20,
-                    Err(refusal) => count == 13 && (refusal.number, refusal.place) == (27, 1),
-                },
-            );
+            caller.check_wide_as(suite, &bytes, &[label], |verdict| match verdict {
+                Ok(accepted) => count < 13 && accepted.units.len() == 20,
+                Err(refusal) => count == 13 && (refusal.number, refusal.place) == (27, 1),
+            });
             // A counter that is wrong, of each stream in turn, at its second packet and its last.
             for entry in &list {
                 let own: Vec<usize> = (3..packets.len())
@@ -291,7 +277,7 @@ fn streams(suite: &mut Suite, caller: &mut Caller) {
                     let mut bytes = bytes.clone();
                     let byte = &mut bytes[place * SIZE + 3];
                     *byte = (*byte & 0xF0) | ((*byte + 5) & 0x0F);
-                    caller.check(suite, &bytes, wide(&bytes), &[label]);
+                    caller.check_wide(suite, &bytes, &[label]);
                 }
             }
         }

@@ -1,6 +1,6 @@
 //! Rooms around every boundary of the three outputs.
 
-use crate::helpers::segment::make::make;
+use crate::helpers::segment::make::{Made, make};
 use crate::helpers::segment::{Caller, exact, wide};
 use crate::kit::{Definition, Random, Suite, labels};
 use reference::compose::{Load, segment};
@@ -8,23 +8,21 @@ use reference::segment::{CONDITIONS_8, Rooms};
 
 pub const SUITE: Definition = Definition {
     name: "segment-rooms",
-    labels: || {
-        let mut list = labels(CONDITIONS_8);
-        list.extend(labels(&[
-            "accepted",
-            "bytes",
-            "lengths",
-            "times",
-            "all three",
-            "exactly enough",
-            "one short",
-            "one more",
-            "none",
-        ]));
-        list
-    },
+    labels: || labels(&[CONDITIONS_8, LABELS].concat()),
     run,
 };
+
+const LABELS: &[&str] = &[
+    "accepted",
+    "bytes",
+    "lengths",
+    "times",
+    "all three",
+    "exactly enough",
+    "one short",
+    "one more",
+    "none",
+];
 
 /// How a room stands to its need.
 fn stand(room: usize, need: usize) -> &'static str {
@@ -41,6 +39,31 @@ fn stand(room: usize, need: usize) -> &'static str {
     }
 }
 
+/// The places in the output where the bytes of a unit or of a packet end, and some others.
+fn boundaries(random: &mut Random, made: &Made) -> Vec<usize> {
+    let need = exact(&made.accepted.units);
+    let mut boundaries = vec![0, need.bytes];
+    let mut at = 0;
+    for unit in &made.accepted.units {
+        boundaries.push(at);
+        at += unit.bytes.len();
+    }
+    for _ in 0..20 {
+        boundaries.push(random.below(need.bytes + 1));
+    }
+    let mut at = 0;
+    for packet in &made.packets {
+        match &packet.load {
+            Load::Bytes(payload) if packet.pid == made.accepted.pid => {
+                at += payload.len();
+                boundaries.push(at.min(need.bytes));
+            }
+            _ => {}
+        }
+    }
+    boundaries
+}
+
 fn run(suite: &mut Suite) {
     let mut caller = Caller::default();
     let mut random = Random::new(35);
@@ -50,26 +73,7 @@ fn run(suite: &mut Suite) {
         let wide = wide(&bytes);
         let need = exact(&made.accepted.units);
 
-        // The places where a packet's bytes end, and those around them.
-        let mut boundaries = vec![0, need.bytes];
-        let mut at = 0;
-        for unit in &made.accepted.units {
-            boundaries.push(at);
-            at += unit.bytes.len();
-        }
-        for _ in 0..20 {
-            boundaries.push(random.below(need.bytes + 1));
-        }
-        let mut at = 0;
-        for packet in &made.packets {
-            match &packet.load {
-                Load::Bytes(payload) if packet.pid == made.accepted.pid => {
-                    at += payload.len();
-                    boundaries.push(at.min(need.bytes));
-                }
-                _ => {}
-            }
-        }
+        let boundaries = boundaries(&mut random, &made);
         for boundary in boundaries {
             for room in boundary.saturating_sub(2)..=boundary + 2 {
                 let rooms = Rooms {

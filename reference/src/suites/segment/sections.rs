@@ -1,50 +1,47 @@
 //! PAT and PMT: every bit, byte, length and cut, with the CRC right and wrong; maps of all sizes.
 
+use crate::helpers::segment::Caller;
 use crate::helpers::segment::set_up::{
     AV1, MAP, OTHER, PROGRAM, SECOND, VIDEO, entries, more_entries, pat_body, pmt_body, unit,
 };
-use crate::helpers::segment::{Caller, wide};
 use crate::kit::{Definition, Random, Suite, labels};
 use reference::compose::{self, Entry, Load, Packet, Pes, Section, segment};
+use reference::crc::crc;
 use reference::descriptor::REGISTRATION;
 use reference::section::{CONDITIONS_25, CONDITIONS_26, CONDITIONS_28};
 
 pub const SUITE: Definition = Definition {
     name: "segment-sections",
-    labels: || {
-        let mut list = labels(CONDITIONS_25);
-        list.extend(labels(CONDITIONS_26));
-        list.extend(labels(CONDITIONS_28));
-        list.extend(labels(&[
-            "accepted",
-            "PAT: byte changed, CRC right",
-            "PAT: byte changed, CRC wrong",
-            "PAT: CRC changed",
-            "PAT: section length",
-            "PAT: entries",
-            "PMT: byte changed, CRC right",
-            "PMT: byte changed, CRC wrong",
-            "PMT: CRC changed",
-            "PMT: section length",
-            "PMT: two bytes changed, CRC right",
-            "PMT: cut, CRC right",
-            "PMT: entries",
-            "map of 0 streams",
-            "map of 1 stream",
-            "map of 12 streams",
-            "map of 13 streams",
-            "map of 14 streams",
-            "a twelfth that is wrong, then a thirteenth",
-            "a thirteenth that is wrong",
-            "thirteen, none of AV1",
-            "section of a full packet",
-            "payload and fill",
-            "later section",
-        ]));
-        list
-    },
+    labels: || labels(&[CONDITIONS_25, CONDITIONS_26, CONDITIONS_28, LABELS].concat()),
     run,
 };
+
+const LABELS: &[&str] = &[
+    "accepted",
+    "PAT: byte changed, CRC right",
+    "PAT: byte changed, CRC wrong",
+    "PAT: CRC changed",
+    "PAT: section length",
+    "PAT: entries",
+    "PMT: byte changed, CRC right",
+    "PMT: byte changed, CRC wrong",
+    "PMT: CRC changed",
+    "PMT: section length",
+    "PMT: two bytes changed, CRC right",
+    "PMT: cut, CRC right",
+    "PMT: entries",
+    "map of 0 streams",
+    "map of 1 stream",
+    "map of 12 streams",
+    "map of 13 streams",
+    "map of 14 streams",
+    "a twelfth that is wrong, then a thirteenth",
+    "a thirteenth that is wrong",
+    "thirteen, none of AV1",
+    "section of a full packet",
+    "payload and fill",
+    "later section",
+];
 
 /// The segment around both tables: a PCR, a unit, and the tables again.
 fn around(pat: &Section, pmt: &Section) -> Vec<Packet> {
@@ -65,12 +62,12 @@ struct Tables {
 impl Tables {
     fn pat(&mut self, suite: &mut Suite, pat: &Section, more: &[&str]) {
         let bytes = segment(&around(pat, &self.pmt));
-        self.caller.check(suite, &bytes, wide(&bytes), more);
+        self.caller.check_wide(suite, &bytes, more);
     }
 
     fn pmt(&mut self, suite: &mut Suite, pmt: &Section, more: &[&str]) {
         let bytes = segment(&around(&self.pat, pmt));
-        self.caller.check(suite, &bytes, wide(&bytes), more);
+        self.caller.check_wide(suite, &bytes, more);
     }
 
     fn map(&mut self, suite: &mut Suite, entries: &[Entry], more: &[&str]) {
@@ -85,17 +82,13 @@ fn each_byte(section: &Section, mut each: impl FnMut(&Section, bool)) {
             let mut changed = section.clone();
             changed.body[at] = value;
             each(&changed, true);
-            let kept = compose_crc(&section.body) ^ compose_crc(&changed.body);
+            let kept = crc(&section.body) ^ crc(&changed.body);
             changed.crc_flip = kept;
             if value == section.body[at] ^ 1 << (at % 8) || value == !section.body[at] {
                 each(&changed, false);
             }
         }
     }
-}
-
-fn compose_crc(body: &[u8]) -> u32 {
-    reference::crc::crc(body)
 }
 
 /// The bits of a CRC to turn over so that the decoder's elements end as those given: its 32 steps
@@ -122,31 +115,32 @@ fn run(suite: &mut Suite) {
     let (pat, pmt) = (tables.pat.clone(), tables.pmt.clone());
 
     // Every byte with every value.
-    let mut changed = Vec::new();
     each_byte(&pat, |section, right| {
-        changed.push((section.clone(), right))
-    });
-    for (section, right) in &changed {
-        let label = if *right {
-            "PAT: byte changed, CRC right"
-        } else {
-            "PAT: byte changed, CRC wrong"
+        let label = match right {
+            true => "PAT: byte changed, CRC right",
+            false => "PAT: byte changed, CRC wrong",
         };
         tables.pat(suite, section, &[label]);
-    }
-    changed.clear();
-    each_byte(&pmt, |section, right| {
-        changed.push((section.clone(), right))
     });
-    for (section, right) in &changed {
-        let label = if *right {
-            "PMT: byte changed, CRC right"
-        } else {
-            "PMT: byte changed, CRC wrong"
+    each_byte(&pmt, |section, right| {
+        let label = match right {
+            true => "PMT: byte changed, CRC right",
+            false => "PMT: byte changed, CRC wrong",
         };
         tables.pmt(suite, section, &[label]);
-    }
-    // Every bit of the CRC, and what leaves every bit in the decoder's elements.
+    });
+    crcs(suite, &mut tables, &mut random, &pat, &pmt);
+    lengths(suite, &mut tables, &pat, &pmt);
+    cuts(suite, &mut tables, &mut random, &pmt);
+    pat_entries(suite, &mut tables, &mut random);
+    maps(suite, &mut tables);
+    random_maps(suite, &mut tables, &mut random);
+    fills(suite, &mut tables);
+    later(suite, &mut tables, &mut random);
+}
+
+/// Every bit of the CRC, and what leaves every bit in the decoder's elements.
+fn crcs(suite: &mut Suite, tables: &mut Tables, random: &mut Random, pat: &Section, pmt: &Section) {
     for bit in 0..32 {
         for crc_flip in [1 << bit, flip_that_leaves(1 << bit)] {
             let mut section = pat.clone();
@@ -165,12 +159,14 @@ fn run(suite: &mut Suite) {
         section.crc_flip = random.next() as u32;
         tables.pmt(suite, &section, &["PMT: CRC changed"]);
     }
+}
 
-    // Every section length, the bytes being cut or filled with FF to it where they can be, the CRC
-    // right where the section ends.
+/// Every section length, the bytes being cut or filled with FF to it where they can be, the CRC
+/// right where the section ends.
+fn lengths(suite: &mut Suite, tables: &mut Tables, pat: &Section, pmt: &Section) {
     for length in 0..4096usize {
         for table in 0..2 {
-            let mut section = [&pat, &pmt][table].clone();
+            let mut section = [pat, pmt][table].clone();
             section.body[1] = section.body[1] & 0xF0 | (length >> 8) as u8;
             section.body[2] = length as u8;
             if length < 170 {
@@ -184,7 +180,10 @@ fn run(suite: &mut Suite) {
             }
         }
     }
-    // Cuts of a PMT, and bytes put in, with right length and CRC.
+}
+
+/// Cuts of a PMT, bytes put in, and two bytes changed, with right length and CRC.
+fn cuts(suite: &mut Suite, tables: &mut Tables, random: &mut Random, pmt: &Section) {
     for cut in 3..pmt.body.len() {
         let mut section = pmt.clone();
         section.body.truncate(cut);
@@ -213,12 +212,6 @@ fn run(suite: &mut Suite) {
         }
         tables.pmt(suite, &section, &["PMT: two bytes changed, CRC right"]);
     }
-
-    pat_entries(suite, &mut tables, &mut random);
-    maps(suite, &mut tables);
-    random_maps(suite, &mut tables, &mut random);
-    fills(suite, &mut tables);
-    later(suite, &mut tables, &mut random);
 }
 
 /// PATs of any entries.
@@ -311,7 +304,11 @@ fn maps(suite: &mut Suite, tables: &mut Tables) {
             }
         }
     }
-    // No AV1 entry at all, or two, or one of two by its stream type, with 11 to 13 entries.
+    odd_maps(suite, tables);
+}
+
+/// Maps with no AV1 entry or two, with bytes behind the last entry, and as long as a packet.
+fn odd_maps(suite: &mut Suite, tables: &mut Tables) {
     for count in 11..=13 {
         let mut entries = Vec::new();
         more_entries(&mut entries, count);
@@ -419,7 +416,7 @@ fn fills(suite: &mut Suite, tables: &mut Tables) {
                 let bytes = segment(&packets);
                 tables
                     .caller
-                    .check(suite, &bytes, wide(&bytes), &["payload and fill"]);
+                    .check_wide(suite, &bytes, &["payload and fill"]);
             }
         }
         for pointer in 0..=255 {
@@ -430,7 +427,7 @@ fn fills(suite: &mut Suite, tables: &mut Tables) {
                 let bytes = segment(&packets);
                 tables
                     .caller
-                    .check(suite, &bytes, wide(&bytes), &["payload and fill"]);
+                    .check_wide(suite, &bytes, &["payload and fill"]);
             }
         }
         // Adaptation fields of all sizes: the section fits, or does not end in the packet.
@@ -440,7 +437,7 @@ fn fills(suite: &mut Suite, tables: &mut Tables) {
             let bytes = segment(&packets);
             tables
                 .caller
-                .check(suite, &bytes, wide(&bytes), &["payload and fill"]);
+                .check_wide(suite, &bytes, &["payload and fill"]);
         }
     }
 }
@@ -455,15 +452,13 @@ fn later(suite: &mut Suite, tables: &mut Tables, random: &mut Random) {
                 for crc_right in [true, false] {
                     let mut packets = packets.clone();
                     let section = packets[at].section_mut();
-                    let before = compose_crc(&section.body);
+                    let before = crc(&section.body);
                     section.body[place] ^= 1 << bit;
                     if !crc_right {
-                        section.crc_flip = before ^ compose_crc(&section.body);
+                        section.crc_flip = before ^ crc(&section.body);
                     }
                     let bytes = segment(&packets);
-                    tables
-                        .caller
-                        .check(suite, &bytes, wide(&bytes), &["later section"]);
+                    tables.caller.check_wide(suite, &bytes, &["later section"]);
                 }
             }
         }
@@ -471,9 +466,7 @@ fn later(suite: &mut Suite, tables: &mut Tables, random: &mut Random) {
             let mut packets = packets.clone();
             packets[at].section_mut().crc_flip = 1 << bit;
             let bytes = segment(&packets);
-            tables
-                .caller
-                .check(suite, &bytes, wide(&bytes), &["later section"]);
+            tables.caller.check_wide(suite, &bytes, &["later section"]);
         }
         for _ in 0..300 {
             // Longer or shorter, alike at the front.
@@ -483,9 +476,7 @@ fn later(suite: &mut Suite, tables: &mut Tables, random: &mut Random) {
             section.body.resize(len, 0x11);
             section.set_length();
             let bytes = segment(&packets);
-            tables
-                .caller
-                .check(suite, &bytes, wide(&bytes), &["later section"]);
+            tables.caller.check_wide(suite, &bytes, &["later section"]);
         }
     }
     // The other table on the PID, equal to the first of its own PID.
@@ -493,13 +484,9 @@ fn later(suite: &mut Suite, tables: &mut Tables, random: &mut Random) {
     let count = swapped.len();
     swapped[count - 2].load = Load::Section(Section::new(pmt_body(&entries())));
     let bytes = segment(&swapped);
-    tables
-        .caller
-        .check(suite, &bytes, wide(&bytes), &["later section"]);
+    tables.caller.check_wide(suite, &bytes, &["later section"]);
     swapped[count - 2].load = Load::Section(Section::new(pat_body()));
     swapped[count - 1].load = Load::Section(Section::new(pat_body()));
     let bytes = segment(&swapped);
-    tables
-        .caller
-        .check(suite, &bytes, wide(&bytes), &["later section"]);
+    tables.caller.check_wide(suite, &bytes, &["later section"]);
 }

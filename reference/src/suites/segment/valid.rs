@@ -10,19 +10,17 @@ use reference::segment::Totals;
 
 pub const SUITE: Definition = Definition {
     name: "segment-valid",
-    labels: || {
-        let mut list = labels(FEATURES);
-        list.extend(labels(&[
-            "accepted",
-            "exact rooms",
-            "wide rooms",
-            "no rooms",
-            "the sample",
-        ]));
-        list
-    },
+    labels: || labels(&[FEATURES, LABELS].concat()),
     run,
 };
+
+const LABELS: &[&str] = &[
+    "accepted",
+    "exact rooms",
+    "wide rooms",
+    "no rooms",
+    "the sample",
+];
 
 fn one(suite: &mut Suite, caller: &mut Caller, made: &Made) {
     let bytes = segment(&made.packets);

@@ -1,7 +1,7 @@
 //! Headers cut at every byte, and at every bit with each fill of the byte in which the cut lies.
 
 use crate::helpers::obu::build;
-use crate::helpers::segment::{Caller, wide};
+use crate::helpers::segment::{Caller, refused_at};
 use crate::helpers::sequence::{
     Expected, FEATURES, Header, Made, another, bytes_of, check, obu, packets, unit_of, video,
 };
@@ -121,7 +121,7 @@ fn bits(suite: &mut Suite, caller: &mut Caller, random: &mut Random, made: &Made
             let content = bytes_of(&made.bits[..count], fill);
             let units = [unit_of(&[obu(random, &content)])];
             let bytes = segment(&packets(Some(video(&made.fields, 0, None)), &units));
-            caller.check(suite, &bytes, wide(&bytes), &[label]);
+            caller.check_wide(suite, &bytes, &[label]);
         }
     }
 }
@@ -144,12 +144,6 @@ fn run(suite: &mut Suite) {
         let units = [unit_of(&[build(1, 0, None, 1, &content[..count])])];
         let bytes = segment(&packets(Some(video(&made.fields, 0, None)), &units));
         let labels = ["42: reduced_still_picture_header, cut or not"];
-        caller.check_as(
-            suite,
-            &bytes,
-            wide(&bytes),
-            &labels,
-            |verdict| matches!(verdict, Err(refusal) if (refusal.number, refusal.place) == (42, 3)),
-        );
+        caller.check_wide_as(suite, &bytes, &labels, |verdict| refused_at(verdict, 42, 3));
     }
 }

@@ -11,21 +11,18 @@ use reference::sequence;
 
 pub const SUITE: Definition = Definition {
     name: "sequence-fields",
-    labels: || {
-        let mut list = labels(FEATURES);
-        list.extend(labels(&FOUND[..9]));
-        list.extend(labels(&[
-            "none found",
-            "no descriptor",
-            "hdr_wcg_idc is not compared",
-            "the delay is not compared",
-            "two differ",
-            "all differ",
-        ]));
-        list
-    },
+    labels: || labels(&[FEATURES, &FOUND[..9], LABELS].concat()),
     run,
 };
+
+const LABELS: &[&str] = &[
+    "none found",
+    "no descriptor",
+    "hdr_wcg_idc is not compared",
+    "the delay is not compared",
+    "two differ",
+    "all differ",
+];
 
 fn run(suite: &mut Suite) {
     let mut caller = Caller::default();

@@ -1,9 +1,9 @@
 //! Sequence headers of encoders, with what ffmpeg's trace_headers prints of them: against a
 //! descriptor that agrees, with each field changed alone, and cut at every byte.
 
-use crate::helpers::segment::{Caller, wide};
+use crate::helpers::segment::Caller;
 use crate::helpers::sequence::{FOUND, another, check, obu, packets, unit_of, video};
-use crate::kit::{Definition, Random, Suite, hex, labels};
+use crate::kit::{Definition, Random, Suite, from_hex, hex, labels};
 use reference::comparison::Found;
 use reference::compose::segment;
 use reference::sequence::{self, Fields};
@@ -154,11 +154,6 @@ const REAL: &[Real] = &[
 ];
 
 impl Real {
-    fn content(&self) -> Vec<u8> {
-        let digit = |at| u8::from_str_radix(&self.content[at..at + 2], 16).expect("it is hex");
-        (0..self.content.len()).step_by(2).map(digit).collect()
-    }
-
     /// The fields are those that are printed, and the inferred values: 0, but for subsampling.
     fn is_printed(&self) -> bool {
         let printed = self.printed.split(' ');
@@ -184,7 +179,7 @@ fn run(suite: &mut Suite) {
     let mut caller = Caller::default();
     let mut random = Random::new(404);
     for real in REAL {
-        let content = real.content();
+        let content = from_hex(real.content);
         let read = sequence::read(&content);
         let passed = read == Ok(real.fields) && real.is_printed();
         suite.case(&[real.from], passed, || {
@@ -203,7 +198,7 @@ fn run(suite: &mut Suite) {
             for count in 1..content.len() {
                 let units = [unit_of(&[obu(&mut random, &content[..count])])];
                 let bytes = segment(&packets(agreeing, &units));
-                caller.check(suite, &bytes, wide(&bytes), &["cut"]);
+                caller.check_wide(suite, &bytes, &["cut"]);
             }
         }
     }

@@ -1,7 +1,7 @@
 //! Several headers in a unit and in several units: the first in stream order that disagrees or is
 //! cut short; and what is not compared.
 
-use crate::helpers::segment::{Caller, wide};
+use crate::helpers::segment::{Caller, refused_by, wide};
 use crate::helpers::sequence::{
     Expected, FOUND, Header, Made, another, check, is, obu, packets, registered, unit_of, video,
 };
@@ -16,31 +16,29 @@ use reference::sequence::Fields;
 
 pub const SUITE: Definition = Definition {
     name: "sequence-units",
-    labels: || {
-        let mut list = labels(&FOUND);
-        list.extend(labels(&[
-            "two headers in one unit",
-            "only the second header of a unit",
-            "only the second unit",
-            "the last of 1,024 units",
-            "a later one differs in a lower field",
-            "cut short behind one that differs",
-            "one that differs behind one cut short",
-            "every header agrees",
-            "no header",
-            "no unit",
-            "no descriptor",
-            "under draft",
-            "other types are not compared",
-            "any bits",
-            "a header with bytes inserted",
-            "a closing 03 behind the header",
-            "refused: nothing is compared",
-        ]));
-        list
-    },
+    labels: || labels(&[&FOUND[..], LABELS].concat()),
     run,
 };
+
+const LABELS: &[&str] = &[
+    "two headers in one unit",
+    "only the second header of a unit",
+    "only the second unit",
+    "the last of 1,024 units",
+    "a later one differs in a lower field",
+    "cut short behind one that differs",
+    "one that differs behind one cut short",
+    "every header agrees",
+    "no header",
+    "no unit",
+    "no descriptor",
+    "under draft",
+    "other types are not compared",
+    "any bits",
+    "a header with bytes inserted",
+    "a closing 03 behind the header",
+    "refused: nothing is compared",
+];
 
 /// A header of the stream, and what its comparison with the stream's descriptor is.
 struct One {
@@ -78,32 +76,15 @@ fn first_difference(made: &Made, fields: &Fields) -> Option<Found> {
     (0..9).find(differs).map(Found::Field)
 }
 
-/// A stream of some units, each with some headers.
-fn any_stream(suite: &mut Suite, caller: &mut Caller, random: &mut Random) {
-    let base = Header::any(random);
-    let fields = base.make(random).fields;
-    let agree = random.pick(&[2, 5, 20]);
-    let mut units = Vec::new();
-    let mut all = Vec::new();
-    for index in 0..random.below(6) {
-        let mut headers = Vec::new();
-        for place in 0..random.pick(&[0, 0, 1, 1, 1, 2, 3]) {
-            let one = any_one(random, &base, &fields, agree);
-            headers.push(obu(random, &one.content));
-            all.push((index, place, one.found));
-        }
-        units.push(unit_of(&headers));
-    }
+/// What a stream of so many units has: of each header its unit, its place there and what is found.
+fn stream_labels(all: &[(usize, usize, Option<Found>)], units: usize) -> Vec<&'static str> {
     let found: Vec<_> = all.iter().filter(|(_, _, found)| found.is_some()).collect();
-    let expected = found
-        .first()
-        .map(|&&(unit, _, found)| (unit, found.unwrap()));
     let mut labels = Vec::new();
     if all.iter().any(|(_, place, _)| *place > 0) {
         labels.push("two headers in one unit");
     }
     match found[..] {
-        [] if units.is_empty() => labels.push("no unit"),
+        [] if units == 0 => labels.push("no unit"),
         [] if all.is_empty() => labels.push("no header"),
         [] => labels.push("every header agrees"),
         [&(0, place, _)] if place > 0 => labels.push("only the second header of a unit"),
@@ -131,6 +112,29 @@ fn any_stream(suite: &mut Suite, caller: &mut Caller, random: &mut Random) {
         }
         _ => {}
     }
+    labels
+}
+
+/// A stream of some units, each with some headers.
+fn any_stream(suite: &mut Suite, caller: &mut Caller, random: &mut Random) {
+    let base = Header::any(random);
+    let fields = base.make(random).fields;
+    let agree = random.pick(&[2, 5, 20]);
+    let mut units = Vec::new();
+    let mut all = Vec::new();
+    for index in 0..random.below(6) {
+        let mut headers = Vec::new();
+        for place in 0..random.pick(&[0, 0, 1, 1, 1, 2, 3]) {
+            let one = any_one(random, &base, &fields, agree);
+            headers.push(obu(random, &one.content));
+            all.push((index, place, one.found));
+        }
+        units.push(unit_of(&headers));
+    }
+    let expected: Expected = all
+        .iter()
+        .find_map(|&(unit, _, found)| found.map(|found| (unit, found)));
+    let labels = stream_labels(&all, units.len());
     let video = video(&fields, random.below(4) as u8, None);
     check(suite, caller, Some(video), &units, expected, &labels);
     check(suite, caller, None, &units, None, &["no descriptor"]);
@@ -148,13 +152,7 @@ fn any_stream(suite: &mut Suite, caller: &mut Caller, random: &mut Random) {
     wrong.push(last);
     let bytes = segment(&wrong);
     let labels = ["refused: nothing is compared"];
-    caller.check_as(
-        suite,
-        &bytes,
-        wide(&bytes),
-        &labels,
-        |verdict| matches!(verdict, Err(refusal) if refusal.number == 21),
-    );
+    caller.check_wide_as(suite, &bytes, &labels, |verdict| refused_by(verdict, 21));
 }
 
 /// 1,024 units of which one disagrees.
@@ -187,11 +185,19 @@ fn run(suite: &mut Suite) {
         any_stream(suite, &mut caller, &mut random);
     }
     many(suite, &mut caller, &mut random);
+    other_forms(suite, &mut caller, &mut random);
+    any_bits(suite, &mut caller, &mut random);
+    // A segment without unit, and without descriptor.
+    let bytes = segment(&packets(None, &[]));
+    caller.check_wide_as(suite, &bytes, &["no unit"], |verdict| is(verdict, None));
+}
 
+/// Other types, and payloads with inserted bytes or a closing 03.
+fn other_forms(suite: &mut Suite, caller: &mut Caller, random: &mut Random) {
     for _ in 0..3000 {
-        let made = Header::any(&mut random).make(&mut random);
+        let made = Header::any(random).make(random);
         let content_bytes = made.content();
-        let fields = another(&mut random, &made.fields, 1);
+        let fields = another(random, &made.fields, 1);
         // The bytes of a header in OBUs of other types.
         let mut list = Vec::new();
         for obu_type in [0, 5, 9, 14, 15] {
@@ -202,20 +208,20 @@ fn run(suite: &mut Suite) {
         let units = [carry(&list)];
         let video_of_other = Some(video(&fields, 0, None));
         let labels = ["other types are not compared"];
-        check(suite, &mut caller, video_of_other, &units, None, &labels);
+        check(suite, caller, video_of_other, &units, None, &labels);
 
         // Frames rich in zeros with a header, whose payload may have a closing 03.
-        let header = obu(&mut random, &content_bytes);
+        let header = obu(random, &content_bytes);
         let inserted = escaped(&header).len() > header.len();
         let ends = header.ends_with(&[0, 0]);
-        let unit = carry_closed(&mut random, &vec![header, vec![0x30, 0, 0]]);
+        let unit = carry_closed(random, &vec![header, vec![0x30, 0, 0]]);
         let mut labels = Vec::new();
         if inserted {
             labels.push("a header with bytes inserted");
         }
         let agreeing = Some(video(&made.fields, 0, None));
         if !ends {
-            check(suite, &mut caller, agreeing, &[unit], None, &labels);
+            check(suite, caller, agreeing, &[unit], None, &labels);
         }
         // Zeros behind the header, then the closing 03.
         let zeros = [&content_bytes[..], &[0, 0]].concat();
@@ -223,29 +229,25 @@ fn run(suite: &mut Suite) {
         payload.push(3);
         let unit = carry(&[payload, vec![0x30]]);
         let labels = ["a closing 03 behind the header"];
-        check(suite, &mut caller, agreeing, &[unit], None, &labels);
+        check(suite, caller, agreeing, &[unit], None, &labels);
     }
+}
 
-    // Any bits as a header, the fields of the descriptor near what they say.
+/// Any bits as a header, the fields of the descriptor near what they say.
+fn any_bits(suite: &mut Suite, caller: &mut Caller, random: &mut Random) {
     for _ in 0..60_000 {
         let len = 1 + random.length(40);
         let bytes = match random.below(3) {
-            0 => content(&mut random, len),
+            0 => content(random, len),
             _ => random.fill(len, |random| random.next() as u8),
         };
         let bytes = right_content(Type(1), bytes);
         let fields = match reference::sequence::read(&bytes) {
             Ok(fields) if random.one_in(2) => fields,
-            _ => Header::any(&mut random).make(&mut random).fields,
+            _ => Header::any(random).make(random).fields,
         };
-        let units = [unit_of(&[obu(&mut random, &bytes)])];
+        let units = [unit_of(&[obu(random, &bytes)])];
         let bytes = segment(&packets(Some(video(&fields, 0, None)), &units));
-        caller.check(suite, &bytes, wide(&bytes), &["any bits"]);
+        caller.check_wide(suite, &bytes, &["any bits"]);
     }
-
-    // A segment without unit, and without descriptor.
-    let bytes = segment(&packets(None, &[]));
-    caller.check_as(suite, &bytes, wide(&bytes), &["no unit"], |verdict| {
-        is(verdict, None)
-    });
 }

@@ -67,10 +67,14 @@ fn run(suite: &mut Suite) {
             caller.all(suite, &longer, &["more bytes"]);
         }
     }
-    // Several numbers of a sheet changed.
+    changed_numbers(suite, &mut caller, &mut random);
+}
+
+/// Several numbers of a sheet changed.
+fn changed_numbers(suite: &mut Suite, caller: &mut Caller, random: &mut Random) {
     for _ in 0..60_000 {
         let (streams, units) = (random.below(4), random.below(5));
-        let sheet = any_sheet(&mut random, streams, units, 4);
+        let sheet = any_sheet(random, streams, units, 4);
         let mut bytes = sheet.bytes();
         for _ in 0..random.below(4) {
             let at = 8 * random.below(bytes.len() / 8);

@@ -6,25 +6,23 @@ use reference::sheet::{CONDITIONS, MOST_LISTED_TIME, Obu, Sheet, Stream, Unit, a
 
 pub const SUITE: Definition = Definition {
     name: "sheet-conditions",
-    labels: || {
-        let mut list = labels(CONDITIONS);
-        list.extend(labels(&[
-            "read",
-            "found",
-            "no such unit",
-            "looked for in a bad sheet",
-            "at the boundary",
-            "past the boundary",
-            "two at the boundary",
-            "one at the boundary, one past it",
-            "two past the boundary",
-            "45 before 8",
-            "each change is what it is to be",
-        ]));
-        list
-    },
+    labels: || labels(&[CONDITIONS, LABELS].concat()),
     run,
 };
+
+const LABELS: &[&str] = &[
+    "read",
+    "found",
+    "no such unit",
+    "looked for in a bad sheet",
+    "at the boundary",
+    "past the boundary",
+    "two at the boundary",
+    "one at the boundary, one past it",
+    "two past the boundary",
+    "45 before 8",
+    "each change is what it is to be",
+];
 
 /// A sheet whose counts need not be right, with bytes more or less at its end.
 #[derive(Clone)]
@@ -134,8 +132,26 @@ fn changes() -> (Vec<Change>, Vec<Change>) {
         }
     }
 
-    // Lowest values.
-    let mut right = |change: fn(&mut Raw)| at.push(Box::new(change));
+    right_changes(|change| at.push(Box::new(change)));
+    wrong_changes(|change| past.push(Box::new(change)));
+    // Counts and lengths.
+    for section in 0..3 {
+        for added in [1, u64::MAX, 2, 1 << 59, 1 << 60, 1 << 63] {
+            past.push(Box::new(move |raw| raw.counts[section] = added));
+        }
+    }
+    for count in [1, 8, 16, 32] {
+        past.push(Box::new(move |raw| raw.more = count));
+        past.push(Box::new(move |raw| raw.less = count));
+    }
+    for count in [1 << 7, 290, 330, 350, 1000] {
+        past.push(Box::new(move |raw| raw.less = count));
+    }
+    (at, past)
+}
+
+/// Lowest values, and lists that are just right.
+fn right_changes(mut right: impl FnMut(fn(&mut Raw))) {
     right(|raw| raw.sheet.streams[1].pid = 0);
     right(|raw| raw.sheet.streams[1].pid = raw.sheet.streams[0].pid);
     right(|raw| raw.sheet.obus[0].offset = 0);
@@ -152,8 +168,10 @@ fn changes() -> (Vec<Change>, Vec<Change>) {
     });
     right(|raw| raw.sheet.obus = fill(raw, 0, 64));
     right(|raw| raw.sheet.obus = fill(raw, 2, 64));
+}
 
-    let mut wrong = |change: fn(&mut Raw)| past.push(Box::new(change));
+/// Values, lists and sums that are not right.
+fn wrong_changes(mut wrong: impl FnMut(fn(&mut Raw))) {
     wrong(|raw| raw.sheet.obus[5].offset = 17);
     wrong(|raw| raw.sheet.obus[1].offset = 4);
     wrong(|raw| raw.sheet.obus[1].offset = 0);
@@ -197,20 +215,6 @@ fn changes() -> (Vec<Change>, Vec<Change>) {
         raw.sheet.obus[0].offset = 1 << 63;
         raw.sheet.obus[0].length = 1 << 63;
     });
-    // Counts and lengths.
-    for section in 0..3 {
-        for added in [1, u64::MAX, 2, 1 << 59, 1 << 60, 1 << 63] {
-            past.push(Box::new(move |raw| raw.counts[section] = added));
-        }
-    }
-    for count in [1, 8, 16, 32] {
-        past.push(Box::new(move |raw| raw.more = count));
-        past.push(Box::new(move |raw| raw.less = count));
-    }
-    for count in [1 << 7, 290, 330, 350, 1000] {
-        past.push(Box::new(move |raw| raw.less = count));
-    }
-    (at, past)
 }
 
 /// The OBUs with so many of a unit.

@@ -93,6 +93,11 @@ fn run(suite: &mut Suite) {
             caller.all(suite, &one.bytes(), &[label]);
         }
     }
+    all_three(suite, &mut caller);
+}
+
+/// All three at their limits.
+fn all_three(suite: &mut Suite, caller: &mut Caller) {
     let mut whole = sheet(12, 1024, 64);
     caller.all(suite, &whole.bytes(), &["65,536 OBUs"]);
     let rooms = [24, 4096, 4 * 65_536];

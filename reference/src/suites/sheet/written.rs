@@ -9,7 +9,7 @@ use crate::helpers::sheet::Caller;
 use crate::kit::{Definition, Random, Suite, labels};
 use reference::compose::{Entry, Pes, sample, segment};
 use reference::payload::unescaped;
-use reference::segment::{Rooms, check_listing};
+use reference::segment::{Rooms, Unit as Carried, check_listing};
 use reference::sheet::{self, Sheet};
 use reference::unit;
 
@@ -95,12 +95,16 @@ fn one(
         caller.find(suite, &written, number, more);
     }
 
-    // "payload offset and length": what they cut out is what reading takes for the OBU.
-    let read = sheet::accept(&written).expect("every written sheet is read");
-    let mut passed = read == right;
+    cut_out(suite, &written, &right, &accepted.units, more);
+}
+
+/// "payload offset and length": what they cut out is what reading takes for the OBU.
+fn cut_out(suite: &mut Suite, written: &[u8], right: &Sheet, units: &[Carried], more: &[&str]) {
+    let read = sheet::accept(written).expect("every written sheet is read");
+    let mut passed = read == *right;
     let mut labels = [more, &["the payloads cut out"]].concat();
     let mut obus = read.obus.iter();
-    for carried in &accepted.units {
+    for carried in units {
         for obu in unit::accept(&carried.bytes).expect("the unit is right") {
             let line = obus.next().expect("there is a line for each");
             let from = line.offset as usize;
@@ -146,7 +150,7 @@ fn run(suite: &mut Suite) {
             let draft = draft_of(&mut random, &made, taken);
             let bytes = segment(&draft.packets);
             let mut labels = vec!["draft"];
-            let no_time = |unit: &reference::segment::Unit| unit.pts > (1 << 33) - 1;
+            let no_time = |unit: &Carried| unit.pts > (1 << 33) - 1;
             if draft.accepted.units.iter().any(no_time) {
                 labels.push("draft, a unit without times");
             }

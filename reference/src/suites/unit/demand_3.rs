@@ -75,6 +75,53 @@ fn every_cut(bytes: &[u8], mut hand: impl FnMut(List)) {
     }
 }
 
+/// A list and all strings that are accepted as it: the writer's is one, and shorter than the others.
+fn one(suite: &mut Suite, list: &List, strings: &[Vec<u8>]) {
+    let mut labels = vec![match list.len() {
+        1 => "one OBU",
+        2 => "two OBUs",
+        _ => "three OBUs",
+    }];
+    labels.push(match strings.len() {
+        1 => "one string for the list",
+        _ => "several strings for the list",
+    });
+    for obu in list {
+        match obu[0] / 8 {
+            1 => labels.push("sequence header"),
+            3 if obu[1] >= 0x80 => labels.push("frame shown again"),
+            3 => labels.push("frame in parts"),
+            _ => {}
+        }
+    }
+    let written = write(list);
+    let passed = match &written {
+        None => false,
+        Some(written) => {
+            strings.contains(written)
+                && strings
+                    .iter()
+                    .all(|s| s == written || s.len() > written.len())
+        }
+    };
+    if let Some(written) = &written {
+        if written.len() > list.concat().len() + 3 * list.len() {
+            labels.push("inserted 03");
+        }
+        for string in strings.iter().filter(|&string| string != written) {
+            labels.push(if string.ends_with(&[0, 0, 3]) {
+                "closing 03 at the unit's end"
+            } else {
+                "closing 03 before a start code"
+            });
+        }
+        if written.windows(4).skip(1).any(|four| four == [0, 0, 0, 1]) {
+            labels.push("zeros before a start code");
+        }
+    }
+    suite.case(&labels, passed, || format!("{list:?} {}", hex(&strings[0])));
+}
+
 fn compare(suite: &mut Suite, alphabet: &[u8], longest: usize, list_bytes: usize) {
     // All strings up to the length, by the list that they are accepted as.
     let mut strings_of: HashMap<List, Vec<Vec<u8>>> = HashMap::new();
@@ -85,49 +132,7 @@ fn compare(suite: &mut Suite, alphabet: &[u8], longest: usize, list_bytes: usize
     });
 
     for (list, strings) in &strings_of {
-        let mut labels = vec![match list.len() {
-            1 => "one OBU",
-            2 => "two OBUs",
-            _ => "three OBUs",
-        }];
-        labels.push(match strings.len() {
-            1 => "one string for the list",
-            _ => "several strings for the list",
-        });
-        for obu in list {
-            match obu[0] / 8 {
-                1 => labels.push("sequence header"),
-                3 if obu[1] >= 0x80 => labels.push("frame shown again"),
-                3 => labels.push("frame in parts"),
-                _ => {}
-            }
-        }
-        let written = write(list);
-        let passed = match &written {
-            None => false,
-            Some(written) => {
-                strings.contains(written)
-                    && strings
-                        .iter()
-                        .all(|s| s == written || s.len() > written.len())
-            }
-        };
-        if let Some(written) = &written {
-            if written.len() > list.concat().len() + 3 * list.len() {
-                labels.push("inserted 03");
-            }
-            for string in strings.iter().filter(|&string| string != written) {
-                labels.push(if string.ends_with(&[0, 0, 3]) {
-                    "closing 03 at the unit's end"
-                } else {
-                    "closing 03 before a start code"
-                });
-            }
-            if written.windows(4).skip(1).any(|four| four == [0, 0, 0, 1]) {
-                labels.push("zeros before a start code");
-            }
-        }
-        suite.case(&labels, passed, || format!("{list:?} {}", hex(&strings[0])));
+        one(suite, list, strings);
     }
 
     // Every list that writing accepts, and no other, has the writer's string among them.

@@ -29,14 +29,12 @@ pub const SUITE: Definition = Definition {
 };
 
 /// Conditions that take longer strings.
-const LONGER: [&str; 7] = [
+const LONGER: [&str; 5] = [
     "1: more than 64 OBUs",
     "2: over 1,573,056 bytes as carried",
     "2: over 1,048,576 bytes of OBUs",
     "5: leb128 over 8 bytes",
     "5: leb128 value over 4,294,967,295",
-    "7: delimiter not the first",
-    "7: 4 or 7 before a frame header",
 ];
 
 fn every(suite: &mut Suite, head: &[u8], alphabet: &[u8], longest: usize) {

@@ -8,20 +8,18 @@ use crate::kit::{Definition, Random, Suite, labels};
 
 pub const SUITE: Definition = Definition {
     name: "unit-headers",
-    labels: || {
-        let mut list = labels(CONDITIONS);
-        list.extend(labels(&[
-            "check: accepted",
-            "write: accepted",
-            "size right",
-            "size wrong",
-            "size of 9 bytes",
-            "low bit set",
-        ]));
-        list
-    },
+    labels: || labels(&[CONDITIONS, LABELS].concat()),
     run,
 };
+
+const LABELS: &[&str] = &[
+    "check: accepted",
+    "write: accepted",
+    "size right",
+    "size wrong",
+    "size of 9 bytes",
+    "low bit set",
+];
 
 fn one(suite: &mut Suite, caller: &mut Caller, list: &List, more: &[&str]) {
     let bytes = list.concat();

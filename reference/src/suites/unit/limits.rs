@@ -105,58 +105,48 @@ fn equal_parts(count: usize, total: usize, header: u8, fill: u8, frame: u8) -> L
 fn run(suite: &mut Suite) {
     let mut caller = Caller::default();
 
-    // Short OBUs, up to 64 of them and more.
+    counts(suite, &mut caller);
+    sums(suite, &mut caller);
+    carried_lengths(suite, &mut caller);
+}
+
+/// Short OBUs, up to 64 of them and more.
+fn counts(suite: &mut Suite, caller: &mut Caller) {
     for count in [1, 2, 63, 64, 65, 66, 128, 257] {
         one(
             suite,
-            &mut caller,
+            caller,
             &equal_parts(count, 2 * count, 0x78, 0x55, 0x30),
             &[],
         );
         one(
             suite,
-            &mut caller,
+            caller,
             &equal_parts(count, 4 * count, 0x00, 0x00, 0x30),
             &[3],
         );
     }
+}
 
-    // The OBUs' sum at its limit and one more, in one OBU and in many, of zeros and of others.
+/// The OBUs' sum at its limit and one more, in one OBU and in many, of zeros and of others.
+fn sums(suite: &mut Suite, caller: &mut Caller) {
     for total in [MOST_BYTES - 1, MOST_BYTES, MOST_BYTES + 1] {
-        one(
-            suite,
-            &mut caller,
-            &equal_parts(1, total, 0, 0x55, 0x30),
-            &[],
-        );
-        one(suite, &mut caller, &equal_parts(1, total, 0, 0, 0x30), &[3]);
-        one(
-            suite,
-            &mut caller,
-            &equal_parts(64, total, 0, 0, 0x30),
-            &[3],
-        );
-        one(
-            suite,
-            &mut caller,
-            &equal_parts(64, total, 0, 0, 0x00),
-            &[3],
-        );
+        one(suite, caller, &equal_parts(1, total, 0, 0x55, 0x30), &[]);
+        one(suite, caller, &equal_parts(1, total, 0, 0, 0x30), &[3]);
+        one(suite, caller, &equal_parts(64, total, 0, 0, 0x30), &[3]);
+        one(suite, caller, &equal_parts(64, total, 0, 0, 0x00), &[3]);
     }
+    one(suite, caller, &equal_parts(64, MOST_BYTES, 0, 0, 0x30), &[]);
     one(
         suite,
-        &mut caller,
-        &equal_parts(64, MOST_BYTES, 0, 0, 0x30),
-        &[],
-    );
-    one(
-        suite,
-        &mut caller,
+        caller,
         &equal_parts(64, MOST_BYTES, 0x78, 0x55, 0x30),
         &[],
     );
+}
 
-    // The carried length at its limit and one more, where nothing else or something else is wrong.
+/// The carried length at its limit and one more, where nothing else or something else is wrong.
+fn carried_lengths(suite: &mut Suite, caller: &mut Caller) {
     for total in [
         MOST_CARRIED - 1,
         MOST_CARRIED,

@@ -8,18 +8,16 @@ use reference::order;
 
 pub const SUITE: Definition = Definition {
     name: "unit-order",
-    labels: || {
-        let mut list = labels(order::CONDITIONS);
-        list.extend(labels(&[
-            "6: tile list",
-            "check: accepted",
-            "write: accepted",
-            "long list",
-        ]));
-        list
-    },
+    labels: || labels(&[order::CONDITIONS, LABELS].concat()),
     run,
 };
+
+const LABELS: &[&str] = &[
+    "6: tile list",
+    "check: accepted",
+    "write: accepted",
+    "long list",
+];
 
 fn one(suite: &mut Suite, caller: &mut Caller, kinds: &[Kind], more: &[&str]) {
     let list: List = kinds.iter().map(|&kind| shortest_obu(kind)).collect();

@@ -5,21 +5,19 @@ use crate::kit::{Definition, Random, Suite, labels};
 
 pub const SUITE: Definition = Definition {
     name: "unit-rooms",
-    labels: || {
-        let mut list = labels(ROOMS);
-        list.extend(labels(&[
-            "read: accepted",
-            "write: accepted",
-            "8: one byte short",
-            "8: no room",
-            "8: several bytes short",
-            "room exactly enough",
-            "room more than enough",
-        ]));
-        list
-    },
+    labels: || labels(&[ROOMS, LABELS].concat()),
     run,
 };
+
+const LABELS: &[&str] = &[
+    "read: accepted",
+    "write: accepted",
+    "8: one byte short",
+    "8: no room",
+    "8: several bytes short",
+    "room exactly enough",
+    "room more than enough",
+];
 
 fn run(suite: &mut Suite) {
     let mut caller = Caller::default();

@@ -28,14 +28,31 @@ fn too_long(first: u8, second: u8) -> Vec<u8> {
     carry(&[long(first, 600_000), long(second, 448_577)])
 }
 
+/// A list of so many OBUs: padding, then a frame.
+fn padded(count: usize) -> List {
+    let mut list = vec![vec![0x78]; count - 1];
+    list.push(vec![0x30]);
+    list
+}
+
+/// The lister's unit: zeros before a start code belong to the payload.
+const UNIT: [u8; 12] = [0, 0, 1, 0x12, 0, 0, 0, 1, 0x30, 0xAA, 0, 0];
+
 fn run(suite: &mut Suite) {
     let mut caller = Caller::default();
 
-    // The lister's unit: zeros before a start code belong to the payload.
-    let unit = [0, 0, 1, 0x12, 0, 0, 0, 1, 0x30, 0xAA, 0, 0];
+    listed_unit(suite);
+    reading_refuses(suite, &mut caller);
+    reading_accepts(suite, &mut caller);
+    writing(suite, &mut caller);
+    walks(suite, &mut caller);
+}
+
+/// The lister's unit, read and written.
+fn listed_unit(suite: &mut Suite) {
     let mut out = [0xEE; 8];
     let mut lens = [77; 3];
-    let got = av1ts::unit::read_unit(&unit, &mut out, &mut lens);
+    let got = av1ts::unit::read_unit(&UNIT, &mut out, &mut lens);
     let passed =
         got == Answer {
             number: 0,
@@ -52,19 +69,13 @@ fn run(suite: &mut Suite) {
         got == Answer {
             count: 12,
             ..Answer::default()
-        } && out[..12] == unit
+        } && out[..12] == UNIT
             && out[12..] == [0xEE, 0xEE];
     suite.case(&["worked: writing"], passed, || format!("{got:?}"));
+}
 
-    // Units that reading refuses: number and place.
-    let padding: List = vec![vec![0x78]; 63];
-    let with_frame = |mut list: List| {
-        list.push(vec![0x30]);
-        list
-    };
-    let sixty_four = with_frame(padding.clone());
-    let mut sixty_five = sixty_four.clone();
-    sixty_five.insert(0, vec![0x78]);
+/// Units that reading refuses: number and place.
+fn reading_refuses(suite: &mut Suite, caller: &mut Caller) {
     let units: Vec<(Vec<u8>, u64, u64)> = vec![
         (vec![0, 0, 1, 0, 0, 1, 0x30], 3, 0),
         (vec![0, 0, 1, 0x12, 0], 7, 1),
@@ -85,7 +96,7 @@ fn run(suite: &mut Suite) {
         (vec![0, 0, 1, 0x30, 0, 0, 3, 4], 10, 0),
         (vec![0, 0, 1, 0x12, 0, 0, 0, 0, 1, 0x30], 5, 0),
         (vec![0, 0, 1, 0x12, 0, 0, 0, 0, 0, 1, 0x30], 10, 0),
-        (carry(&sixty_five), 1, 0),
+        (carry(&padded(65)), 1, 0),
         (too_long(0x40, 0x30), 6, 0),
         (too_long(0x78, 0x30), 2, 0),
         (too_long(0x30, 0x30), 2, 0),
@@ -111,8 +122,10 @@ fn run(suite: &mut Suite) {
         caller.check(suite, &unit, &[]);
         caller.read_wide(suite, &unit, &[]);
     }
+}
 
-    // Units that reading accepts: OBUs, bytes, dropped.
+/// Units that reading accepts: OBUs, bytes, dropped.
+fn reading_accepts(suite: &mut Suite, caller: &mut Caller) {
     let units: Vec<(Vec<u8>, u64, u64, u64)> = vec![
         (vec![0, 0, 1, 0x32, 0x82, 0, 0xAA, 0xBB], 1, 5, 0),
         (vec![0, 0, 1, 0x30, 0, 0, 3], 1, 3, 1),
@@ -125,7 +138,7 @@ fn run(suite: &mut Suite) {
             7,
             2,
         ),
-        (carry(&sixty_four), 64, 64, 0),
+        (carry(&padded(64)), 64, 64, 0),
     ];
     for (unit, count, bytes, dropped) in units {
         let expected = Answer {
@@ -143,11 +156,13 @@ fn run(suite: &mut Suite) {
         caller.check(suite, &unit, &[]);
         caller.read_wide(suite, &unit, &[]);
     }
+}
 
-    // Lists that writing refuses, and lists that it takes.
+/// Lists that writing refuses, and lists that it takes.
+fn writing(suite: &mut Suite, caller: &mut Caller) {
     let lists: Vec<(List, u64, u64)> = vec![
         (vec![], 1, 0),
-        (sixty_five, 1, 0),
+        (padded(65), 1, 0),
         (vec![vec![0x12, 0]], 7, 1),
         (vec![vec![0x30, 0xAA], vec![0x78, 0x80]], 7, 1),
         (vec![vec![0x40]], 6, 0),
@@ -165,7 +180,7 @@ fn run(suite: &mut Suite) {
             0,
         ),
         (vec![vec![0x10], vec![0x18, 0x80]], 0, 0),
-        (sixty_four, 0, 0),
+        (padded(64), 0, 0),
     ];
     for (list, number, place) in lists {
         let carried = carry_list(&list);
@@ -196,8 +211,10 @@ fn run(suite: &mut Suite) {
         });
         caller.write(suite, &list.concat(), &lengths(&list), 300, &[]);
     }
+}
 
-    // A walk over 00 00 01 alone starts, and its step 0 refuses with 3.
+/// A walk over 00 00 01 alone starts, and its step 0 refuses with 3.
+fn walks(suite: &mut Suite, caller: &mut Caller) {
     let start = av1ts::walk::walk_start(&[0, 0, 1]);
     let step = av1ts::walk::walk_step(&[0, 0, 1], 0);
     let passed = start == Default::default()
@@ -208,5 +225,5 @@ fn run(suite: &mut Suite) {
             };
     suite.case(&["worked: walk"], passed, || format!("{start:?} {step:?}"));
     caller.walk(suite, &[0, 0, 1], &[]);
-    caller.walk(suite, &unit, &[]);
+    caller.walk(suite, &UNIT, &[]);
 }

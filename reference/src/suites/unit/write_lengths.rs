@@ -61,42 +61,8 @@ fn run(suite: &mut Suite) {
         let place = random.below(right.len());
         one(suite, &mut caller, &bytes, &right);
 
-        // One length changed.
-        for other in [
-            0,
-            right[place] - 1,
-            right[place] + 1,
-            right[place] + (1 << 31),
-            right[place] + (1 << 32),
-            right[place] + (1 << 63),
-            usize::MAX,
-            bytes.len(),
-            random.next() as usize,
-        ] {
-            let mut lengths = right.clone();
-            lengths[place] = other;
-            one(suite, &mut caller, &bytes, &lengths);
-        }
-
-        // Two lengths or more that pass the machine's range; the sum is right modulo 2 to the 64th.
-        let mut lengths = right.clone();
-        lengths.push(usize::MAX);
-        one(suite, &mut caller, &bytes, &lengths);
-        lengths.push(1);
-        one(suite, &mut caller, &bytes, &lengths);
-        let mut lengths = right.clone();
-        lengths.push(1 << 63);
-        one(suite, &mut caller, &bytes, &lengths);
-        lengths.insert(0, 1 << 63);
-        one(suite, &mut caller, &bytes, &lengths);
-        if right.len() > 1 {
-            let mut lengths = right.clone();
-            let other = (place + 1) % right.len();
-            lengths[place] = random.next() as usize;
-            lengths[other] = right[other].wrapping_add(right[place].wrapping_sub(lengths[place]));
-            one(suite, &mut caller, &bytes, &lengths);
-        }
-
+        one_changed(suite, &mut caller, &mut random, &bytes, &right, place);
+        past_the_range(suite, &mut caller, &mut random, &bytes, &right, place);
         // A length left out, one of 0 put in, the bytes cut or longer.
         let mut lengths = right.clone();
         lengths.remove(place);
@@ -108,28 +74,85 @@ fn run(suite: &mut Suite) {
         one(suite, &mut caller, &[&bytes[..], &[0x30]].concat(), &right);
     }
 
-    // Sums of 65 lengths and none, and 64 lengths that all but wrap or do.
-    for bytes in [&[][..], &[0x30], &[0x30, 0xAA]] {
-        one(suite, &mut caller, bytes, &[]);
-        one(suite, &mut caller, bytes, &[0]);
-        one(suite, &mut caller, bytes, &[usize::MAX]);
-        one(suite, &mut caller, bytes, &[1; 65]);
-        one(suite, &mut caller, bytes, &[usize::MAX; 65]);
-        one(suite, &mut caller, bytes, &[1 << 58; 64]);
-        one(suite, &mut caller, bytes, &[(1 << 58) - 1; 64]);
-        one(suite, &mut caller, bytes, &[usize::MAX; 64]);
-        let mut lengths = [usize::MAX; 64];
-        lengths[63] = 63 + bytes.len();
-        one(suite, &mut caller, bytes, &lengths);
-        let mut lengths = [1 << 58; 64];
-        lengths[5] += bytes.len();
-        one(suite, &mut caller, bytes, &lengths);
-    }
-
+    many_lengths(suite, &mut caller);
     // One byte over the limit, with lengths that are right and ones that are not.
     let bytes = vec![0x30; unit::MOST_BYTES + 1];
     one(suite, &mut caller, &bytes, &[bytes.len()]);
     one(suite, &mut caller, &bytes, &[unit::MOST_BYTES]);
     one(suite, &mut caller, &bytes[1..], &[bytes.len()]);
     one(suite, &mut caller, &bytes[1..], &[unit::MOST_BYTES]);
+}
+
+/// One length changed.
+fn one_changed(
+    suite: &mut Suite,
+    caller: &mut Caller,
+    random: &mut Random,
+    bytes: &[u8],
+    right: &[usize],
+    place: usize,
+) {
+    for other in [
+        0,
+        right[place] - 1,
+        right[place] + 1,
+        right[place] + (1 << 31),
+        right[place] + (1 << 32),
+        right[place] + (1 << 63),
+        usize::MAX,
+        bytes.len(),
+        random.next() as usize,
+    ] {
+        let mut lengths = right.to_vec();
+        lengths[place] = other;
+        one(suite, caller, bytes, &lengths);
+    }
+}
+
+/// Two lengths or more that pass the machine's range; the sum is right modulo 2 to the 64th.
+fn past_the_range(
+    suite: &mut Suite,
+    caller: &mut Caller,
+    random: &mut Random,
+    bytes: &[u8],
+    right: &[usize],
+    place: usize,
+) {
+    let mut lengths = right.to_vec();
+    lengths.push(usize::MAX);
+    one(suite, caller, bytes, &lengths);
+    lengths.push(1);
+    one(suite, caller, bytes, &lengths);
+    let mut lengths = right.to_vec();
+    lengths.push(1 << 63);
+    one(suite, caller, bytes, &lengths);
+    lengths.insert(0, 1 << 63);
+    one(suite, caller, bytes, &lengths);
+    if right.len() > 1 {
+        let mut lengths = right.to_vec();
+        let other = (place + 1) % right.len();
+        lengths[place] = random.next() as usize;
+        lengths[other] = right[other].wrapping_add(right[place].wrapping_sub(lengths[place]));
+        one(suite, caller, bytes, &lengths);
+    }
+}
+
+/// Sums of 65 lengths and none, and 64 lengths that all but wrap or do.
+fn many_lengths(suite: &mut Suite, caller: &mut Caller) {
+    for bytes in [&[][..], &[0x30], &[0x30, 0xAA]] {
+        one(suite, caller, bytes, &[]);
+        one(suite, caller, bytes, &[0]);
+        one(suite, caller, bytes, &[usize::MAX]);
+        one(suite, caller, bytes, &[1; 65]);
+        one(suite, caller, bytes, &[usize::MAX; 65]);
+        one(suite, caller, bytes, &[1 << 58; 64]);
+        one(suite, caller, bytes, &[(1 << 58) - 1; 64]);
+        one(suite, caller, bytes, &[usize::MAX; 64]);
+        let mut lengths = [usize::MAX; 64];
+        lengths[63] = 63 + bytes.len();
+        one(suite, caller, bytes, &lengths);
+        let mut lengths = [1 << 58; 64];
+        lengths[5] += bytes.len();
+        one(suite, caller, bytes, &lengths);
+    }
 }

@@ -8,31 +8,29 @@ use reference::walk::{self, Step::Refused};
 
 pub const SUITE: Definition = Definition {
     name: "walk",
-    labels: || {
-        let mut list = labels(WALKS);
-        list.extend(labels(&[
-            "walk: starts",
-            "walk: a payload",
-            "walk: stays at the end",
-            "walk: 9: no start code at the place",
-            "walk: stays at 9",
-            "walk: no 1",
-            "walk: no 2",
-            "place: 0, no bytes",
-            "place: 0, no start code",
-            "place: a start code",
-            "place: a start code, none at the head",
-            "place: a start code behind a step that refuses",
-            "place: a start code that refuses, behind another",
-            "place: the unit's length",
-            "place: inside the unit, no start code",
-            "place: past the unit",
-            "place: far past the unit",
-        ]));
-        list
-    },
+    labels: || labels(&[WALKS, LABELS].concat()),
     run,
 };
+
+const LABELS: &[&str] = &[
+    "walk: starts",
+    "walk: a payload",
+    "walk: stays at the end",
+    "walk: 9: no start code at the place",
+    "walk: stays at 9",
+    "walk: no 1",
+    "walk: no 2",
+    "place: 0, no bytes",
+    "place: 0, no start code",
+    "place: a start code",
+    "place: a start code, none at the head",
+    "place: a start code behind a step that refuses",
+    "place: a start code that refuses, behind another",
+    "place: the unit's length",
+    "place: inside the unit, no start code",
+    "place: past the unit",
+    "place: far past the unit",
+];
 
 /// How a place stands to a unit.
 fn place_label(carried: &[u8], at: usize) -> &'static str {
@@ -77,40 +75,7 @@ fn run(suite: &mut Suite) {
     let mut caller = Caller::default();
     let mut random = Random::new(10);
 
-    // Units of any payloads, legal or not.
-    for round in 0..6000 {
-        let count = if round % 20 == 0 {
-            60 + random.below(40)
-        } else {
-            1 + random.below(4)
-        };
-        let mut payloads = Vec::new();
-        for _ in 0..count {
-            let len = random.below(7);
-            let rich = random.one_in(3);
-            payloads.push(random.fill(len, |random| {
-                if rich {
-                    random.pick(&[0, 0, 0, 2, 3, 4])
-                } else {
-                    random.pick(&[0, 3, 4, 0x30])
-                }
-            }));
-        }
-        let carried = carry(&payloads);
-        let more: &[&str] = if start_codes(&carried).len() > 64 {
-            &["walk: no 1"]
-        } else {
-            &[]
-        };
-        caller.walk(suite, &carried, more);
-        caller.walk_as_reading(suite, &carried);
-        if round % 4 == 0 && carried.len() < 60 {
-            everywhere(suite, &mut caller, &carried);
-            everywhere(suite, &mut caller, &carried[1..]);
-            everywhere(suite, &mut caller, &carried[3..]);
-        }
-    }
-
+    any_payloads(suite, &mut caller, &mut random);
     // Legal units of more than 64 payloads, walked to the end.
     for count in [64, 65, 66, 300] {
         let carried = carry(&vec![vec![0x30, 0]; count]);
@@ -147,5 +112,41 @@ fn run(suite: &mut Suite) {
         caller.walk(suite, &carried, &["walk: no 2"]);
         carried[total - 3..].copy_from_slice(&[0, 0, 1]);
         caller.walk(suite, &carried, &["walk: no 2"]);
+    }
+}
+
+/// Units of any payloads, legal or not.
+fn any_payloads(suite: &mut Suite, caller: &mut Caller, random: &mut Random) {
+    for round in 0..6000 {
+        let count = if round % 20 == 0 {
+            60 + random.below(40)
+        } else {
+            1 + random.below(4)
+        };
+        let mut payloads = Vec::new();
+        for _ in 0..count {
+            let len = random.below(7);
+            let rich = random.one_in(3);
+            payloads.push(random.fill(len, |random| {
+                if rich {
+                    random.pick(&[0, 0, 0, 2, 3, 4])
+                } else {
+                    random.pick(&[0, 3, 4, 0x30])
+                }
+            }));
+        }
+        let carried = carry(&payloads);
+        let more: &[&str] = if start_codes(&carried).len() > 64 {
+            &["walk: no 1"]
+        } else {
+            &[]
+        };
+        caller.walk(suite, &carried, more);
+        caller.walk_as_reading(suite, &carried);
+        if round % 4 == 0 && carried.len() < 60 {
+            everywhere(suite, caller, &carried);
+            everywhere(suite, caller, &carried[1..]);
+            everywhere(suite, caller, &carried[3..]);
+        }
     }
 }

@@ -72,17 +72,16 @@ pub struct Segment {
     /// None where each sequence header agrees with the video descriptor, or there is none to compare
     /// with.
     pub mismatch: Option<Mismatch>,
-    bytes: Vec<u8>,
-    lengths: Vec<usize>,
-    times: Vec<u64>,
+    outputs: Outputs,
 }
 
 impl Segment {
     /// The access units, in order.
     pub fn units(&self) -> impl Iterator<Item = AccessUnit<'_>> + '_ {
-        let mut rest = &self.bytes[..];
-        let times = self.times.chunks_exact(2);
-        self.lengths.iter().zip(times).map(move |(&length, times)| {
+        let mut rest = &self.outputs.bytes[..];
+        let times = self.outputs.times.chunks_exact(2);
+        let lengths = self.outputs.lengths.iter();
+        lengths.zip(times).map(move |(&length, times)| {
             let (carried, others) = rest.split_at(length);
             rest = others;
             AccessUnit {
@@ -130,17 +129,16 @@ pub fn check_segment(packets: &[u8]) -> Result<Segment, Refused> {
 /// # Ok::<(), Box<dyn std::error::Error>>(())
 /// ```
 pub fn check_segment_edition(edition: Edition, packets: &[u8]) -> Result<Segment, Refused> {
-    let mut bytes = vec![0; packets.len().min(MOST_SEGMENT_BYTES)];
-    let mut lengths = vec![0; MOST_UNITS];
-    let mut times = vec![0; 2 * MOST_UNITS];
-    let edition = edition.number();
-    let answer =
-        segment::check_segment_edition(edition, packets, &mut bytes, &mut lengths, &mut times);
+    let mut outputs = Outputs::of(packets);
+    let answer = segment::check_segment_edition(
+        edition.number(),
+        packets,
+        &mut outputs.bytes,
+        &mut outputs.lengths,
+        &mut outputs.times,
+    );
     Refused::check(answer.number, answer.place)?;
-    let units = answer.units as usize;
-    lengths.truncate(units);
-    times.truncate(2 * units);
-    bytes.truncate(lengths.iter().sum());
+    outputs.cut(answer.units as usize);
     Ok(Segment {
         program: answer.program as u16,
         pid: answer.pid as u16,
@@ -152,10 +150,34 @@ pub fn check_segment_edition(edition: Edition, packets: &[u8]) -> Result<Segment
             unlisted: answer.unlisted as usize,
         },
         mismatch: mismatch(&answer),
-        bytes,
-        lengths,
-        times,
+        outputs,
     })
+}
+
+/// The outputs of a check: the units back to back, their lengths, and their times in turn.
+#[derive(Clone, Debug, PartialEq, Eq)]
+pub(super) struct Outputs {
+    pub bytes: Vec<u8>,
+    pub lengths: Vec<usize>,
+    pub times: Vec<u64>,
+}
+
+impl Outputs {
+    /// With room for whatever the packets hold.
+    pub fn of(packets: &[u8]) -> Outputs {
+        Outputs {
+            bytes: vec![0; packets.len().min(MOST_SEGMENT_BYTES)],
+            lengths: vec![0; MOST_UNITS],
+            times: vec![0; 2 * MOST_UNITS],
+        }
+    }
+
+    /// What so many units have written.
+    fn cut(&mut self, units: usize) {
+        self.lengths.truncate(units);
+        self.times.truncate(2 * units);
+        self.bytes.truncate(self.lengths.iter().sum());
+    }
 }
 
 fn mismatch(answer: &segment::Segment) -> Option<Mismatch> {

@@ -1,7 +1,7 @@
 //! The sheet beside a segment.
 
-use super::segment::Edition;
-use super::{MOST_OBUS, MOST_SEGMENT_BYTES, MOST_UNITS, Refused};
+use super::segment::{Edition, Outputs};
+use super::{MOST_OBUS, MOST_UNITS, Refused};
 use crate::sheet;
 
 /// The most streams of a sheet.
@@ -69,16 +69,14 @@ impl Sheet {
     /// # Ok::<(), Box<dyn std::error::Error>>(())
     /// ```
     pub fn write(edition: Edition, packets: &[u8]) -> Result<Vec<u8>, Refused> {
-        let mut out = vec![0; packets.len().min(MOST_SEGMENT_BYTES)];
-        let mut lengths = vec![0; MOST_UNITS];
-        let mut times = vec![0; 2 * MOST_UNITS];
+        let mut outputs = Outputs::of(packets);
         let mut bytes = vec![0; Sheet::MOST_BYTES];
         let answer = sheet::write_sheet(
             edition.number(),
             packets,
-            &mut out,
-            &mut lengths,
-            &mut times,
+            &mut outputs.bytes,
+            &mut outputs.lengths,
+            &mut outputs.times,
             &mut bytes,
         );
         Refused::check(answer.number, answer.place)?;

@@ -51,7 +51,7 @@ pub fn shown_time(ticks: u64) -> String {
 }
 
 /// A time and its seconds, null where there is none.
-pub fn json_time(ticks: u64) -> (Json, Json) {
+fn json_time(ticks: u64) -> (Json, Json) {
     if ticks == NO_TIME {
         (Json::Null, Json::Null)
     } else {

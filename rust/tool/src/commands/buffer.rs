@@ -63,9 +63,5 @@ fn run(args: &Args, screen: &mut Screen) -> Done {
     };
     screen.text(&text)?;
     let fine = fill.refused.is_none() && fill.above.is_none();
-    Ok(if fine {
-        Verdict::Accepted
-    } else {
-        Verdict::Refused
-    })
+    Ok(Verdict::accepted_if(fine))
 }

@@ -1,8 +1,8 @@
 //! av1ts descriptor
 
-use super::{Command, refused};
+use super::{Command, print};
 use crate::args::{Args, Shape, number};
-use crate::failure::{Done, Failure, Verdict, fail};
+use crate::failure::{Done, Failure, fail};
 use crate::hex;
 use crate::json::Json;
 use crate::library::{self, Fields, Refused};
@@ -52,16 +52,7 @@ fn run(args: &Args, screen: &mut Screen) -> Done {
             read.map(|fields| lines(&findings(&fields), ""))
         }
     };
-    match text {
-        Ok(text) => {
-            screen.text(&text)?;
-            Ok(Verdict::Accepted)
-        }
-        Err(why) => {
-            say(&refused("descriptor", why, ""));
-            Ok(Verdict::Refused)
-        }
-    }
+    print(screen, "descriptor", text)
 }
 
 fn rewrite(bytes: &[u8]) -> Result<String, Refused> {

@@ -40,10 +40,7 @@ fn run(args: &Args, screen: &mut Screen) -> Done {
     } else {
         screen.text(&text(&name, &unit, &listing, args.has("--headers")))?;
     }
-    Ok(match listing.verdict {
-        Ok(_) => Verdict::Accepted,
-        Err(_) => Verdict::Refused,
-    })
+    Ok(Verdict::accepted_if(listing.verdict.is_ok()))
 }
 
 fn text(name: &str, unit: &[u8], listing: &Listing, headers: bool) -> String {

@@ -1,13 +1,13 @@
 //! av1ts mastering
 
-use super::{Command, refused};
+use super::{Command, print};
 use crate::args::{Args, Shape, number};
-use crate::failure::{Done, Failure, Verdict, fail};
+use crate::failure::{Done, Failure, fail};
 use crate::hex;
 use crate::json::Json;
 use crate::library;
 use crate::reading::finding::{Finding, lines};
-use crate::screen::{Screen, say};
+use crate::screen::Screen;
 
 pub const MASTERING: Command = Command {
     name: "mastering",
@@ -54,16 +54,7 @@ fn run(args: &Args, screen: &mut Screen) -> Done {
             read.map(|figures| lines(&findings(&figures), ""))
         }
     };
-    match text {
-        Ok(text) => {
-            screen.text(&text)?;
-            Ok(Verdict::Accepted)
-        }
-        Err(why) => {
-            say(&refused("mastering", why, ""));
-            Ok(Verdict::Refused)
-        }
-    }
+    print(screen, "mastering", text)
 }
 
 fn values(words: &[&str]) -> Result<[u64; 10], Failure> {

@@ -4,7 +4,7 @@ mod source;
 mod split;
 mod times;
 
-use super::{Command, refused};
+use super::{Command, refuse};
 use crate::args::{Args, Shape, shown};
 use crate::failure::{Done, Failure, Verdict, fail};
 use crate::files;
@@ -64,8 +64,7 @@ fn run(args: &Args, screen: &mut Screen) -> Done {
             Ok(read) => units.extend(read),
             Err((index, why)) => {
                 let name = format!("{}: unit {}", shown(name), units.len() + index);
-                say(&refused(&name, why, "OBU"));
-                return Ok(Verdict::Refused);
+                return refuse(&name, why, "OBU");
             }
         }
     }
@@ -80,10 +79,7 @@ fn run(args: &Args, screen: &mut Screen) -> Done {
             ));
             Ok(Verdict::Accepted)
         }
-        Err((index, why)) => {
-            say(&refused(&format!("unit {index}"), why, ""));
-            Ok(Verdict::Refused)
-        }
+        Err((index, why)) => refuse(&format!("unit {index}"), why, ""),
     }
 }
 

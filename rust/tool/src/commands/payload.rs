@@ -1,6 +1,6 @@
 //! av1ts escape and av1ts unescape
 
-use super::{Command, input, refused};
+use super::{Command, input, refuse};
 use crate::args::{Args, Shape};
 use crate::failure::{Done, Verdict};
 use crate::files;
@@ -47,10 +47,7 @@ fn escape(args: &Args, screen: &mut Screen) -> Done {
     let (name, obu) = input(args, MOST_UNIT + 1)?;
     match library::escape(&obu) {
         Ok(payload) => write(args, &payload, screen),
-        Err(why) => {
-            say(&refused(&name, why, ""));
-            Ok(Verdict::Refused)
-        }
+        Err(why) => refuse(&name, why, ""),
     }
 }
 
@@ -62,11 +59,7 @@ fn unescape(args: &Args, screen: &mut Screen) -> Done {
             say(&format!("dropped {dropped}"));
             Ok(done)
         }
-        Err(why) => {
-            let at = if why.number == 10 { "byte" } else { "" };
-            say(&refused(&name, why, at));
-            Ok(Verdict::Refused)
-        }
+        Err(why) => refuse(&name, why, if why.number == 10 { "byte" } else { "" }),
     }
 }
 

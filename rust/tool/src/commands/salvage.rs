@@ -1,6 +1,6 @@
 //! av1ts salvage
 
-use super::{Command, input, refused};
+use super::{Command, input, refuse};
 use crate::args::{Args, Shape};
 use crate::failure::{Done, Verdict};
 use crate::files;
@@ -39,10 +39,7 @@ fn run(args: &Args, screen: &mut Screen) -> Done {
     }
     let kept = match salvage(&unit) {
         Ok(kept) => kept,
-        Err(why) => {
-            say(&refused(&name, why, ""));
-            return Ok(Verdict::Refused);
-        }
+        Err(why) => return refuse(&name, why, ""),
     };
     let text = lines(&name, &kept);
     match args.value("-o") {
@@ -56,11 +53,7 @@ fn run(args: &Args, screen: &mut Screen) -> Done {
         }
         None => screen.text(&format!("{text}{}\n", hex::show(&kept.bytes)))?,
     }
-    Ok(if kept.accepted {
-        Verdict::Accepted
-    } else {
-        Verdict::Refused
-    })
+    Ok(Verdict::accepted_if(kept.accepted))
 }
 
 fn lines(name: &str, kept: &Salvage) -> String {

@@ -1,7 +1,7 @@
 //! av1ts sheet and av1ts seek
 
 use super::check::Options;
-use super::{Command, refused};
+use super::{Command, print, refused};
 use crate::args::{Args, Shape, number, shown};
 use crate::check::piece::{self, Range};
 use crate::check::text;
@@ -79,16 +79,8 @@ fn run_sheet(args: &Args, screen: &mut Screen) -> Done {
 
 fn show(args: &Args, screen: &mut Screen) -> Done {
     let bytes = files::read_part(&args.words[0], 0, MOST_SHEET as u64 + 1)?.bytes;
-    match sheet::read(&bytes) {
-        Ok(read) => {
-            screen.text(&lines(&read))?;
-            Ok(Verdict::Accepted)
-        }
-        Err(why) => {
-            say(&refused(&shown(&args.words[0]), why, ""));
-            Ok(Verdict::Refused)
-        }
-    }
+    let text = sheet::read(&bytes).map(|read| lines(&read));
+    print(screen, &shown(&args.words[0]), text)
 }
 
 fn lines(read: &Sheet) -> String {

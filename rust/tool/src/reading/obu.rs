@@ -53,7 +53,7 @@ pub fn leb128(bytes: &[u8], at: usize) -> (Option<u64>, usize) {
 }
 
 /// The shortest leb128 of a number.
-pub fn to_leb128(mut value: u64) -> Vec<u8> {
+fn to_leb128(mut value: u64) -> Vec<u8> {
     let mut bytes = Vec::new();
     while value >= 0x80 {
         bytes.push(value as u8 | 0x80);

@@ -39,7 +39,7 @@ impl<'a> Packet<'a> {
     }
 
     /// The adaptation field's length, where there is such a field.
-    pub fn field_length(&self) -> Option<usize> {
+    fn field_length(&self) -> Option<usize> {
         if self.control() & 2 == 2 {
             Some(usize::from(byte(self.0, 4)))
         } else {

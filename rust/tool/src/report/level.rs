@@ -19,7 +19,7 @@ const RATES: [(u64, u64, u64); 14] = [
 ];
 
 /// The most bits a second of a profile, level and tier.
-pub fn bit_rate(profile: u64, level: u64, tier: u64) -> Option<u64> {
+fn bit_rate(profile: u64, level: u64, tier: u64) -> Option<u64> {
     let (_, main, high) = RATES.iter().find(|(index, _, _)| *index == level)?;
     let rate = if tier == 1 { high } else { main };
     Some(rate * 1_000 * (profile + 1))
