@@ -13,7 +13,7 @@ use Rattle.tables.specs.declared.state.Outcome.{Outcome}
 use Rattle.tables.specs.declared.state.Outcome.the-variants as outcome
 use Rattle.tables.specs.declared.tables.Tables.{Tables}
 use Rattle.tables.specs.declared.tables.TablesResult.{TablesResult}
-use Rattle.tables.specs.Tables.{Refines, placedAt, TablesRepresent, freshTables}
+use Rattle.tables.specs.Tables.{Refines, placedAt, TablesRepresent, freshTables, SectionRefused}
 use Rattle.tables.specs.Parts.{handedBack}
 
 -- it did not pass
@@ -84,3 +84,12 @@ module _ (r : TablesResult) (edition : EditionName) (o : Outcome) (c : Tables) (
           → handedBack edition x c ≡ record { tables = freshTables edition; outcome = outcome.Refused q }
       either outcome.Passed u = never-passed q u refl
       either (outcome.Refused p) u = ap (λ (x : Outcome). record { tables = freshTables edition; outcome = x }) u
+
+-- the tables as they were, beside a verdict; and a turn that passed, whatever the tables then are
+module _ (r : TablesResult) (c : Tables) where
+  pub section-kept : (o : Outcome) → r ≡ record { tables = c; outcome = o } → SectionRefused c r
+  section-kept o k q e =
+      k ∙ ap (λ (x : Outcome). record { tables = c; outcome = x }) (sym (ap (λ (x : TablesResult). x .outcome) k) ∙ e)
+
+  pub section-passed : (d : Tables) → r ≡ record { tables = d; outcome = outcome.Passed } → SectionRefused c r
+  section-passed d k q e = never-passed q e (ap (λ (x : TablesResult). x .outcome) k)

@@ -176,6 +176,11 @@ TurnRefused c r =
     (q : refusal.Refused) → r .outcome ≡ Refused q
     → r ≡ record { tables = freshTables (c .edition); outcome = Refused q }
 
+-- where a section is refused, the tables stay as they were
+abbrev pub SectionRefused : Tables → TablesResult → Type 0
+SectionRefused c r =
+    (q : refusal.Refused) → r .outcome ≡ Refused q → r ≡ record { tables = c; outcome = Refused q }
+
 -- the kind's slot is where the lookup finds the PID among the records
 abbrev pub SlotOf : Tables → ℕ → Kind → Type 0
 SlotOf c n k = lookUp n (pidsIn (streamsIn (c .pat) (c .pmt) (c .counters))) ≡ slotIn k

@@ -8,7 +8,7 @@ ghost use Rattle.refusal.specs.Number.{numberOf};
 ghost use Rattle.descriptor.specs.Edition.{Edition};
 ghost use Rattle.segment_rules.specs.State as state;
 ghost use Rattle.segment_rules.specs.Rules.{laterSection, patSection, pmtSection, sectionRead};
-ghost use Rattle.tables.specs.Tables.{Refines, LiesAt, CarriesOut, TurnRefused, kindSays};
+ghost use Rattle.tables.specs.Tables.{Refines, LiesAt, CarriesOut, SectionRefused, kindSays};
 use crate::counters::Counters;
 use crate::state::Kind;
 use crate::state::Outcome;
@@ -18,7 +18,6 @@ use crate::state::PmtFound;
 use crate::state::PmtSeen;
 use crate::tables::Tables;
 use crate::tables::TablesResult;
-use crate::tables::handed_back;
 use lists::part;
 use packet::Stream;
 use packet::Streams;
@@ -67,6 +66,7 @@ fn first_pat(section: &[u8], at: usize, tables: Tables) -> TablesResult
     ensures { λ r. ⌜ ((segment : Bytes) → LiesAt segment at (now (section .entry)) → tables .pat ≡ PatSeen.None →
         (edition : Edition) →
         CarriesOut edition segment tables r (λ t. patSection (t .pat) (now (section .entry)) t)) ⌝ }
+    ensures { λ r. ⌜ SectionRefused tables r ⌝ }
 {
     let read = read_pat(section);
     match read {
@@ -102,6 +102,7 @@ fn first_pat(section: &[u8], at: usize, tables: Tables) -> TablesResult
 fn pat_section(segment: &[u8], at: usize, section: &[u8], tables: Tables) -> TablesResult
     ensures { λ r. ⌜ (LiesAt (now (segment .entry)) at (now (section .entry)) → (edition : Edition) →
         CarriesOut edition (now (segment .entry)) tables r (λ t. patSection (t .pat) (now (section .entry)) t)) ⌝ }
+    ensures { λ r. ⌜ SectionRefused tables r ⌝ }
 {
     let pat = tables.pat;
     match pat {
@@ -132,6 +133,7 @@ fn first_pmt(section: &[u8], at: usize, pat: PatFound, tables: Tables) -> Tables
     ensures { λ r. ⌜ ((segment : Bytes) → LiesAt segment at (now (section .entry)) → tables .pmt ≡ PmtSeen.None →
         tables .pat ≡ PatSeen.First pat → (edition : Edition) →
         CarriesOut edition segment tables r (λ t. pmtSection edition (t .pat) (t .pmt) (now (section .entry)) t)) ⌝ }
+    ensures { λ r. ⌜ SectionRefused tables r ⌝ }
 {
     let edition = tables.edition;
     let program = pat.says;
@@ -176,6 +178,7 @@ fn pmt_section(segment: &[u8], at: usize, section: &[u8], tables: Tables) -> Tab
     ensures { λ r. ⌜ (LiesAt (now (segment .entry)) at (now (section .entry)) → (edition : Edition) →
         CarriesOut edition (now (segment .entry)) tables r
         (λ t. pmtSection edition (t .pat) (t .pmt) (now (section .entry)) t)) ⌝ }
+    ensures { λ r. ⌜ SectionRefused tables r ⌝ }
 {
     let pat = tables.pat;
     let PatSeen::First(found) = pat else {
@@ -204,6 +207,7 @@ fn pat_payload(
     ensures { λ r. ⌜ (LiesAt (now (segment .entry)) at (now (payload .entry)) → (edition : Edition) →
         CarriesOut edition (now (segment .entry)) tables r
         (sectionRead edition state.Pat start (now (payload .entry)))) ⌝ }
+    ensures { λ r. ⌜ SectionRefused tables r ⌝ }
 {
     let found = find_section(payload, start);
     match found {
@@ -224,6 +228,7 @@ fn pmt_payload(
     ensures { λ r. ⌜ (LiesAt (now (segment .entry)) at (now (payload .entry)) → (edition : Edition) →
         CarriesOut edition (now (segment .entry)) tables r
         (sectionRead edition state.Map start (now (payload .entry)))) ⌝ }
+    ensures { λ r. ⌜ SectionRefused tables r ⌝ }
 {
     let found = find_section(payload, start);
     match found {
@@ -243,32 +248,8 @@ fn within(segment: &[u8], at: usize) -> usize
     at
 }
 
-// The payload of a packet whose PID is of this kind, which lies at this place of the segment; 25 to 28.
-fn read_payload(
-    segment: &[u8],
-    at: usize,
-    payload: &[u8],
-    start: bool,
-    kind: Kind,
-    tables: Tables,
-) -> TablesResult
-    ensures { λ r. ⌜ (LiesAt (now (segment .entry)) at (now (payload .entry)) → (edition : Edition) →
-        CarriesOut edition (now (segment .entry)) tables r
-        (sectionRead edition (kindSays kind) start (now (payload .entry)))) ⌝ }
-{
-    let place = within(segment, at);
-    match kind {
-        Kind::Null => pass(tables),
-        Kind::Pat => pat_payload(segment, place, payload, start, tables),
-        Kind::Map => pmt_payload(segment, place, payload, start, tables),
-        Kind::Av1(_) => pass(tables),
-        Kind::Listed(_) => pass(tables),
-        Kind::Unlisted => pass(tables),
-    }
-}
-
 // The payload of a packet whose PID is of this kind, which lies at this place of the segment; 25 to 28. Where it
-// refuses, the tables before the first packet are handed back.
+// refuses, the tables stay as they were.
 pub fn read_section(
     segment: &[u8],
     at: usize,
@@ -280,11 +261,15 @@ pub fn read_section(
     ensures { λ r. ⌜ (LiesAt (now (segment .entry)) at (now (payload .entry)) → (edition : Edition) →
         CarriesOut edition (now (segment .entry)) tables r
         (sectionRead edition (kindSays kind) start (now (payload .entry)))) ⌝ }
-    ensures { λ r. ⌜ TurnRefused tables r ⌝ }
+    ensures { λ r. ⌜ SectionRefused tables r ⌝ }
 {
-    let edition = tables.edition;
-    let turn = read_payload(segment, at, payload, start, kind, tables);
-    let outcome = turn.outcome;
-    let read = turn.tables;
-    handed_back(edition, outcome, read)
+    let place = within(segment, at);
+    match kind {
+        Kind::Null => pass(tables),
+        Kind::Pat => pat_payload(segment, place, payload, start, tables),
+        Kind::Map => pmt_payload(segment, place, payload, start, tables),
+        Kind::Av1(_) => pass(tables),
+        Kind::Listed(_) => pass(tables),
+        Kind::Unlisted => pass(tables),
+    }
 }

@@ -141,7 +141,7 @@ fn last_pcr(tables: Tables, header: Header) -> Clock
 }
 
 // The tables after a turn; where it refuses, those before the first packet.
-pub(crate) fn handed_back(edition: Edition, outcome: Outcome, tables: Tables) -> TablesResult
+fn handed_back(edition: Edition, outcome: Outcome, tables: Tables) -> TablesResult
     ensures { λ r. ⌜ r ≡ handedBack edition outcome tables ⌝ }
 {
     let Outcome::Passed = outcome else {
