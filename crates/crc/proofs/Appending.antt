@@ -1,7 +1,7 @@
 -- The register goes on from where it is, so what follows a string starts from the string's register; and the four bytes of a CRC, which
 -- follow its string, leave 0. Assumes nothing.
 use Prim.Native.Nat.{ℕ, _+_, _*_, _/_, _%_, _^_, _≤_, _<_}
-use mathlib.Core.Path.{_≡_, refl, ap, _∙_}
+use mathlib.Core.Path.{_≡_, refl, sym, ap, ap₂, _∙_}
 use mathlib.Core.List.{[], _∷_, _++_}
 use native.Mathlib.Omega.{arith}
 use lib.Bits.{bitXor, xor-self, xor-zero-r}
@@ -19,13 +19,36 @@ crc-append r (x ∷ s) t = crc-append (byteStep r x) s t
 
 -- ---- from byte i on
 module _ (s : Bytes) (r i : ℕ) where
-  pub crc-end : length s ≤ i → crcFrom r (drop i s) ≡ r
+  crc-end : length s ≤ i → crcFrom r (drop i s) ≡ r
   unfolding crcFrom
   crc-end h = rw (drop-of-length-le s h)
 
-  pub crc-next : i < length s → crcFrom r (drop i s) ≡ crcFrom (byteStep r (getD s i 0)) (drop (i + 1) s)
+  crc-next : i < length s → crcFrom r (drop i s) ≡ crcFrom (byteStep r (getD s i 0)) (drop (i + 1) s)
   unfolding crcFrom
   crc-next h = rw (next s i h)
+
+-- ---- the register, carried on over the rest of the bytes, is the CRC of all
+pub record Reached (s : Bytes) (r i : ℕ) : Type 0 where
+  pub within : i ≤ length s
+  pub rest : crc s ≡ crcFrom r (drop i s)
+
+pub reached-none : (s : Bytes) → Reached s 0xFFFF_FFFF 0
+reached-none s = record { within = omega arith; rest = refl }
+
+pub reached-as : {s : Bytes} {r i q j : ℕ} → q ≡ r → j ≡ i → Reached s r i → Reached s q j
+reached-as {s} e d at =
+    record { within = omega (arith, at .within); rest = at .rest ∙ ap₂ (λ (x n : ℕ). crcFrom x (drop n s)) (sym e) (sym d) }
+
+pub reached-by : {s : Bytes} {r i q : ℕ} (n : ℕ) → Reached s r i → i + n ≤ length s → crcFrom q (drop (i + n) s) ≡ crcFrom r (drop i s)
+    → Reached s q (i + n)
+reached-by n at h e = record { within = h; rest = at .rest ∙ sym e }
+
+pub reached-next : {s : Bytes} {r i q : ℕ} → Reached s r i → i < length s → q ≡ byteStep r (getD s i 0) → Reached s q (i + 1)
+reached-next {s} {r} {i} at h e =
+    record { within = omega arith; rest = at .rest ∙ crc-next s r i h ∙ ap (λ (x : ℕ). crcFrom x (drop (i + 1) s)) (sym e) }
+
+pub reached-all : {s : Bytes} {r i : ℕ} → Reached s r i → length s ≤ i → r ≡ crc s
+reached-all {s} {r} {i} at h = sym (at .rest ∙ crc-end s r i h)
 
 -- ---- the register keeps to 32 bits
 crc-lt : (r : ℕ) (s : Bytes) → r < 2 ^ 32 → crcFrom r s < 2 ^ 32

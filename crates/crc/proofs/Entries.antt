@@ -2,11 +2,14 @@
 -- its arm; a byte leaves what its halves leave. Assumes nothing.
 use Prim.Native.Nat.{ℕ, zero, suc, _*_, _/_, _%_, _≤_, _<_}
 use mathlib.Core.Path.{_≡_, sym, ap, ap₂, _∙_}
+use mathlib.Core.List.{[]}
 use mathlib.Core.Logic.{_⊎_, ⊎-elim}
 use native.Mathlib.Omega.{arith}
 use lib.Bits.{bitXor}
+use lib.ListN.{getD}
 use Rattle.crc.specs.Parts.{left}
 use Rattle.crc.proofs.Slicing.{halves-leave}
+use Rattle.crc.proofs.Rows.{spread, rows, by-row}
 
 -- x is none of the numbers below n
 abbrev NoneBelow : ℕ → ℕ → Type 0
@@ -45,11 +48,14 @@ module _ (f : ℕ → ℕ) (x v : ℕ) (small : x < 16) where
 
 -- what the lower half and the upper half of a byte leave
 abbrev pub lower : ℕ → ℕ → ℕ
-lower k half = left k half
+lower k half = spread (getD rows k []) half
 
 abbrev pub upper : ℕ → ℕ → ℕ
-upper k half = left k (half * 16)
+upper k half = spread (getD rows k []) (half * 16)
 
 -- ---- both halves of a byte
-pub both : (k byte low high : ℕ) → byte < 256 → low ≡ lower k (byte % 16) → high ≡ upper k (byte / 16) → bitXor low high ≡ left k byte
-both k byte low high h l u = ap₂ bitXor l u ∙ sym (halves-leave k byte h)
+pub both : (k byte low high : ℕ) → k < 16 → byte < 256 → low ≡ lower k (byte % 16) → high ≡ upper k (byte / 16)
+    → bitXor low high ≡ left k byte
+both k byte low high small h l u =
+    ap₂ bitXor (l ∙ by-row k (byte % 16) small (omega arith)) (u ∙ by-row k (byte / 16 * 16) small (omega arith))
+    ∙ sym (halves-leave k byte h)

@@ -6,11 +6,11 @@ use mathlib.Core.List.{_∷_}
 use native.Mathlib.Omega.{arith}
 use lib.Bits.{bitXor, xor-shr, xor-mod, xor-lt, xor-zero-r, xor-shifted, xor-comm}
 use lib.ListN.{length, getD, drop}
-use Rattle.lists.specs.Lists.{Bytes}
+use Rattle.lists.specs.Lists.{Bytes, pick}
 use Rattle.lists.proofs.Parts.{next}
-use Rattle.crc.specs.Crc.{byteStep, crcFrom}
+use Rattle.crc.specs.Crc.{bitStep, bitsStep, byteStep, crcFrom}
 use Rattle.crc.specs.Parts.{entry, zerosStep, left, word, wordAt}
-use Rattle.crc.proofs.Xor.{xor-assoc, xor-swap, xor-up}
+use Rattle.crc.proofs.Xor.{xor-assoc, xor-up}
 use Rattle.crc.proofs.Linear.{byte-lt, zero-linear, zero-low, byte-entry}
 
 -- ---- zero bytes
@@ -25,6 +25,11 @@ zeros-linear zero a b ha hb = refl
 zeros-linear (suc n) a b ha hb =
     ap (λ (r : ℕ). byteStep r 0) (zeros-linear n a b ha hb)
     ∙ zero-linear (zerosStep n a) (zerosStep n b) (zeros-lt n a ha) (zeros-lt n b hb)
+
+zeros-none : (n : ℕ) → zerosStep n 0 ≡ 0
+unfolding zerosStep byteStep bitsStep bitStep pick
+zeros-none zero = refl
+zeros-none (suc n) = ap (λ (r : ℕ). byteStep r 0) (zeros-none n)
 
 -- the first of them first
 zeros-first : (n r : ℕ) → zerosStep (suc n) r ≡ zerosStep n (byteStep r 0)
@@ -129,28 +134,15 @@ word-of r h =
     xor-shifted (r / 2 ^ 8 % 256) 8 (r % 256) (omega arith) ∙ omega arith in
     ap₂ bitXor hi lo ∙ xor-shifted (r / 2 ^ 16) 16 (r % 2 ^ 16) (omega arith) ∙ omega arith
 
--- four bytes added to four
-pub words : (a b c d e f g h : ℕ) → bitXor (word a b c d) (word e f g h) ≡ word (bitXor a e) (bitXor b f) (bitXor c g) (bitXor d h)
-words a b c d e f g h =
-    xor-swap (bitXor (a * 2 ^ 24) (b * 2 ^ 16)) (bitXor (c * 2 ^ 8) d) (bitXor (e * 2 ^ 24) (f * 2 ^ 16)) (bitXor (g * 2 ^ 8) h)
-    ∙ ap₂ bitXor
-    (xor-swap (a * 2 ^ 24) (b * 2 ^ 16) (e * 2 ^ 24) (f * 2 ^ 16) ∙ ap₂ bitXor (sym (xor-up 24 a e)) (sym (xor-up 16 b f)))
-    (xor-swap (c * 2 ^ 8) d (g * 2 ^ 8) h ∙ ap₂ bitXor (sym (xor-up 8 c g)) refl)
-
--- the register with four bytes added, after these and n zero bytes
-pub four-leave : (n r a b c d : ℕ) → r < 2 ^ 32 → a < 256 → b < 256 → c < 256 → d < 256
-    → zerosStep (n + 4) (bitXor r (word a b c d))
+-- what its four bytes leave after themselves and n zero bytes
+pub four-leave : (n w : ℕ) → w < 2 ^ 32
+    → zerosStep (n + 4) w
     ≡ bitXor
-    (bitXor (left (n + 3) (bitXor (r / 2 ^ 24) a)) (left (n + 2) (bitXor (r / 2 ^ 16 % 256) b)))
-    (bitXor (left (n + 1) (bitXor (r / 2 ^ 8 % 256) c)) (left n (bitXor (r % 256) d)))
-four-leave n r a b c d hr ha hb hc hd =
-    ap (λ (x : ℕ). zerosStep (n + 4) (bitXor x (word a b c d))) (sym (word-of r hr))
-    ∙ ap (zerosStep (n + 4)) (words (r / 2 ^ 24) (r / 2 ^ 16 % 256) (r / 2 ^ 8 % 256) (r % 256) a b c d)
-    ∙ word-leaves n (bitXor (r / 2 ^ 24) a) (bitXor (r / 2 ^ 16 % 256) b) (bitXor (r / 2 ^ 8 % 256) c) (bitXor (r % 256) d)
-    (xor-lt 8 (r / 2 ^ 24) a (omega arith) ha)
-    (xor-lt 8 (r / 2 ^ 16 % 256) b (omega arith) hb)
-    (xor-lt 8 (r / 2 ^ 8 % 256) c (omega arith) hc)
-    (xor-lt 8 (r % 256) d (omega arith) hd)
+    (bitXor (left (n + 3) (w / 2 ^ 24)) (left (n + 2) (w / 2 ^ 16 % 256)))
+    (bitXor (left (n + 1) (w / 2 ^ 8 % 256)) (left n (w % 256)))
+four-leave n w h =
+    ap (zerosStep (n + 4)) (sym (word-of w h))
+    ∙ word-leaves n (w / 2 ^ 24) (w / 2 ^ 16 % 256) (w / 2 ^ 8 % 256) (w % 256) (omega arith) (omega arith) (omega arith) (omega arith)
 
 -- ---- four bytes more
 word-lt : (a b c d : ℕ) → a < 256 → b < 256 → c < 256 → d < 256 → word a b c d < 2 ^ 32
@@ -159,20 +151,23 @@ word-lt a b c d ha hb hc hd =
     (xor-lt 32 (c * 2 ^ 8) d (omega arith) (omega arith))
 
 -- what they leave is added to what the register leaves
-word-more : (m w : ℕ) → m < 2 ^ 32 → w < 2 ^ 32 → zerosStep 4 (bitXor m w) ≡ bitXor (zerosStep 4 (bitXor 0 w)) (zerosStep 4 m)
-word-more m w hm hw =
-    let none : bitXor 0 w ≡ w = xor-comm 0 w ∙ xor-zero-r w in
-    ap (zerosStep 4) (xor-comm m w ∙ ap (λ (x : ℕ). bitXor x m) (sym none))
-    ∙ zeros-linear 4 (bitXor 0 w) m (xor-lt 32 0 w (omega arith) hw) hm
+word-more : (m w : ℕ) → m < 2 ^ 32 → w < 2 ^ 32 → zerosStep 4 (bitXor m w) ≡ bitXor (zerosStep 4 w) (zerosStep 4 m)
+word-more m w hm hw = ap (zerosStep 4) (xor-comm m w) ∙ zeros-linear 4 w m hw hm
 
--- ---- a byte leaves what its halves leave
+-- ---- what bytes leave is linear
+pub left-linear : (k a b : ℕ) → a < 256 → b < 256 → left k (bitXor a b) ≡ bitXor (left k a) (left k b)
+left-linear k a b ha hb =
+    ap (zerosStep (k + 1)) (xor-up 24 a b) ∙ zeros-linear (k + 1) (a * 2 ^ 24) (b * 2 ^ 24) (omega arith) (omega arith)
+
+pub left-zero : (k : ℕ) → left k 0 ≡ 0
+left-zero k = zeros-none (k + 1)
+
+-- a byte leaves what its halves leave
 pub halves-leave : (k x : ℕ) → x < 256 → left k x ≡ bitXor (left k (x % 16)) (left k (x / 16 * 16))
 halves-leave k x h =
-    let p : bitXor (x / 16 * 2 ^ 4) (x % 16) ≡ x = xor-shifted (x / 16) 4 (x % 16) (omega arith) ∙ omega arith in
-    ap (λ (y : ℕ). zerosStep (k + 1) (y * 2 ^ 24)) (sym p)
-    ∙ ap (zerosStep (k + 1)) (xor-up 24 (x / 16 * 2 ^ 4) (x % 16))
-    ∙ zeros-linear (k + 1) (x / 16 * 2 ^ 4 * 2 ^ 24) (x % 16 * 2 ^ 24) (omega arith) (omega arith)
-    ∙ xor-comm (left k (x / 16 * 2 ^ 4)) (left k (x % 16))
+    let p : bitXor (x % 16) (x / 16 * 16) ≡ x =
+    xor-comm (x % 16) (x / 16 * 2 ^ 4) ∙ xor-shifted (x / 16) 4 (x % 16) (omega arith) ∙ omega arith in
+    ap (left k) (sym p) ∙ left-linear k (x % 16) (x / 16 * 16) (omega arith) (omega arith)
 
 -- without a zero byte behind it
 pub left-none : (x : ℕ) → left 0 x ≡ entry x
@@ -206,19 +201,16 @@ module _ (r : ℕ) (s : Bytes) (i : ℕ) (hr : r < 2 ^ 32) (byte : (j : ℕ) →
   w0 = bitXor r (wordAt s i)
 
   abbrev w1 : ℕ
-  w1 = bitXor 0 (wordAt s (i + 4))
+  w1 = wordAt s (i + 4)
 
   abbrev w2 : ℕ
-  w2 = bitXor 0 (wordAt s (i + 8))
+  w2 = wordAt s (i + 8)
 
   abbrev w3 : ℕ
-  w3 = bitXor 0 (wordAt s (i + 12))
+  w3 = wordAt s (i + 12)
 
   w0-lt : w0 < 2 ^ 32
   w0-lt = xor-lt 32 r (wordAt s i) hr (word-at-lt i)
-
-  alone-lt : (j : ℕ) → bitXor 0 (wordAt s j) < 2 ^ 32
-  alone-lt j = xor-lt 32 0 (wordAt s j) (omega arith) (word-at-lt j)
 
   -- the register after eight, twelve and sixteen bytes
   eight : zerosStep 4 (bitXor (zerosStep 4 w0) (wordAt s (i + 4))) ≡ bitXor (zerosStep 4 w1) (zerosStep 8 w0)
@@ -227,30 +219,30 @@ module _ (r : ℕ) (s : Bytes) (i : ℕ) (hr : r < 2 ^ 32) (byte : (j : ℕ) →
       ∙ ap (bitXor (zerosStep 4 w1)) (zeros-more 4 4 w0)
 
   eight-lt : bitXor (zerosStep 4 w1) (zerosStep 8 w0) < 2 ^ 32
-  eight-lt = xor-lt 32 (zerosStep 4 w1) (zerosStep 8 w0) (zeros-lt 4 w1 (alone-lt (i + 4))) (zeros-lt 8 w0 w0-lt)
+  eight-lt = xor-lt 32 (zerosStep 4 w1) (zerosStep 8 w0) (zeros-lt 4 w1 (word-at-lt (i + 4))) (zeros-lt 8 w0 w0-lt)
 
   twelve : zerosStep 4 (bitXor (bitXor (zerosStep 4 w1) (zerosStep 8 w0)) (wordAt s (i + 8)))
       ≡ bitXor (zerosStep 4 w2) (bitXor (zerosStep 8 w1) (zerosStep 12 w0))
   twelve =
       word-more (bitXor (zerosStep 4 w1) (zerosStep 8 w0)) (wordAt s (i + 8)) eight-lt (word-at-lt (i + 8))
       ∙ ap (bitXor (zerosStep 4 w2))
-      (zeros-linear 4 (zerosStep 4 w1) (zerosStep 8 w0) (zeros-lt 4 w1 (alone-lt (i + 4))) (zeros-lt 8 w0 w0-lt)
+      (zeros-linear 4 (zerosStep 4 w1) (zerosStep 8 w0) (zeros-lt 4 w1 (word-at-lt (i + 4))) (zeros-lt 8 w0 w0-lt)
       ∙ ap₂ bitXor (zeros-more 4 4 w1) (zeros-more 4 8 w0))
 
   twelve-lt : bitXor (zerosStep 4 w2) (bitXor (zerosStep 8 w1) (zerosStep 12 w0)) < 2 ^ 32
   twelve-lt =
-      xor-lt 32 (zerosStep 4 w2) (bitXor (zerosStep 8 w1) (zerosStep 12 w0)) (zeros-lt 4 w2 (alone-lt (i + 8)))
-      (xor-lt 32 (zerosStep 8 w1) (zerosStep 12 w0) (zeros-lt 8 w1 (alone-lt (i + 4))) (zeros-lt 12 w0 w0-lt))
+      xor-lt 32 (zerosStep 4 w2) (bitXor (zerosStep 8 w1) (zerosStep 12 w0)) (zeros-lt 4 w2 (word-at-lt (i + 8)))
+      (xor-lt 32 (zerosStep 8 w1) (zerosStep 12 w0) (zeros-lt 8 w1 (word-at-lt (i + 4))) (zeros-lt 12 w0 w0-lt))
 
   sixteen : zerosStep 4 (bitXor (bitXor (zerosStep 4 w2) (bitXor (zerosStep 8 w1) (zerosStep 12 w0))) (wordAt s (i + 12)))
       ≡ bitXor (zerosStep 4 w3) (bitXor (zerosStep 8 w2) (bitXor (zerosStep 12 w1) (zerosStep 16 w0)))
   sixteen =
       word-more (bitXor (zerosStep 4 w2) (bitXor (zerosStep 8 w1) (zerosStep 12 w0))) (wordAt s (i + 12)) twelve-lt (word-at-lt (i + 12))
       ∙ ap (bitXor (zerosStep 4 w3))
-      (zeros-linear 4 (zerosStep 4 w2) (bitXor (zerosStep 8 w1) (zerosStep 12 w0)) (zeros-lt 4 w2 (alone-lt (i + 8)))
-      (xor-lt 32 (zerosStep 8 w1) (zerosStep 12 w0) (zeros-lt 8 w1 (alone-lt (i + 4))) (zeros-lt 12 w0 w0-lt))
+      (zeros-linear 4 (zerosStep 4 w2) (bitXor (zerosStep 8 w1) (zerosStep 12 w0)) (zeros-lt 4 w2 (word-at-lt (i + 8)))
+      (xor-lt 32 (zerosStep 8 w1) (zerosStep 12 w0) (zeros-lt 8 w1 (word-at-lt (i + 4))) (zeros-lt 12 w0 w0-lt))
       ∙ ap₂ bitXor (zeros-more 4 4 w2)
-      (zeros-linear 4 (zerosStep 8 w1) (zerosStep 12 w0) (zeros-lt 8 w1 (alone-lt (i + 4))) (zeros-lt 12 w0 w0-lt)
+      (zeros-linear 4 (zerosStep 8 w1) (zerosStep 12 w0) (zeros-lt 8 w1 (word-at-lt (i + 4))) (zeros-lt 12 w0 w0-lt)
       ∙ ap₂ bitXor (zeros-more 4 8 w1) (zeros-more 4 12 w0)))
 
   pub by-sixteen : i + 16 ≤ length s

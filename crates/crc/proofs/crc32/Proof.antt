@@ -1,17 +1,14 @@
 -- In each of the three loops the register, carried on over the rest of the bytes, is the CRC of all: sixteen bytes a turn, then four, then
--- one.
-use Prim.Native.Nat.{ℕ, _+_, _-_, _≤_}
-use mathlib.Core.Path.{_≡_, refl, sym, ap, _∙_}
-use mathlib.Core.List.{List}
+-- one. A long string comes to the first of them with fewer than sixteen bytes left.
+use Prim.Native.Nat.{_-_}
+use mathlib.Core.Path.{sym}
+use mathlib.Core.Logic.{⊎-elim}
 use native.Mathlib.Omega.{arith}
-use lib.ListN.{length, drop}
-use Rattle.crc.specs.Crc.{crcFrom, crc}
-use Rattle.crc.proofs.Appending.{crc-end, crc-next}
+use borrow.Author.Needs.{needs}
+use lib.ListN.{length}
+use Rattle.crc.proofs.Appending.{Reached, reached-none, reached-as, reached-by, reached-next, reached-all}
 use Rattle.crc.proofs.crc32.Statement.{statement}
 use Rattle.crc.proofs.crc32.Tie as tie
-
-abbrev Reached : List ℕ → ℕ → ℕ → Type 0
-Reached bytes register i = (i ≤ length bytes) × (crc bytes ≡ crcFrom register (drop i bytes))
 
 abbrev Inv-loop : tie.InvT-loop
 Inv-loop bytes register₀ i₀ register i = Reached bytes register i
@@ -31,8 +28,18 @@ Inv-loop3 bytes register₀ i₀ register i = Reached bytes register i
 abbrev μ-loop3 : tie.MeasureT-loop3
 μ-loop3 bytes register₀ i₀ register i = length bytes - i
 
+by-table-requires : tie.Need-by-table-requires Inv-loop μ-loop Inv-loop2 μ-loop2 Inv-loop3 μ-loop3
+by-table-requires c κs = search needs
+
+mul-i : tie.Need-mul-i Inv-loop μ-loop Inv-loop2 μ-loop2 Inv-loop3 μ-loop3
+mul-i c = omega arith
+
 loop-holds : tie.Need-loop-holds Inv-loop μ-loop Inv-loop2 μ-loop2 Inv-loop3 μ-loop3
-loop-holds c = (omega arith, refl)
+loop-holds c =
+    ⊎-elim
+    (λ w. reached-as (w .2) (w .3) (record { within = omega arith; rest = sym (w .1 .ensures) }))
+    (λ w. reached-as (w .1) (w .2) (reached-none _))
+    (c .if1 .came)
 
 sub-loop : tie.Need-sub-loop Inv-loop μ-loop Inv-loop2 μ-loop2 Inv-loop3 μ-loop3
 sub-loop c = omega arith
@@ -47,7 +54,9 @@ loop-less : tie.Need-loop-less Inv-loop μ-loop Inv-loop2 μ-loop2 Inv-loop3 μ-
 loop-less c = omega arith
 
 loop-again : tie.Need-loop-again Inv-loop μ-loop Inv-loop2 μ-loop2 Inv-loop3 μ-loop3
-loop-again c = (omega (arith, c .before .loop-test .taken), c .before .before .loop .inv .1 ∙ sym (c .sixteen .ensures))
+loop-again c =
+    let turn = c .before .before in
+    reached-by 16 (turn .before .loop .inv) (omega (arith, turn .loop-test .taken)) (c .before .sixteen .ensures)
 
 loop2-holds : tie.Need-loop2-holds Inv-loop μ-loop Inv-loop2 μ-loop2 Inv-loop3 μ-loop3
 loop2-holds c = c .before .loop .inv
@@ -65,7 +74,9 @@ loop2-less : tie.Need-loop2-less Inv-loop μ-loop Inv-loop2 μ-loop2 Inv-loop3 �
 loop2-less c = omega arith
 
 loop2-again : tie.Need-loop2-again Inv-loop μ-loop Inv-loop2 μ-loop2 Inv-loop3 μ-loop3
-loop2-again c = (omega (arith, c .before .loop2-test .taken), c .before .before .loop2 .inv .1 ∙ sym (c .four .ensures))
+loop2-again c =
+    let turn = c .before .before in
+    reached-by 4 (turn .before .loop2 .inv) (omega (arith, turn .loop2-test .taken)) (c .before .four .ensures)
 
 loop3-holds : tie.Need-loop3-holds Inv-loop μ-loop Inv-loop2 μ-loop2 Inv-loop3 μ-loop3
 loop3-holds c = c .before .loop2 .inv
@@ -85,16 +96,11 @@ loop3-less c = omega arith
 
 loop3-again : tie.Need-loop3-again Inv-loop μ-loop Inv-loop2 μ-loop2 Inv-loop3 μ-loop3
 loop3-again c =
-    let at = c .before .before .before .loop3 in
-    let s = c .before .before .before .before .before .before .before .before .before .args .bytes .now in (
-      omega arith,
-      at .inv .1
-          ∙ crc-next s (at .register) (at .i) (c .before .before .loop3-test .taken)
-          ∙ ap (λ (r : ℕ). crcFrom r (drop (at .i + 1) s)) (sym (c .step .ensures)),
-    )
+    let turn = c .before .before .before in
+    reached-next (turn .before .loop3 .inv) (turn .loop3-test .taken) (c .before .step .ensures)
 
 returns : tie.Need-returns Inv-loop μ-loop Inv-loop2 μ-loop2 Inv-loop3 μ-loop3
-returns c = sym (c .before .loop3 .inv .1 ∙ crc-end _ _ _ (c .loop3-test .left))
+returns c = reached-all (c .before .loop3 .inv) (c .loop3-test .left)
 
 pub crc32-spec : {M : Type 1} → statement M
 crc32-spec =
@@ -106,6 +112,8 @@ crc32-spec =
     μ-loop2
     Inv-loop3
     μ-loop3
+    by-table-requires
+    mul-i
     loop-holds
     sub-loop
     sixteen-requires
