@@ -36,8 +36,8 @@ use Rattle.mux_rules.specs.Packets.{packetsFor, unitPackets, unitsPacket
 use Rattle.mux_rules.specs.Sending.{mapPidWrong, av1PidWrong, programWrong, countersWrong, pcrWrong, channelWrong}
 use Rattle.mux_rules.specs.Claim.{accessUnits}
 use Rattle.mux_rules.proofs.Counts.{section-whole, units-whole}
-use Rattle.mux_rules.proofs.States.{firstPat, firstPmt, afterPat, afterPmt, inTables, kind-map, kind-av1, step-by, run-next}
-use Rattle.mux_rules.proofs.States.{totalsAt}
+use Rattle.mux_rules.proofs.States.{Laid, laid, firstPat, firstPmt, afterPat, afterPmt, inTables, kind-map, kind-av1, step-by}
+use Rattle.mux_rules.proofs.States.{run-next, totalsAt}
 use Rattle.mux_rules.proofs.Tabling.{pat-reads, pmt-reads, clock-reads, pat-first, pmt-first, pcr-first, pat-again, pmt-again}
 use Rattle.mux_rules.proofs.Tabling.{pcr-again, patIs, pmtIs, pcrIs}
 use Rattle.mux_rules.proofs.Units.{extracted, going, openFor, unitAt, unit-run, unit-closes}
@@ -136,15 +136,15 @@ carried-more (y ∷ units) x =
 module _ (c : Channel) (d : Bytes) (ok : Allowed c d) (rooms : Rooms) where
   -- where a run comes to: the last packets of the three PIDs have these counters, and when the open PES has closed, these are the units
   pub record Reaches (v : Verdict Progress) (ka kb kl : ℕ) (units : List AccessUnit) (s n : ℕ) : Type 0 where
-    pub a : Bytes
-    pub b : Bytes
-    pub last : Bytes
+    pub a : Laid
+    pub b : Laid
+    pub last : Laid
     pub t : Ticks27
     pub now : Option OpenPes
     pub before : List AccessUnit
-    pub pat-counter : continuityCounter a ≡ ka
-    pub map-counter : continuityCounter b ≡ kb
-    pub av1-counter : continuityCounter last ≡ kl
+    pub pat-counter : continuityCounter (a .bytes) ≡ ka
+    pub map-counter : continuityCounter (b .bytes) ≡ kb
+    pub av1-counter : continuityCounter (last .bytes) ≡ kl
     pub closes : closePes (extracted now before) ≡ passed (extracted none units)
     pub is : v ≡ passed (going c d rooms (ok .pid-some) (ok .pid-high) (ok .pid-other) a b t last now before s n)
 
@@ -237,7 +237,7 @@ module _ (c : Channel) (d : Bytes) (ok : Allowed c d) (rooms : Rooms) where
       (omega arith)
 
   -- ---- PAT, PMT and PCR
-  abbrev after : Bytes → Bytes → Ticks27 → Bytes → Option OpenPes → List AccessUnit → ℕ → ℕ → Progress
+  abbrev after : Laid → Laid → Ticks27 → Laid → Option OpenPes → List AccessUnit → ℕ → ℕ → Progress
   after = going c d rooms (ok .pid-some) (ok .pid-high) (ok .pid-other)
 
   module _ (na nb nl : ℕ) (ha : na < 16) (hb : nb < 16) (hl : nl < 16) (t : Ticks27) where
@@ -270,39 +270,50 @@ module _ (c : Channel) (d : Bytes) (ok : Allowed c d) (rooms : Rooms) where
     of-av1 : (x : Tables) → x .pat ≡ some (firstPat c d) → x .pmt ≡ some (firstPmt c d) → kindOf x (packet.pid p3) ≡ Av1
     of-av1 x e f = ap (kindOf x) (pcr-read .pid) ∙ kind-av1 c d (ok .pid-some) (ok .pid-high) (ok .pid-other) x e f
 
-    -- as the first of a segment
+    -- as the first of a segment: before the second and before the third
+    abbrev second : Progress
+    second =
+        record { index = 1; state = record { tables = afterPat c d (laid 0 p1); extraction = extracted none [] }; totals = totalsAt 1 0 }
+
+    abbrev third : Progress
+    third =
+        record {
+          index = 2;
+          state = record { tables = afterPmt c d (laid 0 p1) (laid 1 p2); extraction = extracted none [] };
+          totals = totalsAt 2 0;
+        }
+
     pub first-three : (ps : List Bytes)
-        → run current rooms start (p1 ∷ p2 ∷ p3 ∷ ps) ≡ run current rooms (after p1 p2 t p3 none [] 2 1) ps
+        → run current rooms start (p1 ∷ p2 ∷ p3 ∷ ps) ≡ run current rooms (after (laid 0 p1) (laid 1 p2) t (laid 2 p3) none [] 2 1) ps
     unfolding counting
     first-three ps =
         run-next rooms start _ p1 _ _
         (step-by rooms start _ p1 Pat (of-pat (fresh .tables))
         (pat-first c d rooms 0 (ok .program-some) (ok .map-low) (ok .map-high) na ha))
-        (run-next rooms
-        (record { index = 1; state = record { tables = afterPat c d p1; extraction = extracted none [] }; totals = totalsAt 1 0 }) _
-        p2 _ _
-        (step-by rooms
-        (record { index = 1; state = record { tables = afterPat c d p1; extraction = extracted none [] }; totals = totalsAt 1 0 }) _
-        p2 Map
-        (of-map (afterPat c d p1) refl)
-        (pmt-first c d rooms 1 (ok .pid-some) (ok .pid-high) (ok .pid-other) (ok .fine) (ok .map-low) (ok .map-high) nb hb p1
+        (run-next rooms second _ p2 _ _
+        (step-by rooms second _ p2 Map (of-map (afterPat c d (laid 0 p1)) refl)
+        (pmt-first c d rooms 1 (ok .pid-some) (ok .pid-high) (ok .pid-other) (ok .fine) (ok .map-low) (ok .map-high) nb hb (laid 0 p1)
         (extracted none [])))
-        (run-next rooms
-        (record { index = 2; state = record { tables = afterPmt c d p1 p2; extraction = extracted none [] }; totals = totalsAt 2 0 })
-        _ p3 _ _
-        (step-by rooms
-        (record { index = 2; state = record { tables = afterPmt c d p1 p2; extraction = extracted none [] }; totals = totalsAt 2 0 })
-        _ p3 Av1
-        (of-av1 (afterPmt c d p1 p2) refl refl)
-        (pcr-first c d rooms 2 (ok .pid-some) (ok .pid-high) (ok .pid-other) nl hl t p1 p2 (extracted none [])))
+        (run-next rooms third _ p3 _ _
+        (step-by rooms third _ p3 Av1 (of-av1 (afterPmt c d (laid 0 p1) (laid 1 p2)) refl refl)
+        (pcr-first c d rooms 2 (ok .pid-some) (ok .pid-high) (ok .pid-other) nl hl t (laid 0 p1) (laid 1 p2) (extracted none [])))
         refl))
 
     -- after another send's
-    module _ (a b l : Bytes) (earlier : Ticks27) (now : Option OpenPes) (before : List AccessUnit) (s n : ℕ)
-        (ea : counterAfter (continuityCounter a) 1 ≡ na)
-        (eb : counterAfter (continuityCounter b) 1 ≡ nb) (el : continuityCounter l ≡ nl) where
+    module _ (a b l : Laid) (earlier : Ticks27) (now : Option OpenPes) (before : List AccessUnit) (s n : ℕ)
+        (ea : counterAfter (continuityCounter (a .bytes)) 1 ≡ na)
+        (eb : counterAfter (continuityCounter (b .bytes)) 1 ≡ nb) (el : continuityCounter (l .bytes) ≡ nl) where
       abbrev x : Extraction
       x = extracted now before
+
+      abbrev q1 : Laid
+      q1 = laid (s + n) p1
+
+      abbrev q2 : Laid
+      q2 = laid (s + n + 1) p2
+
+      abbrev q3 : Laid
+      q3 = laid (s + n + 1 + 1) p3
 
       abbrev g0 : Progress
       g0 = after a b earlier l now before s n
@@ -311,7 +322,7 @@ module _ (c : Channel) (d : Bytes) (ok : Allowed c d) (rooms : Rooms) where
       g1 =
           record {
             index = s + n + 1;
-            state = record { tables = inTables c d p1 b l earlier; extraction = x };
+            state = record { tables = inTables c d q1 b l earlier; extraction = x };
             totals = totalsAt (s + 1) n;
           }
 
@@ -319,7 +330,7 @@ module _ (c : Channel) (d : Bytes) (ok : Allowed c d) (rooms : Rooms) where
       g2 =
           record {
             index = s + n + 1 + 1;
-            state = record { tables = inTables c d p1 p2 l earlier; extraction = x };
+            state = record { tables = inTables c d q1 q2 l earlier; extraction = x };
             totals = totalsAt (s + 1 + 1) n;
           }
 
@@ -327,12 +338,12 @@ module _ (c : Channel) (d : Bytes) (ok : Allowed c d) (rooms : Rooms) where
       g3 i k =
           record {
             index = i;
-            state = record { tables = inTables c d p1 p2 p3 t; extraction = x };
+            state = record { tables = inTables c d q1 q2 q3 t; extraction = x };
             totals = totalsAt k (n + 1);
           }
 
       pub again-three : (ps : List Bytes)
-          → run current rooms g0 (p1 ∷ p2 ∷ p3 ∷ ps) ≡ run current rooms (after p1 p2 t p3 now before (s + 2) (n + 1)) ps
+          → run current rooms g0 (p1 ∷ p2 ∷ p3 ∷ ps) ≡ run current rooms (after q1 q2 t q3 now before (s + 2) (n + 1)) ps
       unfolding counting
       again-three ps =
           let i : s + n + 1 + 1 + 1 ≡ s + 2 + (n + 1) = omega arith in
@@ -343,10 +354,10 @@ module _ (c : Channel) (d : Bytes) (ok : Allowed c d) (rooms : Rooms) where
           (run-next rooms g1 g2 p2 _ _
           (step-by rooms g1 _ p2 Map (of-map (g1 .state .tables) refl)
           (pmt-again c d rooms (s + n + 1) (ok .pid-some) (ok .pid-high) (ok .pid-other) (ok .fine) (ok .map-low)
-          (ok .map-high) nb hb p1 b l earlier x eb))
+          (ok .map-high) nb hb q1 b l earlier x eb))
           (run-next rooms g2 (g3 (s + n + 1 + 1 + 1) (s + 1 + 1)) p3 _ _
           (step-by rooms g2 _ p3 Av1 (of-av1 (g2 .state .tables) refl refl)
-          (pcr-again c d rooms (s + n + 1 + 1) (ok .pid-some) (ok .pid-high) (ok .pid-other) nl hl t p1 p2 l earlier x el))
+          (pcr-again c d rooms (s + n + 1 + 1) (ok .pid-some) (ok .pid-high) (ok .pid-other) nl hl t q1 q2 l earlier x el))
           (ap₂ (λ (y z : ℕ). run current rooms (g3 y z) ps) i k)))
 
   -- ---- the end
@@ -381,13 +392,13 @@ module _ (c : Channel) (d : Bytes) (ok : Allowed c d) (rooms : Rooms) where
         (accessUnits 3 us) 2 (1 + packetsForUnits us)
     unfolding segmentPackets closeIfOpen
     send-first fits =
-        let g = after (patIs c na) (pmtIs c d nb) t (pcrIs c (counterBefore nl) t) none [] 2 1 in
+        let g = after (laid 0 (patIs c na)) (laid 1 (pmtIs c d nb)) t (laid 2 (pcrIs c (counterBefore nl) t)) none [] 2 1 in
         renamed
         (units-run us g na nb (counterBefore nl) [] 2 1
         (record {
-          a = patIs c na;
-          b = pmtIs c d nb;
-          last = pcrIs c (counterBefore nl) t;
+          a = laid 0 (patIs c na);
+          b = laid 1 (pmtIs c d nb);
+          last = laid 2 (pcrIs c (counterBefore nl) t);
           t = t;
           now = none;
           before = [];
@@ -414,13 +425,16 @@ module _ (c : Channel) (d : Bytes) (ok : Allowed c d) (rooms : Rooms) where
         let p1 = patIs c na in
         let p2 = pmtIs c d nb in
         let p3 = pcrIs c (counterBefore nl) t in
-        let g3 = after p1 p2 t p3 (r .now) (r .before) (s + 2) (n + 1) in
+        let q1 = laid (s + n) p1 in
+        let q2 = laid (s + n + 1) p2 in
+        let q3 = laid (s + n + 1 + 1) p3 in
+        let g3 = after q1 q2 t q3 (r .now) (r .before) (s + 2) (n + 1) in
         renamed
         (units-run us g3 na nb (counterBefore nl) units (s + 2) (n + 1)
         (record {
-          a = p1;
-          b = p2;
-          last = p3;
+          a = q1;
+          b = q2;
+          last = q3;
           t = t;
           now = r .now;
           before = r .before;

@@ -28,22 +28,32 @@ use Rattle.segment_rules.specs.Check.{Progress, step, run}
 use Rattle.segment_rules.proofs.ByKind.{counted}
 use Rattle.mux_rules.specs.declared.Channel.{Channel}
 
+-- a packet with its index in the segment
+pub record Laid : Type 0 where
+  pub index : ℕ
+  pub bytes : Bytes
+
+abbrev pub laid : ℕ → Bytes → Laid
+laid i p = record { index = i; bytes = p }
+
 -- the record of a PID of which this was the last packet
-abbrev pub seen : ℕ → Bytes → StreamRecord
-seen n p = record { pid = n; last = some p; repeat = false }
+abbrev pub seen : ℕ → Laid → StreamRecord
+seen n q = record { pid = n; last = some (q .bytes); lies = q .index; repeat = false }
 
 module _ (c : Channel) (d : Bytes) where
+  -- the first packet of the segment brings the first PAT, the second the first PMT
   abbrev pub firstPat : FirstPat
-  firstPat = record { section = pat (c .program) (c .«map_pid»); says = record { number = c .program; «map_pid» = c .«map_pid» } }
+  firstPat =
+      record { packet = 0; section = pat (c .program) (c .«map_pid»); says = record { number = c .program; «map_pid» = c .«map_pid» } }
 
   abbrev pub firstPmt : FirstPmt
-  firstPmt = record { section = pmt (c .program) (c .«av1_pid») d; says = mapFor (c .«av1_pid») d }
+  firstPmt = record { packet = 1; section = pmt (c .program) (c .«av1_pid») d; says = mapFor (c .«av1_pid») d }
 
   -- after the first PAT, which is the packet a; after the first PMT, which is b
-  abbrev pub afterPat : Bytes → Tables
+  abbrev pub afterPat : Laid → Tables
   afterPat a = record { pat = some firstPat; pmt = none; records = seen 0 a ∷ named (c .«map_pid») ∷ []; pcr = clock.None }
 
-  abbrev pub afterPmt : Bytes → Bytes → Tables
+  abbrev pub afterPmt : Laid → Laid → Tables
   afterPmt a b =
       record {
         pat = some firstPat;
@@ -53,7 +63,7 @@ module _ (c : Channel) (d : Bytes) where
       }
 
   -- from the first PCR on: the last packets of the three PIDs, and the last PCR
-  abbrev pub inTables : Bytes → Bytes → Bytes → Ticks27 → Tables
+  abbrev pub inTables : Laid → Laid → Laid → Ticks27 → Tables
   inTables a b l t =
       record {
         pat = some firstPat;
@@ -92,24 +102,24 @@ first-new : (p : Bytes) → (copyOf none p && true) ≡ false
 unfolding copyOf
 first-new p = ap (λ (b : Bool). b && true) (and-false (hasPayload p && not (discontinuityIndicator p)))
 
-pub first-check : (n : ℕ) (p : Bytes) → check (named n) p ≡ passed (seen n p)
+pub first-check : (i n : ℕ) (p : Bytes) → check i (named n) p ≡ passed (seen n (laid i p))
 unfolding counterRight
-first-check n p =
-    check-right (named n) p refl
-    ∙ ap (λ (b : Bool). passed (record { pid = n; last = some p; repeat = b })) (first-new p)
+first-check i n p =
+    check-right i (named n) p refl
+    ∙ ap (λ (b : Bool). passed (record { pid = n; last = some p; lies = i; repeat = b })) (first-new p)
 
 -- then the one that is due, which no copy has
 due-new : (l p : Bytes) → counterRight (some l) p ≡ true → (copyOf (some l) p && true) ≡ false
 due-new l p e = case (copyOf (some l) p) (λ k. clash e (copy-not-due l p k)) (λ k. ap (λ (b : Bool). b && true) k)
 
-pub next-check : (n : ℕ) (l p : Bytes) → discontinuityIndicator p ≡ false → continuityCounter p ≡ due (continuityCounter l) (hasPayload p)
-    → check (seen n l) p ≡ passed (seen n p)
+pub next-check : (i n : ℕ) (l : Laid) (p : Bytes) → discontinuityIndicator p ≡ false
+    → continuityCounter p ≡ due (continuityCounter (l .bytes)) (hasPayload p) → check i (seen n l) p ≡ passed (seen n (laid i p))
 unfolding counterRight
-next-check n l p steady e =
-    let right : counterRight (some l) p ≡ true =
-    rw (steady, eq-eqb (continuityCounter p) (due (continuityCounter l) (hasPayload p)) e) in
-    check-right (seen n l) p (ap (λ (b : Bool). b || (copyOf (some l) p && true)) right)
-    ∙ ap (λ (b : Bool). passed (record { pid = n; last = some p; repeat = b })) (due-new l p right)
+next-check i n l p steady e =
+    let right : counterRight (some (l .bytes)) p ≡ true =
+    rw (steady, eq-eqb (continuityCounter p) (due (continuityCounter (l .bytes)) (hasPayload p)) e) in
+    check-right i (seen n l) p (ap (λ (b : Bool). b || (copyOf (some (l .bytes)) p && true)) right)
+    ∙ ap (λ (b : Bool). passed (record { pid = n; last = some p; lies = i; repeat = b })) (due-new (l .bytes) p right)
 
 -- none of these records says that the last packet of its PID was a repeat
 pub none-repeats : (n : ℕ) (records : List StreamRecord) → All (λ r. r .repeat ≡ false) records
@@ -119,15 +129,15 @@ none-repeats n [] h = refl
 none-repeats n (r ∷ records) h =
     case (eqb (r .pid) n) (λ e. rw e (h .0)) (λ e. rw e (none-repeats n records (h .1)))
 
-module _ (r r′ : StreamRecord) (records : List StreamRecord) (p : Bytes) where
+module _ (i : ℕ) (r r′ : StreamRecord) (records : List StreamRecord) (p : Bytes) where
   -- the record of the packet's PID is the first
-  pub checked-first : r .pid ≡ pid p → check r p ≡ passed r′ → checkedIn (r ∷ records) p ≡ passed (r′ ∷ records)
+  pub checked-first : r .pid ≡ pid p → check i r p ≡ passed r′ → checkedIn i (r ∷ records) p ≡ passed (r′ ∷ records)
   unfolding checkedIn pick _>>=_
   checked-first e f = rw (eq-eqb (r .pid) (pid p) e, f)
 
   -- or one behind it
-  pub checked-later : (after : List StreamRecord) → (r .pid ≡ pid p → ⊥) → checkedIn records p ≡ passed after
-      → checkedIn (r ∷ records) p ≡ passed (r ∷ after)
+  pub checked-later : (after : List StreamRecord) → (r .pid ≡ pid p → ⊥) → checkedIn i records p ≡ passed after
+      → checkedIn i (r ∷ records) p ≡ passed (r ∷ after)
   unfolding checkedIn pick _>>=_
   checked-later after n f = rw (ne-eqb (r .pid) (pid p) n, f)
 
@@ -148,7 +158,8 @@ uncounted p none e = refl
 uncounted p (some pmt) e = rw e (either (eqb (pid p) (pmt .says .pcrPid)))
 
 -- ---- both: the counter is checked by these records, and the last PCR is then this
-pub counted-by : (i : ℕ) (p : Bytes) (st : State) (after : List StreamRecord) (t : Clock) → checkedIn (st .tables .records) p ≡ passed after
+pub counted-by : (i : ℕ) (p : Bytes) (st : State) (after : List StreamRecord) (t : Clock)
+    → checkedIn i (st .tables .records) p ≡ passed after
     → lastPcr (st .tables .pcr) (countingPcr (st .tables .pmt) p) ≡ t
     → counted i p st ≡ passed (withTables (record { pat = st .tables .pat; pmt = st .tables .pmt; records = after; pcr = t }) st)
 unfolding onTables checked atPlace _>>=_

@@ -1,6 +1,5 @@
 -- The first three packets of a segment that send wrote, the PAT, the PMT and the PCR: as the first of a segment, and after another send's.
--- Assumes
--- nothing.
+-- Assumes nothing.
 use Prim.Native.Nat.{ℕ, _≤_, _<_}
 use mathlib.Core.Bool.{Bool, true, false}
 use mathlib.Core.Path.{_≡_, refl, sym, ap, _∙_}
@@ -37,9 +36,8 @@ use Rattle.refusal.proofs.Verdicts.{All, go-on}
 use Rattle.segment_rules.proofs.ByKind.{counted, pat-packet, map-packet, av1-empty}
 use Rattle.mux_rules.specs.declared.Channel.{Channel}
 use Rattle.mux_rules.specs.Packets.{sectionPacket}
-use Rattle.mux_rules.proofs.States.{seen, firstPat, firstPmt, afterPat, afterPmt, inTables, first-check, next-check, checked-first}
-use Rattle.mux_rules.proofs.States.{none-repeats}
-use Rattle.mux_rules.proofs.States.{checked-later, no-clock, uncounted, counted-by}
+use Rattle.mux_rules.proofs.States.{Laid, laid, seen, firstPat, firstPmt, afterPat, afterPmt, inTables, first-check, next-check}
+use Rattle.mux_rules.proofs.States.{none-repeats, checked-first, checked-later, no-clock, uncounted, counted-by}
 
 -- ---- a section's packet
 -- of a section with so many bytes behind its eight fixed ones, on this PID
@@ -113,43 +111,44 @@ module _ (c : Channel) (d : Bytes) (rooms : Rooms) (i : ℕ) where
     pat-has = section-carries 0 n 0 0 rest (omega arith) hn (omega arith)
 
     pat-said : (s : Bool) (w : Bytes) → misplaced s w ≡ false → sectionOf w ≡ pat (c .program) (c .«map_pid»)
-        → (t : Tables) → t .pat ≡ none → t .pmt ≡ none → t .records ≡ seen 0 (patIs c n) ∷ [] → t .pcr ≡ clock.None
-        → atPlace i (sectionRead current Pat s w t) ≡ passed (afterPat c d (patIs c n))
+        → (t : Tables) → t .pat ≡ none → t .pmt ≡ none → t .records ≡ seen 0 (laid 0 (patIs c n)) ∷ [] → t .pcr ≡ clock.None
+        → atPlace 0 (sectionRead current Pat 0 s w t) ≡ passed (afterPat c d (laid 0 (patIs c n)))
     unfolding sectionRead patSection atPlace given pick _>>_ _>>=_
     pat-said s w m e t ep em er ec = rw (ep, m, e, pat-read (c .program) (c .«map_pid») some-program low high, em, er, ec)
 
-    -- the first of a segment
-    pub pat-first : packetRules current rooms i (patIs c n) Pat fresh
-        ≡ passed (record { tables = afterPat c d (patIs c n); extraction = fresh .extraction })
+    -- the first of a segment, which has index 0
+    pub pat-first : packetRules current rooms 0 (patIs c n) Pat fresh
+        ≡ passed (record { tables = afterPat c d (laid 0 (patIs c n)); extraction = fresh .extraction })
     pat-first =
-        pat-packet current rooms i (patIs c n) fresh _ (pat-reads .passes) pat-has
-        ∙ section-taken rooms i (patIs c n) fresh _ (afterPat c d (patIs c n))
-        (sectionRead current Pat (payloadUnitStartIndicator (patIs c n)) (payload (patIs c n))) (refl, tt)
-        (counted-by i (patIs c n) fresh (seen 0 (patIs c n) ∷ []) clock.None
-        (checked-first (named 0) _ [] (patIs c n) (sym (pat-reads .pid)) (first-check 0 (patIs c n)))
+        pat-packet current rooms 0 (patIs c n) fresh _ (pat-reads .passes) pat-has
+        ∙ section-taken rooms 0 (patIs c n) fresh _ (afterPat c d (laid 0 (patIs c n)))
+        (sectionRead current Pat 0 (payloadUnitStartIndicator (patIs c n)) (payload (patIs c n))) (refl, tt)
+        (counted-by 0 (patIs c n) fresh (seen 0 (laid 0 (patIs c n)) ∷ []) clock.None
+        (checked-first 0 (named 0) _ [] (patIs c n) (sym (pat-reads .pid)) (first-check 0 0 (patIs c n)))
         (still (patIs c n) none clock.None (pat-reads .clock)))
         (pat-said (payloadUnitStartIndicator (patIs c n)) (payload (patIs c n)) (section-placed 0 n 0 0 rest (omega arith) hn (omega arith))
         (section-found 0 n 0 0 rest (omega arith) hn (omega arith)) _ refl refl refl refl)
 
     pat-same : (s : Bool) (w : Bytes) → misplaced s w ≡ false → sectionOf w ≡ pat (c .program) (c .«map_pid») → (t : Tables)
         → t .pat ≡ some (firstPat c d)
-        → atPlace i (sectionRead current Pat s w t) ≡ passed t
+        → atPlace i (sectionRead current Pat i s w t) ≡ passed t
     unfolding sectionRead patSection laterSection atPlace given pick _>>_ _>>=_
     pat-same s w m e t ep = rw (ep, m, e, same-self (pat (c .program) (c .«map_pid»)))
 
     -- after another send's
-    pub pat-again : (a b l : Bytes) (t : Ticks27) (x : Extraction) → counterAfter (continuityCounter a) 1 ≡ n
+    pub pat-again : (a b l : Laid) (t : Ticks27) (x : Extraction) → counterAfter (continuityCounter (a .bytes)) 1 ≡ n
         → packetRules current rooms i (patIs c n) Pat (record { tables = inTables c d a b l t; extraction = x })
-        ≡ passed (record { tables = inTables c d (patIs c n) b l t; extraction = x })
+        ≡ passed (record { tables = inTables c d (laid i (patIs c n)) b l t; extraction = x })
     pat-again a b l t x e =
         let st : State = record { tables = inTables c d a b l t; extraction = x } in
         let r = pat-reads in
         pat-packet current rooms i (patIs c n) st _ (r .passes) pat-has
-        ∙ section-taken rooms i (patIs c n) st _ (inTables c d (patIs c n) b l t)
-        (sectionRead current Pat (payloadUnitStartIndicator (patIs c n)) (payload (patIs c n))) (refl, (refl, (refl, tt)))
+        ∙ section-taken rooms i (patIs c n) st _ (inTables c d (laid i (patIs c n)) b l t)
+        (sectionRead current Pat i (payloadUnitStartIndicator (patIs c n)) (payload (patIs c n))) (refl, (refl, (refl, tt)))
         (counted-by i (patIs c n) st _ (clock.Pcr t)
-        (checked-first (seen 0 a) _ _ (patIs c n) (sym (r .pid))
-        (next-check 0 a (patIs c n) (r .steady) (r .counter ∙ sym e ∙ due-next (continuityCounter a) (hasPayload (patIs c n)) pat-has)))
+        (checked-first i (seen 0 a) _ _ (patIs c n) (sym (r .pid))
+        (next-check i 0 a (patIs c n) (r .steady)
+        (r .counter ∙ sym e ∙ due-next (continuityCounter (a .bytes)) (hasPayload (patIs c n)) pat-has)))
         (still (patIs c n) (some (firstPmt c d)) (clock.Pcr t) (r .clock)))
         (pat-same (payloadUnitStartIndicator (patIs c n)) (payload (patIs c n)) (section-placed 0 n 0 0 rest (omega arith) hn (omega arith))
         (section-found 0 n 0 0 rest (omega arith) hn (omega arith)) _ refl)
@@ -173,48 +172,49 @@ module _ (c : Channel) (d : Bytes) (rooms : Rooms) (i : ℕ) where
     not-zero e = omega (arith, pmt-reads .pid)
 
     pmt-said : (s : Bool) (w : Bytes) → misplaced s w ≡ false → sectionOf w ≡ pmt (c .program) (c .«av1_pid») d
-        → (a : Bytes) (t : Tables) → t .pat ≡ some (firstPat c d) → t .pmt ≡ none
-        → t .records ≡ seen 0 a ∷ seen (c .«map_pid») (pmtIs c d n) ∷ [] → t .pcr ≡ clock.None
-        → atPlace i (sectionRead current Map s w t) ≡ passed (afterPmt c d a (pmtIs c d n))
+        → (a : Laid) (t : Tables) → t .pat ≡ some (firstPat c d) → t .pmt ≡ none
+        → t .records ≡ seen 0 a ∷ seen (c .«map_pid») (laid 1 (pmtIs c d n)) ∷ [] → t .pcr ≡ clock.None
+        → atPlace 1 (sectionRead current Map 1 s w t) ≡ passed (afterPmt c d a (laid 1 (pmtIs c d n)))
     unfolding sectionRead pmtSection atPlace given pick _>>_ _>>=_
     pmt-said s w m e a t ep em er ec = rw (ep, em, m, e, pmt-read (c .program) (c .«map_pid») (c .«av1_pid») d p0 high p2 fine, er, ec)
 
-    pub pmt-first : (a : Bytes) (x : Extraction)
-        → packetRules current rooms i (pmtIs c d n) Map (record { tables = afterPat c d a; extraction = x })
-        ≡ passed (record { tables = afterPmt c d a (pmtIs c d n); extraction = x })
+    -- the second of a segment
+    pub pmt-first : (a : Laid) (x : Extraction)
+        → packetRules current rooms 1 (pmtIs c d n) Map (record { tables = afterPat c d a; extraction = x })
+        ≡ passed (record { tables = afterPmt c d a (laid 1 (pmtIs c d n)); extraction = x })
     pmt-first a x =
         let st : State = record { tables = afterPat c d a; extraction = x } in
         let r = pmt-reads in
-        map-packet current rooms i (pmtIs c d n) st _ (r .passes) pmt-has
-        ∙ section-taken rooms i (pmtIs c d n) st _ (afterPmt c d a (pmtIs c d n))
-        (sectionRead current Map (payloadUnitStartIndicator (pmtIs c d n)) (payload (pmtIs c d n))) (refl, (refl, tt))
-        (counted-by i (pmtIs c d n) st _ clock.None
-        (checked-later (seen 0 a) (seen 0 a) _ (pmtIs c d n) _ not-zero
-        (checked-first (named (c .«map_pid»)) _ [] (pmtIs c d n) (sym (r .pid)) (first-check (c .«map_pid») (pmtIs c d n))))
+        map-packet current rooms 1 (pmtIs c d n) st _ (r .passes) pmt-has
+        ∙ section-taken rooms 1 (pmtIs c d n) st _ (afterPmt c d a (laid 1 (pmtIs c d n)))
+        (sectionRead current Map 1 (payloadUnitStartIndicator (pmtIs c d n)) (payload (pmtIs c d n))) (refl, (refl, tt))
+        (counted-by 1 (pmtIs c d n) st _ clock.None
+        (checked-later 1 (seen 0 a) (seen 0 a) _ (pmtIs c d n) _ not-zero
+        (checked-first 1 (named (c .«map_pid»)) _ [] (pmtIs c d n) (sym (r .pid)) (first-check 1 (c .«map_pid») (pmtIs c d n))))
         (still (pmtIs c d n) none clock.None (r .clock)))
         (pmt-said (payloadUnitStartIndicator (pmtIs c d n)) (payload (pmtIs c d n))
         (section-placed (c .«map_pid») n 2 (c .program) rests (omega arith) hn short)
         (section-found (c .«map_pid») n 2 (c .program) rests (omega arith) hn short) a _ refl refl refl refl)
 
     pmt-same : (s : Bool) (w : Bytes) → misplaced s w ≡ false → sectionOf w ≡ pmt (c .program) (c .«av1_pid») d → (t : Tables)
-        → t .pat ≡ some (firstPat c d) → t .pmt ≡ some (firstPmt c d) → atPlace i (sectionRead current Map s w t) ≡ passed t
+        → t .pat ≡ some (firstPat c d) → t .pmt ≡ some (firstPmt c d) → atPlace i (sectionRead current Map i s w t) ≡ passed t
     unfolding sectionRead pmtSection laterSection atPlace given pick _>>_ _>>=_
     pmt-same s w m e t ep em = rw (ep, em, m, e, same-self (pmt (c .program) (c .«av1_pid») d))
 
-    pub pmt-again : (a b l : Bytes) (t : Ticks27) (x : Extraction) → counterAfter (continuityCounter b) 1 ≡ n
+    pub pmt-again : (a b l : Laid) (t : Ticks27) (x : Extraction) → counterAfter (continuityCounter (b .bytes)) 1 ≡ n
         → packetRules current rooms i (pmtIs c d n) Map (record { tables = inTables c d a b l t; extraction = x })
-        ≡ passed (record { tables = inTables c d a (pmtIs c d n) l t; extraction = x })
+        ≡ passed (record { tables = inTables c d a (laid i (pmtIs c d n)) l t; extraction = x })
     pmt-again a b l t x e =
         let st : State = record { tables = inTables c d a b l t; extraction = x } in
         let r = pmt-reads in
         map-packet current rooms i (pmtIs c d n) st _ (r .passes) pmt-has
-        ∙ section-taken rooms i (pmtIs c d n) st _ (inTables c d a (pmtIs c d n) l t)
-        (sectionRead current Map (payloadUnitStartIndicator (pmtIs c d n)) (payload (pmtIs c d n))) (refl, (refl, (refl, tt)))
+        ∙ section-taken rooms i (pmtIs c d n) st _ (inTables c d a (laid i (pmtIs c d n)) l t)
+        (sectionRead current Map i (payloadUnitStartIndicator (pmtIs c d n)) (payload (pmtIs c d n))) (refl, (refl, (refl, tt)))
         (counted-by i (pmtIs c d n) st _ (clock.Pcr t)
-        (checked-later (seen 0 a) (seen 0 a) _ (pmtIs c d n) _ not-zero
-        (checked-first (seen (c .«map_pid») b) _ _ (pmtIs c d n) (sym (r .pid))
-        (next-check (c .«map_pid») b (pmtIs c d n) (r .steady)
-        (r .counter ∙ sym e ∙ due-next (continuityCounter b) (hasPayload (pmtIs c d n)) pmt-has))))
+        (checked-later i (seen 0 a) (seen 0 a) _ (pmtIs c d n) _ not-zero
+        (checked-first i (seen (c .«map_pid») b) _ _ (pmtIs c d n) (sym (r .pid))
+        (next-check i (c .«map_pid») b (pmtIs c d n) (r .steady)
+        (r .counter ∙ sym e ∙ due-next (continuityCounter (b .bytes)) (hasPayload (pmtIs c d n)) pmt-has))))
         (still (pmtIs c d n) (some (firstPmt c d)) (clock.Pcr t) (r .clock)))
         (pmt-same (payloadUnitStartIndicator (pmtIs c d n)) (payload (pmtIs c d n))
         (section-placed (c .«map_pid») n 2 (c .program) rests (omega arith) hn short)
@@ -247,30 +247,30 @@ module _ (c : Channel) (d : Bytes) (rooms : Rooms) (i : ℕ) where
     not-map : c .«map_pid» ≡ packet.pid (pcrIs c n t) → ⊥
     not-map e = p2 (sym (clock-reads .pid) ∙ sym e)
 
-    pub pcr-first : (a b : Bytes) (x : Extraction)
+    pub pcr-first : (a b : Laid) (x : Extraction)
         → packetRules current rooms i (pcrIs c n t) Av1 (record { tables = afterPmt c d a b; extraction = x })
-        ≡ passed (record { tables = inTables c d a b (pcrIs c n t) t; extraction = x })
+        ≡ passed (record { tables = inTables c d a b (laid i (pcrIs c n t)) t; extraction = x })
     pcr-first a b x =
         let st : State = record { tables = afterPmt c d a b; extraction = x } in
         let r = clock-reads in
         av1-empty current rooms i (pcrIs c n t) st _ (r .passes) clock-empty
         ∙ counted-by i (pcrIs c n t) st _ (clock.Pcr t)
-        (checked-later (seen 0 a) (seen 0 a) _ (pcrIs c n t) _ not-first
-        (checked-later (seen (c .«map_pid») b) (seen (c .«map_pid») b) _ (pcrIs c n t) _ not-map
-        (checked-first (named (c .«av1_pid»)) _ [] (pcrIs c n t) (sym (r .pid)) (first-check (c .«av1_pid») (pcrIs c n t)))))
+        (checked-later i (seen 0 a) (seen 0 a) _ (pcrIs c n t) _ not-first
+        (checked-later i (seen (c .«map_pid») b) (seen (c .«map_pid») b) _ (pcrIs c n t) _ not-map
+        (checked-first i (named (c .«av1_pid»)) _ [] (pcrIs c n t) (sym (r .pid)) (first-check i (c .«av1_pid») (pcrIs c n t)))))
         (counts clock.None)
 
-    pub pcr-again : (a b l : Bytes) (earlier : Ticks27) (x : Extraction) → continuityCounter l ≡ n
+    pub pcr-again : (a b l : Laid) (earlier : Ticks27) (x : Extraction) → continuityCounter (l .bytes) ≡ n
         → packetRules current rooms i (pcrIs c n t) Av1 (record { tables = inTables c d a b l earlier; extraction = x })
-        ≡ passed (record { tables = inTables c d a b (pcrIs c n t) t; extraction = x })
+        ≡ passed (record { tables = inTables c d a b (laid i (pcrIs c n t)) t; extraction = x })
     pcr-again a b l earlier x e =
         let st : State = record { tables = inTables c d a b l earlier; extraction = x } in
         let r = clock-reads in
         av1-empty current rooms i (pcrIs c n t) st _ (r .passes) clock-empty
         ∙ counted-by i (pcrIs c n t) st _ (clock.Pcr t)
-        (checked-later (seen 0 a) (seen 0 a) _ (pcrIs c n t) _ not-first
-        (checked-later (seen (c .«map_pid») b) (seen (c .«map_pid») b) _ (pcrIs c n t) _ not-map
-        (checked-first (seen (c .«av1_pid») l) _ [] (pcrIs c n t) (sym (r .pid))
-        (next-check (c .«av1_pid») l (pcrIs c n t) (r .steady)
-        (r .counter ∙ sym e ∙ due-same (continuityCounter l) (hasPayload (pcrIs c n t)) clock-empty)))))
+        (checked-later i (seen 0 a) (seen 0 a) _ (pcrIs c n t) _ not-first
+        (checked-later i (seen (c .«map_pid») b) (seen (c .«map_pid») b) _ (pcrIs c n t) _ not-map
+        (checked-first i (seen (c .«av1_pid») l) _ [] (pcrIs c n t) (sym (r .pid))
+        (next-check i (c .«av1_pid») l (pcrIs c n t) (r .steady)
+        (r .counter ∙ sym e ∙ due-same (continuityCounter (l .bytes)) (hasPayload (pcrIs c n t)) clock-empty)))))
         (counts (clock.Pcr earlier))

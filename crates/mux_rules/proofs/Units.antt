@@ -39,9 +39,8 @@ use Rattle.mux_rules.specs.Packets.{header, othersFor, firstPart, otherP
 use Rattle.mux_rules.proofs.Cuts.{firstBytes, first-part, other-parts, first-short, first-some, first-steady, first-clockless}
 use Rattle.mux_rules.proofs.Cuts.{other-some}
 use Rattle.mux_rules.proofs.Cuts.{other-short, others-next, others-none}
-use Rattle.mux_rules.proofs.States.{seen, none-repeats, firstPmt, inTables, kind-av1, next-check, checked-first, checked-later}
-use Rattle.mux_rules.proofs.States.{counted-by, step-by}
-use Rattle.mux_rules.proofs.States.{run-next, totalsAt}
+use Rattle.mux_rules.proofs.States.{Laid, laid, seen, none-repeats, firstPmt, inTables, kind-av1, next-check, checked-first}
+use Rattle.mux_rules.proofs.States.{checked-later, counted-by, step-by, run-next, totalsAt}
 use Rattle.mux_rules.proofs.Tabling.{still, due-next}
 
 -- the header that the check reads from a unit's first packet
@@ -78,27 +77,27 @@ on-units f st x e = rw e
 
 module _ (c : Channel) (d : Bytes) (rooms : Rooms) (p0 : c .«av1_pid» ≡ 0
     → ⊥) (high : c .«av1_pid» ≤ 0x1FFE) (p2 : c .«av1_pid» ≡ c .«map_pid» → ⊥)
-    (a b : Bytes) (t : Ticks27) where
-  abbrev pub at : Bytes → Option OpenPes → List AccessUnit → State
+    (a b : Laid) (t : Ticks27) where
+  abbrev pub at : Laid → Option OpenPes → List AccessUnit → State
   at l now units = record { tables = inTables c d a b l t; extraction = extracted now units }
 
   -- between two packets, of which so many had a section and so many were of the AV1 PID
-  abbrev pub going : Bytes → Option OpenPes → List AccessUnit → ℕ → ℕ → Progress
+  abbrev pub going : Laid → Option OpenPes → List AccessUnit → ℕ → ℕ → Progress
   going l now units s n = record { index = s + n; state = at l now units; totals = totalsAt s n }
 
-  at-av1 : (p l : Bytes) → packet.pid p ≡ c .«av1_pid» → kindOf (inTables c d a b l t) (packet.pid p) ≡ Av1
+  at-av1 : (p : Bytes) (l : Laid) → packet.pid p ≡ c .«av1_pid» → kindOf (inTables c d a b l t) (packet.pid p) ≡ Av1
   at-av1 p l e = ap (kindOf (inTables c d a b l t)) e ∙ kind-av1 c d p0 high p2 (inTables c d a b l t) refl refl
 
   -- ---- one packet
-  module _ (i : ℕ) (p part : Bytes) (start : Bool) (l : Bytes) (now : Option OpenPes) (units : List AccessUnit)
-      (r : Reads p (c .«av1_pid») start (counterAfter (continuityCounter l) 1) false) (k : Carries p part) where
-    payload-counted : counted i p (at l now units) ≡ passed (at p now units)
+  module _ (i : ℕ) (p part : Bytes) (start : Bool) (l : Laid) (now : Option OpenPes) (units : List AccessUnit)
+      (r : Reads p (c .«av1_pid») start (counterAfter (continuityCounter (l .bytes)) 1) false) (k : Carries p part) where
+    payload-counted : counted i p (at l now units) ≡ passed (at (laid i p) now units)
     payload-counted =
         counted-by i p (at l now units) _ (clock.Pcr t)
-        (checked-later (seen 0 a) (seen 0 a) _ p _ (λ e. p0 (sym (r .pid) ∙ sym e))
-        (checked-later (seen (c .«map_pid») b) (seen (c .«map_pid») b) _ p _ (λ e. p2 (sym (r .pid) ∙ sym e))
-        (checked-first (seen (c .«av1_pid») l) _ [] p (sym (r .pid))
-        (next-check (c .«av1_pid») l p (r .steady) (r .counter ∙ due-next (continuityCounter l) (hasPayload p) (k .has))))))
+        (checked-later i (seen 0 a) (seen 0 a) _ p _ (λ e. p0 (sym (r .pid) ∙ sym e))
+        (checked-later i (seen (c .«map_pid») b) (seen (c .«map_pid») b) _ p _ (λ e. p2 (sym (r .pid) ∙ sym e))
+        (checked-first i (seen (c .«av1_pid») l) _ [] p (sym (r .pid))
+        (next-check i (c .«av1_pid») l p (r .steady) (r .counter ∙ due-next (continuityCounter (l .bytes)) (hasPayload p) (k .has))))))
         (still p (some (firstPmt c d)) (clock.Pcr t) (r .clock))
 
     -- one that starts a PES, where the open one closes
@@ -106,7 +105,7 @@ module _ (c : Channel) (d : Bytes) (rooms : Rooms) (p0 : c .«av1_pid» ≡ 0
         → u .pts .0 < 8589934592
         → u .dts .0 < 8589934592 → closePes (extracted now units) ≡ passed (extracted none units′) → length units′ < 1024
         → length (carriedUnits units′) + length rest ≤ rooms .bytes → length units′ < rooms .lens → 2 * length units′ + 2 ≤ rooms .times
-        → packetRules current rooms i p Av1 (at l now units) ≡ passed (at p (some (openFor i u rest)) units′)
+        → packetRules current rooms i p Av1 (at l now units) ≡ passed (at (laid i p) (some (openFor i u rest)) units′)
     first-taken u rest units′ es ep hp hd closes few inBytes inLens inTimes =
         let o : Opens (u .pts) (u .dts) (payload p) (length (u .carried)) rest =
         subst (λ (x : Bytes). Opens (u .pts) (u .dts) x (length (u .carried)) rest) (sym (k .payload ∙ ep))
@@ -114,11 +113,11 @@ module _ (c : Channel) (d : Bytes) (rooms : Rooms) (p0 : c .«av1_pid» ≡ 0
         let m : length (pesData (payload p)) ≡ length rest = ap length (o .data-is) in
         let e : length (carriedUnits units′ ++ []) ≡ length (carriedUnits units′) = ap length (append-nil (carriedUnits units′)) in
         av1-packet current rooms i p (at l now units) _ (r .passes)
-        ∙ sym (go-on (at p now units) _ payload-counted
-        (sym (sequence.not-repeated p _ (at p now units) (none-repeats _ _ (refl, (refl, (refl, tt))))
-        ∙ sequence.starts current rooms i p (at p now units) (k .has) (r .starts ∙ es)
-        ∙ sym (go-on (at p none units′) _ (on-units closePes (at p now units) (extracted none units′) closes)
-        (sym (sequence.opens current rooms i p (at p now units) (k .has) (r .starts ∙ es) (at p none units′)
+        ∙ sym (go-on (at (laid i p) now units) _ payload-counted
+        (sym (sequence.not-repeated p _ (at (laid i p) now units) (none-repeats _ _ (refl, (refl, (refl, tt))))
+        ∙ sequence.starts current rooms i p (at (laid i p) now units) (k .has) (r .starts ∙ es)
+        ∙ sym (go-on (at (laid i p) none units′) _ (on-units closePes (at (laid i p) now units) (extracted none units′) closes)
+        (sym (sequence.opens current rooms i p (at (laid i p) now units) (k .has) (r .starts ∙ es) (at (laid i p) none units′)
         ∙ sym (pass-at i 29 (o .right)
         (pass-at i 30 (o .timed)
         (pass-at i 31 refl
@@ -127,33 +126,33 @@ module _ (c : Channel) (d : Bytes) (rooms : Rooms) (p0 : c .«av1_pid» ≡ 0
         (neither _ _ (le-ltb (rooms .bytes) (length (carriedUnits units′ ++ []) + length (pesData (payload p))) (omega arith))
         (neither _ _ (le-ltb (rooms .lens) (length units′ + 1) (omega arith))
         (le-ltb (rooms .times) (2 * (length units′ + 1)) (omega arith))))
-        (ap₂ (λ (h : Header) (w : Bytes). passed (at p (some (record { first = i; header = h; bytes = w })) units′)) (sym (o .says))
-        (sym (o .data-is))))))))))))))
+        (ap₂ (λ (h : Header) (w : Bytes). passed (at (laid i p) (some (record { first = i; header = h; bytes = w })) units′))
+        (sym (o .says)) (sym (o .data-is))))))))))))))
 
     -- the bytes that it adds to an open PES
     adds-part : start ≡ false → unitBytes i p Av1 ≡ part
     adds-part es = sym (by-false _ (not-starting (hasPayload p) (r .starts ∙ es)) (sym (k .payload)))
 
-    and-added : (o : OpenPes) → start ≡ false → passed (at p (some (withMore o part)) units)
-        ≡ passed (withExtraction (addedTo i p Av1 (some o) (extracted (some o) units)) (at p (some o) units))
+    and-added : (o : OpenPes) → start ≡ false → passed (at (laid i p) (some (withMore o part)) units)
+        ≡ passed (withExtraction (addedTo i p Av1 (some o) (extracted (some o) units)) (at (laid i p) (some o) units))
     unfolding addedTo
-    and-added o es = ap (λ (w : Bytes). passed (at p (some (withMore o w)) units)) (sym (adds-part es))
+    and-added o es = ap (λ (w : Bytes). passed (at (laid i p) (some (withMore o w)) units)) (sym (adds-part es))
 
     -- one that goes on with the open PES
     pub more-taken : (o : OpenPes) → now ≡ some o → start ≡ false
         → length (carriedUnits units) + length (o .bytes) + length part ≤ rooms .bytes
         → packetRules current rooms i p Av1 (at l now units)
-        ≡ passed (at p (some (withMore o part)) units)
+        ≡ passed (at (laid i p) (some (withMore o part)) units)
     more-taken o en es inBytes =
         let m : length (payload p) ≡ length part = ap length (k .payload) in
         let e = length-append (carriedUnits units) (o .bytes) in
         av1-packet current rooms i p (at l now units) _ (r .passes)
-        ∙ sym (go-on (at p now units) _ payload-counted
+        ∙ sym (go-on (at (laid i p) now units) _ payload-counted
         (subst
-        (λ (x : Option OpenPes). passed (at p (some (withMore o part)) units)
-        ≡ unlessRepeat p (inSequence (pesRules current rooms i p Av1)) (at p x units)) (sym en)
-        (sym (sequence.not-repeated p _ (at p (some o) units) (none-repeats _ _ (refl, (refl, (refl, tt))))
-        ∙ sequence.adds current rooms i p (at p (some o) units) (k .has) (r .starts ∙ es)
+        (λ (x : Option OpenPes). passed (at (laid i p) (some (withMore o part)) units)
+        ≡ unlessRepeat p (inSequence (pesRules current rooms i p Av1)) (at (laid i p) x units)) (sym en)
+        (sym (sequence.not-repeated p _ (at (laid i p) (some o) units) (none-repeats _ _ (refl, (refl, (refl, tt))))
+        ∙ sequence.adds current rooms i p (at (laid i p) (some o) units) (k .has) (r .starts ∙ es)
         ∙ sym (pass-at i 29 refl
         (pass-at i 31 refl
         (pass-at i 8 (le-ltb (rooms .bytes) (length (carriedUnits units ++ o .bytes) + length (payload p)) (omega arith))
@@ -163,13 +162,13 @@ module _ (c : Channel) (d : Bytes) (rooms : Rooms) (p0 : c .«av1_pid» ≡ 0
   module _ (units : List AccessUnit) (s : ℕ) where
     -- where a run comes to: the last packet of the AV1 PID has this counter
     pub record To (v : Verdict Progress) (now : Option OpenPes) (k n : ℕ) : Type 0 where
-      pub last : Bytes
-      pub counter : continuityCounter last ≡ k
+      pub last : Laid
+      pub counter : continuityCounter (last .bytes) ≡ k
       pub is : v ≡ passed (going last now units s n)
 
     -- those after the first
-    pub others-run : (m : ℕ) (w l : Bytes) (k n : ℕ) (o : OpenPes) → othersFor (length w) ≡ m → continuityCounter l ≡ k → k < 16
-        → length (carriedUnits units) + length (o .bytes) + length w ≤ rooms .bytes
+    pub others-run : (m : ℕ) (w : Bytes) (l : Laid) (k n : ℕ) (o : OpenPes) → othersFor (length w) ≡ m
+        → continuityCounter (l .bytes) ≡ k → k < 16 → length (carriedUnits units) + length (o .bytes) + length w ≤ rooms .bytes
         → To (run current rooms (going l (some o) units s n) (others m (c .«av1_pid») (counterAfter k 1) w)) (some (withMore o w))
         (counterAfter k m) (n + m)
     unfolding others run counting
@@ -191,17 +190,17 @@ module _ (c : Channel) (d : Bytes) (rooms : Rooms) (p0 : c .«av1_pid» ≡ 0
         let both =
         carrying-reads (c .«av1_pid») false (counterAfter k 1) 0 (take most w) (omega arith) (omega arith) refl refl (other-short w m hm)
         (other-some w m hm) in
-        let reads : Reads p (c .«av1_pid») false (counterAfter (continuityCounter l) 1) false =
+        let reads : Reads p (c .«av1_pid») false (counterAfter (continuityCounter (l .bytes)) 1) false =
         subst (λ (x : ℕ). Reads p (c .«av1_pid») false (counterAfter x 1) false) (sym hl) (both .0) in
         let one = step-by rooms (going l (some o) units s n) _ p Av1 (at-av1 p l (both .0 .pid))
         (more-taken (s + n) p (take most w) false l (some o) units reads (both .1) o refl refl (omega arith)) in
         let lb = length-append (o .bytes) (take most w) in
         let next : s + n + 1 ≡ s + (n + 1) = omega arith in
         let then : ℕ → Progress =
-        λ x. record { index = x; state = at p (some (withMore o (take most w))) units; totals = totalsAt s (n + 1) } in
+        λ x. record { index = x; state = at (laid (s + n) p) (some (withMore o (take most w))) units; totals = totalsAt s (n + 1) } in
         let rest =
-        others-run m (drop most w) p (counterAfter k 1) (n + 1) (withMore o (take most w)) (others-next w m hm) (both .0 .counter)
-        (omega arith) (omega arith) in
+        others-run m (drop most w) (laid (s + n) p) (counterAfter k 1) (n + 1) (withMore o (take most w)) (others-next w m hm)
+        (both .0 .counter) (omega arith) (omega arith) in
         let ek : counterAfter (counterAfter k 1) m ≡ counterAfter k (suc m) = omega arith in
         let en : n + 1 + m ≡ n + suc m = omega arith in
         let eb : (o .bytes ++ take most w) ++ drop most w ≡ o .bytes ++ w =
@@ -219,9 +218,9 @@ module _ (c : Channel) (d : Bytes) (rooms : Rooms) (p0 : c .«av1_pid» ≡ 0
         }
 
     -- all of them: the PES is open, with the whole unit
-    pub unit-run : (u : TimedUnit) (l : Bytes) (k n : ℕ) (now : Option OpenPes) (before : List AccessUnit) → u .pts .0 < 8589934592
+    pub unit-run : (u : TimedUnit) (l : Laid) (k n : ℕ) (now : Option OpenPes) (before : List AccessUnit) → u .pts .0 < 8589934592
         → u .dts .0 < 8589934592
-        → continuityCounter l ≡ k → k < 16 → closePes (extracted now before) ≡ passed (extracted none units) → length units < 1024
+        → continuityCounter (l .bytes) ≡ k → k < 16 → closePes (extracted now before) ≡ passed (extracted none units) → length units < 1024
         → length (carriedUnits units) + length (u .carried) ≤ rooms .bytes → length units < rooms .lens
         → 2 * length units + 2 ≤ rooms .times
         → To (run current rooms (going l now before s n) (unitPackets (c .«av1_pid») (counterAfter k 1) u))
@@ -239,15 +238,16 @@ module _ (c : Channel) (d : Bytes) (rooms : Rooms) (p0 : c .«av1_pid» ≡ 0
         let both =
         carrying-reads (c .«av1_pid») true (counterAfter k 1) (firstFlags u) (firstPart u) (omega arith) (omega arith) (first-steady u)
         (first-clockless u) (first-short u) (first-some u) in
-        let reads : Reads p (c .«av1_pid») true (counterAfter (continuityCounter l) 1) false =
+        let reads : Reads p (c .«av1_pid») true (counterAfter (continuityCounter (l .bytes)) 1) false =
         subst (λ (x : ℕ). Reads p (c .«av1_pid») true (counterAfter x 1) false) (sym hl) (both .0) in
         let one = step-by rooms (going l now before s n) _ p Av1 (at-av1 p l (both .0 .pid))
         (first-taken (s + n) p (firstPart u) true l now before reads (both .1) u w units refl (first-part u) hp hd closes few
         (omega arith) inLens inTimes) in
         let next : s + n + 1 ≡ s + (n + 1) = omega arith in
-        let then : ℕ → Progress = λ x. record { index = x; state = at p (some (openFor (s + n) u w)) units; totals = totalsAt s (n + 1) } in
+        let then : ℕ → Progress =
+        λ x. record { index = x; state = at (laid (s + n) p) (some (openFor (s + n) u w)) units; totals = totalsAt s (n + 1) } in
         let rest =
-        others-run m (otherParts u) p (counterAfter k 1) (n + 1) (openFor (s + n) u w) refl (both .0 .counter) (omega arith)
+        others-run m (otherParts u) (laid (s + n) p) (counterAfter k 1) (n + 1) (openFor (s + n) u w) refl (both .0 .counter) (omega arith)
         (omega arith) in
         let ek : counterAfter (counterAfter k 1) m ≡ counterAfter k (suc m) = omega arith in
         let en : n + 1 + m ≡ n + suc m = omega arith in

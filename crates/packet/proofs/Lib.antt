@@ -2,6 +2,7 @@ pub mod Headers
 pub mod Plain
 pub mod Counters
 pub mod Slots
+pub mod Keeping
 pub mod Recorded
 pub mod Packets
 pub mod Copies

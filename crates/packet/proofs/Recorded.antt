@@ -1,7 +1,6 @@
 -- The check of a packet by the record that the lookup of its PID finds (`found-at`, `found-none`), and which PIDs the lookup finds
--- (`any-at`, `any-none`,
--- `unrecorded-none`). Assumes nothing.
-use Prim.Native.Nat.{ℕ, suc}
+-- (`any-at`, `any-none`, `unrecorded-none`); the record of a PID by its slot (`record-first`, `record-put`). Assumes nothing.
+use Prim.Native.Nat.{ℕ, zero, suc, _<_}
 use mathlib.Core.Bool.{Bool, true, false, _||_}
 use mathlib.Core.Path.{_≡_, refl, sym, ap, _∙_}
 use mathlib.Core.List.{List, [], _∷_}
@@ -9,7 +8,8 @@ use mathlib.Core.Option.{none, some}
 use native.Mathlib.Omega.{arith}
 use borrow.Author.Tests.{eq-eqb, ne-eqb, eqb-true, eqb-false}
 use lib.Dec.{eqb}
-use lib.ListN.{getD, set, length-map, List·getD-map}
+use lib.ListN.{length, getD, set, length-map, List·getD-map}
+use lib.Seq.{set-getD}
 use Rattle.lists.specs.Lists.{Bytes, pick, any}
 use Rattle.lists.proofs.Tests.{case}
 use Rattle.refusal.specs.Verdict.{passed, _>>=_}
@@ -89,21 +89,22 @@ any-none n l e = go 0 l e
         (λ t. rw (ne-eqb n m (λ z. eqb-false m n t (sym z))) (go (suc k) l (sym (look-behind k n m l t) ∙ f)))
 
 -- ---- the records
-module _ (p : Bytes) (records : List StreamRecord) where
+module _ (i : ℕ) (p : Bytes) (records : List StreamRecord) where
   -- of a slot that the lookup found
   pub found-at : (k : ℕ) → lookUp (pid p) (pidsOf records) ≡ At k
-      → checkedIn records p ≡ (check (getD records k (named 0)) p >>= λ r. passed (set records k r))
+      → checkedIn i records p ≡ (check i (getD records k (named 0)) p >>= λ r. passed (set records k r))
   found-at k e =
       let f = look-up-at (pid p) (pidsOf records) k e in
       let at : (j : ℕ) → getD (pidsOf records) j 0 ≡ getD records j (named 0) .pid = λ j. List·getD-map (λ (r : StreamRecord). r .pid)
       records j (named 0) in
-      checked-at p records k (named 0) (omega (arith, f .within, length-map records (λ (r : StreamRecord). r .pid))) (sym (at k) ∙ f .has)
+      checked-at i p records k (named 0) (omega (arith, f .within, length-map records (λ (r : StreamRecord). r .pid))) (sym (at k) ∙ f .has)
       (λ j h z. f .first j h (at j ∙ z))
 
 -- where it found none, there is nothing to check
-pub found-none : (p : Bytes) (records : List StreamRecord) → lookUp (pid p) (pidsOf records) ≡ None → checkedIn records p ≡ passed records
+pub found-none : (i : ℕ) (p : Bytes) (records : List StreamRecord)
+    → lookUp (pid p) (pidsOf records) ≡ None → checkedIn i records p ≡ passed records
 unfolding recordOf pick
-found-none p records e = unrecorded p records (go 0 records e)
+found-none i p records e = unrecorded i p records (go 0 records e)
   where
     go : (k : ℕ) (l : List StreamRecord) → lookUpFrom k (pid p) (pidsOf l) ≡ None → recordOf (pid p) l ≡ none
     go k [] f = refl
@@ -123,3 +124,19 @@ unrecorded-none n records e = go 0 records e
         case (eqb (r .pid) n)
         (λ t. absurd (some-not-none r (sym (ap (λ (b : Bool). pick b (some r) (recordOf n l)) t) ∙ f)))
         (λ t. look-behind k n (r .pid) (pidsOf l) t ∙ go (suc k) l (sym (ap (λ (b : Bool). pick b (some r) (recordOf n l)) t) ∙ f))
+
+-- ---- the record of a PID
+-- the first record that has the PID, where another is put in its place that has it too
+pub record-put : (n : ℕ) (records : List StreamRecord) (k : ℕ) (t : StreamRecord) → k < length records → t .pid ≡ n
+    → ((j : ℕ) → j < k → getD records j (named 0) .pid ≡ n → ⊥) → recordOf n (set records k t) ≡ some t
+unfolding recordOf pick
+record-put n [] k t h e f = absurd (omega arith)
+record-put n (r ∷ records) zero t h e f = rw (eq-eqb (t .pid) n e)
+record-put n (r ∷ records) (suc k) t h e f =
+    rw (ne-eqb (r .pid) n (f 0 (omega arith))) (record-put n records k t (omega arith) e (λ j i. f (suc j) (omega arith)))
+
+-- the first record that has it
+pub record-first : (n : ℕ) (records : List StreamRecord) (k : ℕ) → k < length records → getD records k (named 0) .pid ≡ n
+    → ((j : ℕ) → j < k → getD records j (named 0) .pid ≡ n → ⊥) → recordOf n records ≡ some (getD records k (named 0))
+record-first n records k h e f =
+    ap (recordOf n) (sym (set-getD records k (named 0))) ∙ record-put n records k (getD records k (named 0)) h e f

@@ -1,71 +1,94 @@
--- The lookup of a PID, one slot at a time; what its answer means (`look-up-at`, `look-up-none`); that a record put back in its slot changes
--- no lookup (`look-up-same`); what is listed after each operation (`none-listed`, `of-listed`, `put-listed`). Assumes nothing.
-use Prim.Native.Nat.{ℕ, zero, suc, _+_, _≤_, _<_}
+-- The lookup of a PID, one slot at a time, also among the PIDs that the code keeps (`slot-end`, `slot-here`, `slot-next`); what its answer
+-- means (`look-up-at`, `look-up-none`); the last packet that two numbers stand for (`mark-none`, `mark-some`). Assumes nothing.
+use Prim.Native.Nat.{ℕ, zero, suc, _+_, _-_, _/_, _%_, _≤_, _<_}
 use mathlib.Core.Path.{_≡_, refl, sym, ap, subst, _∙_}
-use mathlib.Core.List.{List, [], _∷_, _++_, map, map-append}
-use native.Mathlib.Numerals.{add-one}
+use mathlib.Core.List.{List, [], _∷_, _++_}
 use native.Mathlib.Omega.{arith}
 use borrow.Author.Tests.{eqb-true, eqb-false, eq-eqb, ne-eqb}
 use lib.Dec.{eqb}
-use lib.ListN.{length, getD, take, drop, set, length-take, drop-of-length-le}
-use lib.Seq.{drop-cons, getD-take, take-suc, take-suc-set}
+use lib.ListN.{length, getD, take, drop, replicate, length-append, length-take, length-drop, drop-of-length-le}
+use lib.Seq.{getD-take, getD-drop}
+use Rattle.lists.proofs.Parts.{next}
 use Rattle.lists.proofs.Tests.{case}
-use Rattle.packet.specs.declared.counter.Stream.{Stream}
-use Rattle.packet.specs.declared.streams.Streams.{Streams}
+use Rattle.packet.specs.declared.counter.Last.the-variants as last
 use Rattle.packet.specs.declared.streams.Slot.{Slot}
 use Rattle.packet.specs.declared.streams.Slot.the-variants.{At, None}
-use Rattle.packet.specs.Counter.{namedStream}
-use Rattle.packet.specs.Streams.{listed, pidsIn, lookUpFrom, lookUp, streamsOf, putBack}
+use Rattle.packet.specs.Streams.{lookUpFrom, lookUp, mostRecords, listedPids, lastFrom}
 
 -- ---- the lookup, one slot at a time
 module _ (slot pid n : ℕ) (pids : List ℕ) where
-  first-has : n ≡ pid → lookUpFrom slot pid (n ∷ pids) ≡ At slot
+  pub first-has : n ≡ pid → lookUpFrom slot pid (n ∷ pids) ≡ At slot
   unfolding lookUpFrom
   first-has e = rw (eq-eqb _ _ e, lookUpFrom)
 
-  first-has-not : (n ≡ pid → ⊥) → lookUpFrom slot pid (n ∷ pids) ≡ lookUpFrom (suc slot) pid pids
+  pub first-has-not : (n ≡ pid → ⊥) → lookUpFrom slot pid (n ∷ pids) ≡ lookUpFrom (suc slot) pid pids
   unfolding lookUpFrom
   first-has-not e = rw (ne-eqb _ _ e, lookUpFrom)
 
-drop-pids : (i : ℕ) (l : List Stream) → drop i (pidsIn l) ≡ pidsIn (drop i l)
-drop-pids zero l = refl
-drop-pids (suc i) [] = refl
-drop-pids (suc i) (s ∷ l) = drop-pids i l
+-- ---- among the PIDs of so many listed streams
+-- zeros behind the end of a list change no element
+none-behind : (n k : ℕ) → _≡_ {A = ℕ} (getD (replicate n 0) k 0) 0
+none-behind zero k = refl
+none-behind (suc n) zero = refl
+none-behind (suc n) (suc k) = none-behind n k
 
--- the PIDs of the listed records, from slot i on
-module _ (s : Streams) (i : ℕ) where
-  -- from the count on, and from the twelfth on, no slot is listed
-  pub past-count : s .count ≤ i → length (listed s) ≤ i
-  past-count h = omega (arith, length-take (s .count) (s .records))
+zeros-behind : (l : List ℕ) (n k : ℕ) → getD (l ++ replicate n 0) k 0 ≡ getD l k 0
+zeros-behind [] n k = none-behind n k
+zeros-behind (a ∷ l) n zero = refl
+zeros-behind (a ∷ l) n (suc k) = zeros-behind l n k
 
-  pub past-records : length (s .records) ≤ i → length (listed s) ≤ i
-  past-records h = omega (arith, length-take (s .count) (s .records))
+module _ (numbers : List ℕ) (count i : ℕ) where
+  abbrev long : List ℕ
+  long = numbers ++ replicate mostRecords 0
+
+  twelve : length (take 12 (drop 2 long)) ≡ 12
+  twelve = omega (arith, length-take 12 (drop 2 long), length-drop 2 long, length-append numbers (replicate mostRecords 0))
+
+  -- from the count on, and from the twelfth on, none is listed
+  pub past-count : count ≤ i → length (listedPids count numbers) ≤ i
+  past-count h = omega (arith, length-take count (take 12 (drop 2 long)))
+
+  pub past-twelve : 12 ≤ i → length (listedPids count numbers) ≤ i
+  past-twelve h = omega (arith, length-take count (take 12 (drop 2 long)), twelve)
 
   module _ (pid : ℕ) where
-    pub slot-end : length (listed s) ≤ i → lookUpFrom i pid (drop i (pidsIn (listed s))) ≡ None
+    pub slot-end : length (listedPids count numbers) ≤ i → lookUpFrom (2 + i) pid (drop i (listedPids count numbers)) ≡ None
     unfolding lookUpFrom
-    slot-end h = ap (lookUpFrom i pid) (drop-pids i (listed s) ∙ ap pidsIn (drop-of-length-le (listed s) {i = i} h))
+    slot-end h = ap (lookUpFrom (2 + i) pid) (drop-of-length-le (listedPids count numbers) {i = i} h)
 
-    module _ (d : Stream) (h : i < s .count) (k : i < length (s .records)) where
-      next-record : drop i (listed s) ≡ getD (s .records) i d ∷ drop (i + 1) (listed s)
-      next-record =
-          rw add-one
-          (drop-cons (listed s) i d (omega (arith, length-take (s .count) (s .records)))
-          ∙ ap (λ (t : Stream). t ∷ drop (suc i) (listed s)) (getD-take (s .count) (s .records) i d h))
-
-      next-pid : drop i (pidsIn (listed s)) ≡ getD (s .records) i d .pid ∷ drop (i + 1) (pidsIn (listed s))
+    module _ (h : i < count) (k : i < 12) where
+      next-pid : drop i (listedPids count numbers) ≡ getD numbers (2 + i) 0 ∷ drop (i + 1) (listedPids count numbers)
       next-pid =
-          drop-pids i (listed s) ∙ ap pidsIn next-record
-          ∙ ap (λ (l : List ℕ). getD (s .records) i d .pid ∷ l) (sym (drop-pids (i + 1) (listed s)))
+          next (listedPids count numbers) i (omega (arith, length-take count (take 12 (drop 2 long)), twelve))
+          ∙ ap (λ (n : ℕ). n ∷ drop (i + 1) (listedPids count numbers))
+          (getD-take count (take 12 (drop 2 long)) i 0 h ∙ getD-take 12 (drop 2 long) i 0 k ∙ getD-drop 2 long i 0
+          ∙ zeros-behind numbers mostRecords (2 + i))
 
-      pub slot-here : getD (s .records) i d .pid ≡ pid → lookUpFrom i pid (drop i (pidsIn (listed s))) ≡ At i
-      slot-here e = ap (lookUpFrom i pid) next-pid ∙ first-has i pid (getD (s .records) i d .pid) (drop (i + 1) (pidsIn (listed s))) e
+      pub slot-here : getD numbers (2 + i) 0 ≡ pid → lookUpFrom (2 + i) pid (drop i (listedPids count numbers)) ≡ At (2 + i)
+      slot-here e =
+          ap (lookUpFrom (2 + i) pid) next-pid ∙ first-has (2 + i) pid (getD numbers (2 + i) 0) (drop (i + 1) (listedPids count numbers)) e
 
-      pub slot-next : (getD (s .records) i d .pid ≡ pid → ⊥)
-          → lookUpFrom i pid (drop i (pidsIn (listed s))) ≡ lookUpFrom (i + 1) pid (drop (i + 1) (pidsIn (listed s)))
+      pub slot-next : (getD numbers (2 + i) 0 ≡ pid → ⊥)
+          → lookUpFrom (2 + i) pid (drop i (listedPids count numbers))
+          ≡ lookUpFrom (2 + (i + 1)) pid (drop (i + 1) (listedPids count numbers))
       slot-next e =
-          ap (lookUpFrom i pid) next-pid ∙ first-has-not i pid (getD (s .records) i d .pid) (drop (i + 1) (pidsIn (listed s))) e
-          ∙ ap (λ (j : ℕ). lookUpFrom j pid (drop (i + 1) (pidsIn (listed s)))) (sym (add-one i))
+          let one-more : suc (2 + i) ≡ 2 + (i + 1) = omega arith in
+          ap (lookUpFrom (2 + i) pid) next-pid
+          ∙ first-has-not (2 + i) pid (getD numbers (2 + i) 0) (drop (i + 1) (listedPids count numbers)) e
+          ∙ ap (λ (j : ℕ). lookUpFrom j pid (drop (i + 1) (listedPids count numbers))) one-more
+
+-- ---- the last packet that two numbers stand for
+pub mark-none : (mark i : ℕ) → mark ≡ 0 → last.Unseen ≡ lastFrom mark i
+unfolding lastFrom
+mark-none zero i e = refl
+mark-none (suc mark) i e = absurd (omega arith)
+
+pub mark-some : (mark i : ℕ) → (mark ≡ 0 → ⊥) → last.Packet ((mark - 1) / 2 % 256) i (eqb ((mark - 1) % 2) 1) ≡ lastFrom mark i
+unfolding lastFrom
+mark-some zero i e = absurd (e refl)
+mark-some (suc mark) i e =
+    let less : suc mark - 1 ≡ mark = omega arith in
+    ap (λ (n : ℕ). last.Packet (n / 2 % 256) i (eqb (n % 2) 1)) less
 
 -- ---- what the answer means
 -- the slot is listed, it has the PID, and none before it has
@@ -119,35 +142,3 @@ look-up-at pid l slot e =
 
 pub look-up-none : (pid : ℕ) (l : List ℕ) → lookUp pid l ≡ None → Nowhere pid l
 look-up-none pid l e = subst (Means 0 pid l) e (look-up-means 0 pid l)
-
--- ---- what is listed
-take-map : (n : ℕ) (pids : List ℕ) → take n (map namedStream pids) ≡ map namedStream (take n pids)
-take-map zero pids = refl
-take-map (suc n) [] = refl
-take-map (suc n) (pid ∷ pids) = ap (λ (l : List Stream). namedStream pid ∷ l) (take-map n pids)
-
-pub of-listed : (pids : List ℕ) (count : ℕ) → listed (streamsOf pids count) ≡ map namedStream (take count pids)
-of-listed pids count = take-map count pids
-
-take-set : (n : ℕ) (l : List Stream) (i : ℕ) (a : Stream) → take n (set l i a) ≡ set (take n l) i a
-take-set zero l i a = refl
-take-set (suc n) [] i a = refl
-take-set (suc n) (s ∷ l) zero a = refl
-take-set (suc n) (s ∷ l) (suc i) a = ap (λ (t : List Stream). s ∷ t) (take-set n l i a)
-
-pub put-listed : (s : Streams) (slot : ℕ) (stream : Stream) → listed (putBack s slot stream) ≡ set (listed s) slot stream
-put-listed s slot stream = take-set (s .count) (s .records) slot stream
-
--- ---- the records, with so many listed
-abbrev pub with-records : ℕ → List Stream → Streams
-with-records count l = record { count = count; records = l }
-
--- those of the PIDs, one more
-pub one-named : (pids : List ℕ) (records : List Stream) (i : ℕ) → i < length pids → i < length records
-    → take i records ≡ map namedStream (take i pids)
-    → take (i + 1) (set records i (namedStream (getD pids i 0))) ≡ map namedStream (take (i + 1) pids)
-one-named pids records i h k e =
-    rw add-one
-    (take-suc-set records i (namedStream (getD pids i 0)) k
-    ∙ ap (λ (l : List Stream). l ++ (namedStream (getD pids i 0) ∷ [])) e
-    ∙ sym (ap (map namedStream) (take-suc pids i 0 h) ∙ map-append namedStream (take i pids) (getD pids i 0 ∷ [])))

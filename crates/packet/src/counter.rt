@@ -1,8 +1,7 @@
 // The continuity counter of a PID's packets.
 ghost use mathlib.Core.Path.{_≡_};
-ghost use Rattle.lists.specs.Lists.{Bytes};
-ghost use Rattle.packet.specs.Counter.{due, counterRight, sameBytes, named, repeats};
-ghost use Rattle.packet.specs.Counter.{counted, copied, namedStream, streamAfter, Represents, Of, Checks};
+ghost use Rattle.packet.specs.Counter.{due, counterRight, sameBytes, repeats};
+ghost use Rattle.packet.specs.Counter.{counted, copied, streamAfter, Of, Checks};
 use crate::header::Header;
 use crate::header::pcr_flag;
 use lists::part;
@@ -11,23 +10,23 @@ use lists::same;
 use refusal::Refusal;
 use refusal::Refused;
 
-// What the rule of the counter looks at in a packet. `at` is where the packet lies in the segment; `equal` says that
-// all its bytes but those of the PCR equal those of its PID's last packet.
+// What the rule of the counter looks at in a packet. `equal` says that all its bytes but those of the PCR equal those
+// of its PID's last packet.
 pub struct Counted {
     pub counter: u8,
     pub payload: bool,
     pub discontinuity: bool,
-    pub at: usize,
+    pub index: usize,
     pub equal: bool,
 }
 
-// The last packet of a PID, or that none was seen since the PID was named. `at` is where it lies in the segment;
-// `repeat` says that it repeated the packet before it.
+// The last packet of a PID, or that none was seen since the PID was named. `repeat` says that it repeated the packet
+// before it.
 pub enum Last {
     Unseen,
     Packet {
         counter: u8,
-        at: usize,
+        index: usize,
         repeat: bool,
     },
 }
@@ -52,14 +51,14 @@ pub struct Checked {
 
 impl Header {
     // What the rule of the counter looks at.
-    pub fn counted(self, at: usize, equal: bool) -> Counted
-        ensures { λ r. ⌜ r ≡ counted self at equal ⌝ }
+    pub fn counted(self, index: usize, equal: bool) -> Counted
+        ensures { λ r. ⌜ r ≡ counted self index equal ⌝ }
     {
         Counted {
             counter: self.counter,
             payload: self.has_payload,
             discontinuity: self.discontinuity,
-            at,
+            index,
             equal,
         }
     }
@@ -109,23 +108,13 @@ fn next_counter(last: u8, payload: bool) -> u8
 }
 
 impl Stream {
-    // The record of a PID that has just been named.
-    pub fn named(pid: u16) -> Stream
-        ensures { λ r. ⌜ (r ≡ namedStream pid) × ((segment : Bytes) → Represents segment r (named pid)) ⌝ }
-    {
-        Stream {
-            pid,
-            last: Last::Unseen,
-        }
-    }
-
     fn is_repeated_by(self, packet: Counted) -> bool
-        ensures { λ r. ⌜ Of self packet (λ segment t p. r ≡ repeats t p) ⌝ }
+        ensures { λ r. ⌜ Of self packet (λ t p. r ≡ repeats t p) ⌝ }
     {
         let last = self.last;
         let Last::Packet {
             counter: _,
-            at: _,
+            index: _,
             repeat,
         } = last
         else {
@@ -138,12 +127,12 @@ impl Stream {
     }
 
     fn is_followed_by(self, packet: Counted) -> bool
-        ensures { λ r. ⌜ Of self packet (λ segment t p. r ≡ counterRight (t .last) p) ⌝ }
+        ensures { λ r. ⌜ Of self packet (λ t p. r ≡ counterRight (t .last) p) ⌝ }
     {
         let last = self.last;
         let Last::Packet {
             counter,
-            at: _,
+            index: _,
             repeat: _,
         } = last
         else {
@@ -163,7 +152,7 @@ impl Stream {
             pid: self.pid,
             last: Last::Packet {
                 counter: packet.counter,
-                at: packet.at,
+                index: packet.index,
                 repeat,
             },
         }
@@ -171,7 +160,7 @@ impl Stream {
 
     // The check of a packet: the record updated, or 24 and the record as it was.
     pub fn check(self, packet: Counted) -> Checked
-        ensures { λ r. ⌜ Of self packet (λ segment t p. Checks segment t p r) ⌝ }
+        ensures { λ r. ⌜ Of self packet (λ t p. Checks (packet .index) t p r) ⌝ }
         ensures { λ r. ⌜ r .stream .pid ≡ self .pid ⌝ }
     {
         if self.is_repeated_by(packet) {

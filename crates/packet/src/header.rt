@@ -10,8 +10,11 @@ ghost use Rattle.packet.specs.Header.{hasAdaptationField, hasPayload, ad
 ghost use Rattle.packet.specs.Header.{discontinuityIndicator, pcrFlag, clockExtension, clockReference, pcr};
 ghost use Rattle.packet.specs.Header.{headerLength, payloadPlace, adaptationLengthWrong, pcrCutShort};
 ghost use Rattle.packet.specs.Header.{extensionWrong, fieldsWrong, headerWrong, fields, headerOf, packetSays};
-ghost use Rattle.packet.specs.Header.{passes};
+ghost use Rattle.packet.specs.Header.{passes, packetAt};
+ghost use Rattle.packet.specs.Header.{payload as Header·payload};
 use lists::byte_at;
+use lists::part;
+use lists::rest;
 use refusal::Refusal;
 use refusal::Refused;
 use ticks::Ticks27;
@@ -178,6 +181,27 @@ fn payload_place(packet: &[u8]) -> usize
         return header_length(packet);
     }
     0
+}
+
+// The payload of a packet.
+pub fn payload(packet: &[u8]) -> &[u8]
+    ensures { λ r. ⌜ now r ≡ Header·payload (now (packet .entry)) ⌝ }
+{
+    if has_payload(packet) {
+        return rest(packet, header_length(packet));
+    }
+    rest(packet, packet.len())
+}
+
+// The packet of a segment with this index; no bytes where there is none.
+pub fn packet_at(segment: &[u8], index: usize) -> &[u8]
+    ensures { λ r. ⌜ now r ≡ packetAt (now (segment .entry)) index ⌝ }
+{
+    let end = segment.len();
+    if end / PACKET_LENGTH < index {
+        return rest(segment, end);
+    }
+    part(segment, index * PACKET_LENGTH, PACKET_LENGTH)
 }
 
 // The length of the adaptation field does not go with the control bits.

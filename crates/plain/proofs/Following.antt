@@ -10,10 +10,10 @@ use lib.ListN.{length, drop, length-append, length-drop}
 use Rattle.lists.specs.Lists.{Bytes, pick, over, placed}
 use Rattle.lists.proofs.Placed.{placed-twice}
 use Rattle.lists.proofs.Tests.{case}
-use Rattle.packet.specs.Header.{packetLength, packets, payload}
-use Rattle.plain.specs.Runs.{isNull, nullsIn, nextCounter, goesOn, payloadLength, goingOn, payloads}
-use Rattle.plain.proofs.Places.{packetAt, next-from, none-from, packet-length}
-use Rattle.plain.proofs.Plains.{payload-behind}
+use Rattle.packet.specs.Header.{packetLength, packets, packetAt, payload}
+use Rattle.plain.specs.Runs.{isNull, nullsIn, nextCounter, countsOn, countingOn, goesOn, payloadLength, goingOn, payloads}
+use Rattle.plain.proofs.Places.{next-from, none-from, packet-length}
+use Rattle.plain.proofs.Plains.{counts-too, payload-behind}
 
 -- ---- null packets
 nulls-next : (p : Bytes) (l : List Bytes) → isNull p ≡ true → nullsIn (p ∷ l) ≡ suc (nullsIn l)
@@ -53,6 +53,57 @@ module _ (s : Bytes) (from : ℕ) where
 
     pub ends : length s / packetLength ≤ from + n → n ≡ nullsIn rest
     ends h = omega (arith, inv, ap nullsIn (none-from s from n h) ∙ nulls-none)
+
+-- ---- packets that count on
+module _ (n last : ℕ) where
+  pub counting-none : countingOn n last [] ≡ 0
+  unfolding countingOn
+  counting-none = refl
+
+  module _ (p : Bytes) (l : List Bytes) where
+    pub counting-next : countsOn n last p ≡ true → countingOn n last (p ∷ l) ≡ suc (countingOn n (nextCounter last) l)
+    unfolding countingOn pick
+    counting-next e = rw e
+
+    pub counting-stop : countsOn n last p ≡ false → countingOn n last (p ∷ l) ≡ 0
+    unfolding countingOn pick
+    counting-stop e = rw e
+
+-- they are among those there are
+pub counting-bounded : (n last : ℕ) (l : List Bytes) → countingOn n last l ≤ length l
+counting-bounded n last [] = omega (arith, counting-none n last)
+counting-bounded n last (p ∷ l) =
+    case (countsOn n last p)
+    (λ e. omega (arith, counting-next n last p l e, counting-bounded n (nextCounter last) l))
+    (λ e. omega (arith, counting-stop n last p l e))
+
+module _ (s : Bytes) (from q last : ℕ) where
+  abbrev pub CountedOn : ℕ → ℕ → Type 0
+  CountedOn n counter = countingOn q last (rest s from) ≡ n + countingOn q counter (drop n (rest s from))
+
+  pub none-counted : CountedOn 0 last
+  none-counted = omega arith
+
+  pub none-counts : length s / packetLength ≤ from → 0 ≡ countingOn q last (rest s from)
+  none-counts h = sym (ap (countingOn q last) (none-from s from 0 (omega arith)) ∙ counting-none q last)
+
+  module _ (n counter : ℕ) (inv : CountedOn n counter) where
+    pub counts-end : length s / packetLength ≤ from + n → n ≡ countingOn q last (rest s from)
+    counts-end h = omega (arith, inv, ap (countingOn q counter) (none-from s from n h) ∙ counting-none q counter)
+
+    module _ (h : from + n < length s / packetLength) (p : Bytes) (lent : p ≡ packetAt s (from + n)) where
+      here : drop n (rest s from) ≡ p ∷ drop (suc n) (rest s from)
+      here = next-from s from n h ∙ ap (λ (x : Bytes). x ∷ drop (suc n) (rest s from)) (sym lent)
+
+      pub counts-one : countsOn q counter p ≡ true → (c : ℕ) → c ≡ nextCounter counter → CountedOn (n + 1) c
+      counts-one e c next =
+          let j : suc n ≡ n + 1 = omega arith in
+          let on = ap (countingOn q counter) here ∙ counting-next q counter p (drop (suc n) (rest s from)) e in
+          let same = ap₂ (λ (x y : ℕ). countingOn q x (drop y (rest s from))) (sym next) j in
+          omega (arith, inv, on, same)
+
+      pub counts-stop : countsOn q counter p ≡ false → n ≡ countingOn q last (rest s from)
+      counts-stop e = omega (arith, inv, ap (countingOn q counter) here ∙ counting-stop q counter p _ e)
 
 -- ---- one list behind another in an output
 length-over : (w out : List ℕ) → length w ≤ length out → length (over w out) ≡ length out
@@ -166,7 +217,7 @@ module _ (s : Bytes) (from q last : ℕ) (out₀ : List ℕ) where
         follows-one e r out′ put c next =
             let here = next-from s from n h ∙ ap (λ (x : Bytes). x ∷ drop (suc n) left) (sym lent) in
             let more = payloads-more n left p _ here in
-            let behind = payload-behind q counter p e in
+            let behind = payload-behind q counter p (counts-too q counter p e) in
             let j : suc n ≡ n + 1 = omega arith in
             let k : payloadLength ≤ length out₀ - written = omega (arith, kept) in
             let m : length out₀ - written - payloadLength ≡ length out₀ - (written + payloadLength) = omega arith in

@@ -1,5 +1,5 @@
 -- The packets of a segment from an index on, as the code takes them. Assumes nothing.
-use Prim.Native.Nat.{ℕ, zero, suc, _+_, _*_, _/_, _≤_, _<_}
+use Prim.Native.Nat.{ℕ, zero, suc, _+_, _-_, _*_, _/_, _≤_, _<_}
 use mathlib.Core.Path.{_≡_, refl, sym, ap, _∙_}
 use mathlib.Core.List.{List, [], _∷_}
 use native.Mathlib.Omega.{arith}
@@ -7,11 +7,7 @@ use native.Mathlib.Nat.{not-suc-le-zero, le-of-suc-le-suc}
 use lib.ListN.{length, take, drop, length-drop}
 use lib.Seq.{drop-drop, length-take-le}
 use Rattle.lists.specs.Lists.{Bytes}
-use Rattle.packet.specs.Header.{packetLength, packetsOf, packets}
-
--- the packet with this index
-abbrev pub packetAt : Bytes → ℕ → Bytes
-packetAt s k = take packetLength (drop (k * packetLength) s)
+use Rattle.packet.specs.Header.{packetLength, packetsOf, packets, packetAt}
 
 next-of : (n k : ℕ) (s : Bytes) → k < n → drop k (packetsOf n s) ≡ packetAt s k ∷ drop (suc k) (packetsOf n s)
 unfolding packetsOf
@@ -56,3 +52,7 @@ module _ (s : Bytes) (from n : ℕ) where
 
 pub packet-length : (s : Bytes) (k : ℕ) → k < length s / packetLength → length (packetAt s k) ≡ packetLength
 packet-length s k h = length-take-le 188 (drop (k * 188) s) (omega (arith, length-drop (k * 188) s))
+
+-- what is lent of the segment is a packet of it
+pub lent-packet : (s : Bytes) (k : ℕ) → take (k * 188 + 188 - k * 188) (drop (k * 188) s) ≡ packetAt s k
+lent-packet s k = let e : k * 188 + 188 - k * 188 ≡ 188 = omega arith in ap (λ (m : ℕ). take m (drop (k * 188) s)) e

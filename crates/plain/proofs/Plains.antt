@@ -1,4 +1,5 @@
--- A packet that goes on: what its header says, and that 21, 22 and 23 pass it; likewise a null packet. Assumes nothing.
+-- A packet that counts on: what its header says, and that 21, 22 and 23 pass it; likewise a null packet. One that goes on counts on.
+-- Assumes nothing.
 use Prim.Native.Nat.{ℕ, _/_, _%_}
 use mathlib.Core.Bool.{Bool, true, false, not, _&&_, and-false}
 use mathlib.Core.Path.{_≡_, refl, sym, ap, ap₂, _∙_}
@@ -16,7 +17,7 @@ use Rattle.packet.specs.Header.{pid, nullPid, syncLost, transportErrorIndicator
 use Rattle.packet.specs.Header.{transportScramblingControl, adaptationFieldControl, continuityCounter}
 use Rattle.packet.specs.Header.{hasAdaptationField, hasPayload, adaptationFlags, discontinuityIndicator, pcrFlag}
 use Rattle.packet.specs.Header.{clockReference, headerLength, payload, fieldsWrong, fields, headerOf}
-use Rattle.plain.specs.Runs.{isNull, nextCounter, goesOn}
+use Rattle.plain.specs.Runs.{isNull, nextCounter, countsOn, goesOn}
 
 -- ---- a null packet
 module _ (p : Bytes) (h : isNull p ≡ true) where
@@ -32,37 +33,31 @@ module _ (p : Bytes) (h : isNull p ≡ true) where
       (pass-on 22 (not-true _ (b .0))
       (pass-on 23 (ap (λ (x : Bool). not x && fieldsWrong p) (b .1)) refl)))
 
--- ---- a packet that goes on
+-- ---- a packet that counts on
 record Says (n last : ℕ) (p : Bytes) : Type 0 where
   pub sync : syncLost p ≡ false
   pub error : transportErrorIndicator p ≡ false
-  pub start : payloadUnitStartIndicator p ≡ false
   pub named : pid p ≡ n
   pub clear : transportScramblingControl p ≡ 0
   pub control : adaptationFieldControl p ≡ 1
   pub counter : continuityCounter p ≡ nextCounter last
 
-module _ (n last : ℕ) (p : Bytes) (h : goesOn n last p ≡ true) where
+module _ (n last : ℕ) (p : Bytes) (h : countsOn n last p ≡ true) where
   says : Says n last p
   says =
       let a = and-both (not (syncLost p)) _ h in
       let b = and-both (not (transportErrorIndicator p)) _ (a .1) in
-      let c = and-both (not (payloadUnitStartIndicator p)) _ (b .1) in
-      let d = and-both (eqb (pid p) n) _ (c .1) in
+      let d = and-both (eqb (pid p) n) _ (b .1) in
       let e = and-both (eqb (transportScramblingControl p) 0) _ (d .1) in
       let f = and-both (eqb (adaptationFieldControl p) 1) _ (e .1) in
       record {
         sync = not-true _ (a .0);
         error = not-true _ (b .0);
-        start = not-true _ (c .0);
         named = eqb-true _ _ (d .0);
         clear = eqb-true _ _ (e .0);
         control = eqb-true _ _ (f .0);
         counter = eqb-true _ _ (f .1);
       }
-
-  pub no-start : payloadUnitStartIndicator p ≡ false
-  no-start = says .start
 
   pub of-pid : pid p ≡ n
   of-pid = says .named
@@ -115,6 +110,14 @@ module _ (n last : ℕ) (p : Bytes) (h : goesOn n last p ≡ true) where
       sym (pass-on 21 (says .sync)
       (pass-on 22 (says .error)
       (pass-on 23 (ap (λ (x : Bool). not (eqb (pid p) nullPid) && x) fields-right ∙ and-false (not (eqb (pid p) nullPid))) refl)))
+
+-- ---- a packet that goes on
+module _ (n last : ℕ) (p : Bytes) (h : goesOn n last p ≡ true) where
+  pub no-start : payloadUnitStartIndicator p ≡ false
+  no-start = not-true _ (and-both (not (payloadUnitStartIndicator p)) (countsOn n last p) h .0)
+
+  pub counts-too : countsOn n last p ≡ true
+  counts-too = and-both (not (payloadUnitStartIndicator p)) (countsOn n last p) h .1
 
 -- ---- the tests of the code, by the values of the bytes that they look at
 module _ (p : Bytes) where

@@ -1,4 +1,5 @@
--- Runs of packets that ask nothing of a segment's tables: null packets, and packets of one PID that go on with a PES.
+-- Runs of packets that ask nothing of a segment's tables: null packets, packets of one PID whose counters go on, and
+-- those of them that go on with a PES.
 -- No rule is said here: what the rules say of such packets is proved of them (crate segment_run). Assumes nothing.
 use Prim.Native.Nat.{ℕ, suc, _+_, _-_, _%_}
 use mathlib.Core.Bool.{Bool, not, _&&_}
@@ -22,17 +23,25 @@ nullsIn (p ∷ ps) = pick (isNull p) (suc (nullsIn ps)) 0
 abbrev pub nextCounter : ℕ → ℕ
 nextCounter last = (last + 1) % 16
 
--- a packet of a PID after one with this counter: it starts no PES, has payload and no adaptation field, and nothing in
--- its header is refused
-abbrev pub goesOn : ℕ → ℕ → Bytes → Bool
-goesOn n last p =
+-- a packet of a PID after one with this counter: it has payload and no adaptation field, nothing in its header is
+-- refused, and its counter is the next
+abbrev pub countsOn : ℕ → ℕ → Bytes → Bool
+countsOn n last p =
     not (syncLost p)
     && (not (transportErrorIndicator p)
-    && (not (payloadUnitStartIndicator p)
     && (eqb (pid p) n
     && (eqb (transportScramblingControl p) 0
     && (eqb (adaptationFieldControl p) 0b01
-    && eqb (continuityCounter p) (nextCounter last))))))
+    && eqb (continuityCounter p) (nextCounter last)))))
+
+-- how many of these packets from the first on do so one after the other
+unfoldable pub countingOn : ℕ → ℕ → List Bytes → ℕ
+countingOn n last [] = 0
+countingOn n last (p ∷ ps) = pick (countsOn n last p) (suc (countingOn n (nextCounter last) ps)) 0
+
+-- one that starts no PES either
+abbrev pub goesOn : ℕ → ℕ → Bytes → Bool
+goesOn n last p = not (payloadUnitStartIndicator p) && countsOn n last p
 
 -- how many bytes of payload such a packet has
 abbrev pub payloadLength : ℕ

@@ -1,11 +1,12 @@
-// Runs of packets of a segment that ask nothing of its tables: null packets, and packets of one PID that go on with a
-// PES.
+// Runs of packets of a segment that ask nothing of its tables: null packets, packets of one PID whose counters go on,
+// and those of them that go on with a PES.
 ghost use mathlib.Core.Path.{_≡_};
 ghost use Prim.Native.Nat.{_≤_};
 ghost use lib.ListN.{length, drop};
 ghost use Rattle.lists.specs.Lists.{over};
 ghost use Rattle.packet.specs.Header.{packetLength, pid, packets};
-ghost use Rattle.plain.specs.Runs.{isNull, nullsIn, nextCounter, goesOn, payloadLength, goingOn, payloads};
+ghost use Rattle.plain.specs.Runs.{isNull, nullsIn, nextCounter, countsOn, countingOn};
+ghost use Rattle.plain.specs.Runs.{goesOn, payloadLength, goingOn, payloads};
 use lists::byte_at;
 use lists::part;
 use packet::NULL_PID;
@@ -61,17 +62,14 @@ fn next_counter(last: u8) -> u8
     (last % 16 + 1) % 16
 }
 
-// A packet goes on after one of this PID with this counter.
-fn goes_on(packet: &[u8], pid: u16, last: u8) -> bool
-    ensures { λ r. ⌜ r ≡ goesOn pid last (now (packet .entry)) ⌝ }
+// A packet counts on after one of this PID with this counter.
+fn counts_on(packet: &[u8], pid: u16, last: u8) -> bool
+    ensures { λ r. ⌜ r ≡ countsOn pid last (now (packet .entry)) ⌝ }
 {
     if byte_at(packet, 0) != 0x47 {
         return false;
     }
     if byte_at(packet, 1) / 128 % 2 == 1 {
-        return false;
-    }
-    if byte_at(packet, 1) / 64 % 2 == 1 {
         return false;
     }
     if pid_of(packet) != pid {
@@ -84,6 +82,37 @@ fn goes_on(packet: &[u8], pid: u16, last: u8) -> bool
         return false;
     }
     byte_at(packet, 3) % 16 == next_counter(last)
+}
+
+// It goes on with a PES.
+fn goes_on(packet: &[u8], pid: u16, last: u8) -> bool
+    ensures { λ r. ⌜ r ≡ goesOn pid last (now (packet .entry)) ⌝ }
+{
+    if byte_at(packet, 1) / 64 % 2 == 1 {
+        return false;
+    }
+    counts_on(packet, pid, last)
+}
+
+// How many packets in a row from this index on count on after one of this PID with this counter.
+pub fn count_on(segment: &[u8], from: usize, pid: u16, last: u8) -> usize
+    ensures { λ r. ⌜ r ≡ countingOn pid last (drop from (packets (now (segment .entry)))) ⌝ }
+{
+    let count = segment.len() / PACKET_LENGTH;
+    if count <= from {
+        return 0;
+    }
+    let mut n: usize = 0;
+    let mut counter = last;
+    while n < count - from {
+        let at = (from + n) * PACKET_LENGTH;
+        if !counts_on(&segment[at..at + PACKET_LENGTH], pid, counter) {
+            return n;
+        }
+        counter = next_counter(counter);
+        n += 1;
+    }
+    n
 }
 
 // The payload of a packet that has no adaptation field, over the front of an output. The count is fixed, so that the

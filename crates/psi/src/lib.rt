@@ -10,3 +10,4 @@ pub use pat::Program;
 pub use pat::read_pat;
 pub use placing::Found;
 pub use placing::find_section;
+pub use placing::section_of;

@@ -2,8 +2,10 @@
 ghost use mathlib.Core.Path.{_≡_};
 ghost use lib.Dec.{eqb};
 ghost use Rattle.lists.specs.Lists.{all};
-ghost use Rattle.psi.specs.Section.{sectionSize, foundIn};
+ghost use Rattle.psi.specs.Section.{sectionSize, sectionOf, foundIn};
 use lists::byte_at;
+use lists::part;
+use lists::rest;
 
 // The size of a payload's section, or that there is none as it should lie.
 pub enum Found {
@@ -57,4 +59,11 @@ pub fn find_section(payload: &[u8], start: bool) -> Found
         return Found::Misplaced;
     }
     Found::Section(size)
+}
+
+// The section's bytes, from table_id to the CRC, in the payload of a packet in which it lies as it should.
+pub fn section_of(payload: &[u8]) -> &[u8]
+    ensures { λ r. ⌜ now r ≡ sectionOf (now (payload .entry)) ⌝ }
+{
+    part(payload, 1, section_size(rest(payload, 1)))
 }

@@ -1,6 +1,5 @@
 // The check of a whole segment.
 ghost use mathlib.Core.Path.{_≡_};
-ghost use Rattle.descriptor.specs.Edition.{Edition as Edition·rules};
 ghost use Rattle.descriptor.specs.Naming.{editionSays, namedSays};
 ghost use Rattle.segment_rules.specs.Check.{outputsOf, segmentLengthWrong};
 ghost use Rattle.pmt.specs.Answer.{noMap};
@@ -10,6 +9,7 @@ use descriptor::Edition;
 use descriptor::Named;
 use packet::PACKET_LENGTH;
 use pmt::ProgramMap;
+use pmt::read_pmt;
 use refusal::Refusal;
 use refusal::Refused;
 use segment_rules::Totals;
@@ -19,7 +19,7 @@ use tables::Outcome;
 use tables::PatSeen;
 use tables::PmtSeen;
 use tables::Tables;
-use tables::pid_in;
+use tables::section_at;
 use units::clear;
 use units::close;
 use units::note_first;
@@ -83,28 +83,30 @@ fn refuse(refused: Refused) -> Checked
     }
 }
 
-// All packets, which have passed: 33.
-fn accept(tables: Tables, units: usize, packets: usize, totals: Totals) -> Checked
-    ensures { λ r. ⌜ ((edition : Edition·rules) → AcceptRefines edition tables units packets totals r) ⌝ }
+// All packets, which have passed: 33. The map is read again from the packet that brought the first PMT.
+fn accept(segment: &[u8], tables: Tables, units: usize, totals: Totals) -> Checked
+    ensures { λ r. ⌜ AcceptRefines (now (segment .entry)) tables units totals r ⌝ }
 {
-    let none = Refusal::NO_TABLES.at(packets);
+    let none = Refusal::NO_TABLES.at(segment.len() / PACKET_LENGTH);
     let pat = tables.pat;
     let PatSeen::First(first) = pat else {
         return refuse(none);
     };
     let pmt = tables.pmt;
-    let PmtSeen::First(_) = pmt else {
+    let PmtSeen::First(found) = pmt else {
         return refuse(none);
     };
+    let edition = tables.edition;
     let program = first.says;
-    let map = tables.map;
-    let entries = map.entries;
+    let section = section_at(segment, found.packet);
+    let read = read_pmt(edition, section, program.number, program.map_pid);
     let summary = Summary {
         program: program.number,
-        pid: pid_in(entries, map.av1),
+        pid: found.av1_pid,
         units,
         totals,
     };
+    let map = read.map;
     Checked {
         answer: SegmentCheck::Accepted(summary),
         map,
@@ -113,18 +115,19 @@ fn accept(tables: Tables, units: usize, packets: usize, totals: Totals) -> Check
 
 // After the last packet the open PES closes, then 33.
 fn finish(
+    segment: &[u8],
     ran: RunResult,
-    packets: usize,
     out: &[u8],
     lens: &mut [usize],
     times: &mut [u64],
     firsts: &mut [usize],
 ) -> Checked
-    ensures { λ r. ⌜ ((edition : Edition·rules) → EndRefines edition ran packets
+    ensures { λ r. ⌜ EndRefines (now (segment .entry)) ran
         (outputsOf (now (out .entry)) (now (lens .entry)) (now (times .entry))) (now (firsts .entry)) r
-        (outputsOf (now (out .entry)) (now (lens .exit)) (now (times .exit))) (now (firsts .exit))) ⌝ }
+        (outputsOf (now (out .entry)) (now (lens .exit)) (now (times .exit))) (now (firsts .exit)) ⌝ }
 {
-    let last = ran.extraction;
+    let state = ran.state;
+    let last = state.extraction;
     let closed = close(last, out, lens, times);
     let outcome = closed.outcome;
     match outcome {
@@ -132,27 +135,27 @@ fn finish(
         Outcome::Passed => {
             let extraction = closed.extraction;
             note_first(last, extraction, firsts);
-            let tables = ran.tables;
+            let tables = state.tables;
             let totals = ran.totals;
-            accept(tables, extraction.units, packets, totals)
+            accept(segment, tables, extraction.units, totals)
         }
     }
 }
 
 // The same, and zeros throughout the outputs where that is a refusal.
 fn conclude(
+    segment: &[u8],
     ran: RunResult,
-    packets: usize,
     out: &mut [u8],
     lens: &mut [usize],
     times: &mut [u64],
     firsts: &mut [usize],
 ) -> Checked
-    ensures { λ r. ⌜ ((edition : Edition·rules) → EndChecks edition ran packets
+    ensures { λ r. ⌜ EndChecks (now (segment .entry)) ran
         (outputsOf (now (out .entry)) (now (lens .entry)) (now (times .entry))) (now (firsts .entry)) r
-        (outputsOf (now (out .exit)) (now (lens .exit)) (now (times .exit))) (now (firsts .exit))) ⌝ }
+        (outputsOf (now (out .exit)) (now (lens .exit)) (now (times .exit))) (now (firsts .exit)) ⌝ }
 {
-    let checked = finish(ran, packets, out, lens, times, firsts);
+    let checked = finish(segment, ran, out, lens, times, firsts);
     let answer = checked.answer;
     match answer {
         SegmentCheck::Accepted(_) => checked,
@@ -180,7 +183,7 @@ fn judge(
     let outcome = ran.outcome;
     match outcome {
         Outcome::Refused(refused) => refuse(refused),
-        Outcome::Passed => conclude(ran, segment.len() / PACKET_LENGTH, out, lens, times, firsts),
+        Outcome::Passed => conclude(segment, ran, out, lens, times, firsts),
     }
 }
 

@@ -1,30 +1,34 @@
 -- Two states that are alike: their tables say the same, and their units have the same bytes and times; the records of the counters may
--- differ, and a PCR that counted in the first has counted in the second. A packet that passes in the first passes in the second, whatever
--- the indices are, and the states are alike again (`packet-alike`). Assumes nothing.
+-- differ, and a PCR that counted in the first has counted in the second; where packets lie is not compared. A packet that passes in the
+-- first passes in the second, whatever the indices are, and the states are alike again (`packet-alike`). Assumes nothing.
 use Prim.Native.Nat.{ℕ, _+_, _*_}
 use mathlib.Core.Bool.{Bool, true, false, not, _&&_, _||_}
 use mathlib.Core.Path.{_≡_, refl, sym, ap, ap₂, _∙_, subst}
 use mathlib.Core.List.{List, [], _∷_, _++_, map, flatten, map-append}
 use mathlib.Core.Option.{Option, none, some}
-use lib.Dec.{ltb}
+use lib.Dec.{eqb, ltb}
 use lib.ListN.{length, length-map}
-use Rattle.lists.specs.Lists.{Bytes, pick}
+use Rattle.lists.specs.Lists.{Bytes, pick, any}
 use Rattle.lists.proofs.Tests.{clash}
 use Rattle.refusal.specs.Verdict.{Verdict, passed, refused, _>>=_, _>>_, given, atPlace}
+use Rattle.refusal.proofs.Verdicts.{never, passed-same}
 use Rattle.descriptor.specs.Edition.{Edition}
-use Rattle.packet.specs.Header.{headerOf, pid, hasPayload, payload}
+use Rattle.packet.specs.Header.{headerOf, pid, pcr, hasPayload, payload}
 use Rattle.packet.specs.declared.header.Clock.{Clock}
 use Rattle.packet.specs.declared.header.Clock.the-variants as clock
-use Rattle.packet.specs.Counter.{StreamRecord, recordOf, checkedIn}
+use Rattle.packet.specs.Counter.{StreamRecord, named, follows, updated, check, recordOf, checkedIn}
+use Rattle.packet.proofs.Counters.{some-not-none, some-same}
 use Rattle.psi.specs.Section.{sectionOf}
 use Rattle.psi.specs.Pat.{readPat}
-use Rattle.pmt.specs.Pmt.{readPmt}
+use Rattle.psi.specs.declared.pat.Program.{Program}
+use Rattle.pmt.specs.Pmt.{MapContent, pids, readPmt}
 use Rattle.pes.specs.declared.header.Header.{Header}
 use Rattle.pes.specs.declared.header.Times.{Times}
 use Rattle.pes.specs.Pes as pes
 use Rattle.unit.specs.Unit.{readUnit}
 use Rattle.segment_rules.specs.State.{FirstPat, FirstPmt, Tables, OpenPes, Extraction, State}
-use Rattle.segment_rules.specs.State.{Kind, Null, Pat, Map, Av1, Listed, Unlisted, kindOf, withPes, withUnit}
+use Rattle.segment_rules.specs.State.{Kind, Null, Pat, Map, Av1, Listed, Unlisted, isMapPid, listedAs, kindOf}
+use Rattle.segment_rules.specs.State.{withPmt, withPes, withUnit}
 use Rattle.segment_rules.specs.Rules.{Rooms, Rule, inSequence, onTables, onUnits, countingPcr, lastPcr, isPcr}
 use Rattle.segment_rules.specs.Rules.{lengthDiffers, lengthWrong, unitOf, closeOpen, closeIfOpen, closePes}
 use Rattle.segment_rules.specs.Rules.{laterSection, patSection, pmtSection, sectionRead, withNext, isOpen, openBytes, carriedSoFar}
@@ -32,7 +36,7 @@ use Rattle.segment_rules.specs.Rules.{rule, clocked, checked, upTo24, ru
 use Rattle.segment_rules.specs.Rules.{av1Payload, av1Start, av1More, unitBytes, opened, addedTo, carried}
 use Rattle.segment_rules.specs.Rules.{closing, rule29, rule30, rule31, rule34, rule8, pesRules, after24}
 use Rattle.segment_rules.specs.Rules.{lastRepeats, unlessRepeat, packetRules}
-use Rattle.segment_rules.proofs.Sequence.{up-to-24}
+use Rattle.segment_rules.proofs.Sequence.{bind-assoc, up-to-24}
 
 -- ---- two verdicts: where the first passed, the second did
 abbrev pub Both : {A B : Type 0} → (A → B → Type 0) → Verdict A → Verdict B → Type 0
@@ -147,13 +151,130 @@ module _ (x x′ : Extraction) (a : AlikeUnits x x′) where
           (λ e. ap₂ (λ (k : Header) (w : Bytes). lengthDiffers k (length w)) (sym (h .0)) (sym (h .1)) ∙ e)
           (both-same AlikeUnits (o .first) (o′ .first) _ _ _ _ (ap readUnit (h .1)) (_, refl, unit-alike o o′ (h .0) (h .1)))
 
--- ---- both parts, where the records are in some relation
+-- ---- the records, but for where their last packets lie
+abbrev pub placeless : StreamRecord → StreamRecord
+placeless r = record { pid = r .pid; last = r .last; lies = 0; repeat = r .repeat }
+
+abbrev pub said : List StreamRecord → List StreamRecord
+said records = map placeless records
+
+-- the check does not look at it
+said-check : (i : ℕ) (q : Bytes) (r : StreamRecord) (l : List StreamRecord)
+    → (check 0 (placeless r) q >>= λ r′. passed (r′ ∷ said l))
+    ≡ ((check i r q >>= λ r′. passed (r′ ∷ l)) >>= λ after. passed (said after))
+unfolding check given pick _>>=_ _>>_
+said-check i q r l = go (follows r q)
+  where
+    go : (b : Bool)
+        → ((given 24 (not b) >> passed (updated 0 (placeless r) q)) >>= λ r′. passed (r′ ∷ said l))
+        ≡ (((given 24 (not b) >> passed (updated i r q)) >>= λ r′. passed (r′ ∷ l)) >>= λ after. passed (said after))
+    go true = refl
+    go false = refl
+
+pub said-checked : (i : ℕ) (q : Bytes) (l : List StreamRecord)
+    → checkedIn 0 (said l) q ≡ (checkedIn i l q >>= λ after. passed (said after))
+unfolding checkedIn pick _>>=_
+said-checked i q [] = refl
+said-checked i q (r ∷ l) = go (eqb (r .pid) (pid q)) (said-checked i q l)
+  where
+    go : (b : Bool) → checkedIn 0 (said l) q ≡ (checkedIn i l q >>= λ after. passed (said after))
+        → pick b (check 0 (placeless r) q >>= λ r′. passed (r′ ∷ said l))
+        (checkedIn 0 (said l) q >>= λ after. passed (placeless r ∷ after))
+        ≡ (pick b (check i r q >>= λ r′. passed (r′ ∷ l)) (checkedIn i l q >>= λ after. passed (r ∷ after))
+        >>= λ after. passed (said after))
+    go true more = said-check i q r l
+    go false more =
+        ap (λ (v : Verdict (List StreamRecord)). v >>= λ after. passed (placeless r ∷ after)) more
+        ∙ bind-assoc (checkedIn i l q) (λ after. passed (said after)) (λ after. passed (placeless r ∷ after))
+        ∙ sym (bind-assoc (checkedIn i l q) (λ after. passed (r ∷ after)) (λ after. passed (said after)))
+
+-- nor do the rules of a repeat
+pub said-repeats : (n : ℕ) (l : List StreamRecord) → lastRepeats (recordOf n (said l)) ≡ lastRepeats (recordOf n l)
+unfolding recordOf pick
+said-repeats n [] = refl
+said-repeats n (r ∷ l) = go (eqb (r .pid) n) (said-repeats n l)
+  where
+    go : (b : Bool) → lastRepeats (recordOf n (said l)) ≡ lastRepeats (recordOf n l)
+        → lastRepeats (pick b (some (placeless r)) (recordOf n (said l))) ≡ lastRepeats (pick b (some r) (recordOf n l))
+    go true more = refl
+    go false more = more
+
+pub said-record : (n : ℕ) (l : List StreamRecord) (r : StreamRecord) → recordOf n l ≡ some r → recordOf n (said l) ≡ some (placeless r)
+unfolding recordOf pick
+said-record n [] r e = absurd (some-not-none r (sym e))
+said-record n (s ∷ l) r e = go (eqb (s .pid) n) e (said-record n l r)
+  where
+    go : (b : Bool) → pick b (some s) (recordOf n l) ≡ some r → (recordOf n l ≡ some r → recordOf n (said l) ≡ some (placeless r))
+        → pick b (some (placeless s)) (recordOf n (said l)) ≡ some (placeless r)
+    go true k more = ap (λ (x : StreamRecord). some (placeless x)) (some-same s r k)
+    go false k more = more k
+
+-- so two checks go alike where those of what is said do
+counts-alike : (S : List StreamRecord → List StreamRecord → Type 0) (i j : ℕ) (q : Bytes) (l l′ : List StreamRecord)
+    → Both S (checkedIn 0 (said l) q) (checkedIn 0 (said l′) q)
+    → Both (λ (a b : List StreamRecord). S (said a) (said b)) (checkedIn i l q) (checkedIn j l′ q)
+unfolding _>>=_
+counts-alike S i j q l l′ h =
+    go (checkedIn i l q) (checkedIn j l′ q)
+    (subst (λ (v : Verdict (List StreamRecord)). Both S v (checkedIn j l′ q >>= λ after. passed (said after))) (said-checked i q l)
+    (subst (Both S (checkedIn 0 (said l) q)) (said-checked j q l′) h))
+  where
+    go : (v w : Verdict (List StreamRecord)) → Both S (v >>= λ after. passed (said after)) (w >>= λ after. passed (said after))
+        → Both (λ (a b : List StreamRecord). S (said a) (said b)) v w
+    go (passed a) (passed b) k = (b, refl, subst (S (said a)) (sym (passed-same (said b) (k .0) (k .1))) (k .2))
+    go (passed a) (refused number place) k = never (k .1)
+    go (refused number place) w k = tt
+
+-- ---- the first PAT and the first PMT, but for the packets that brought them
+abbrev pub SamePat : Option FirstPat → Option FirstPat → Type 0
+SamePat none none = Unit {0}
+SamePat none (some f) = ⊥
+SamePat (some f) none = ⊥
+SamePat (some f) (some f′) = (f .section ≡ f′ .section) × (f .says ≡ f′ .says)
+
+abbrev pub SamePmt : Option FirstPmt → Option FirstPmt → Type 0
+SamePmt none none = Unit {0}
+SamePmt none (some m) = ⊥
+SamePmt (some m) none = ⊥
+SamePmt (some m) (some m′) = (m .section ≡ m′ .section) × (m .says ≡ m′ .says)
+
+pub pat-self : (o : Option FirstPat) → SamePat o o
+pat-self none = tt
+pat-self (some f) = (refl, refl)
+
+pub pmt-self : (o : Option FirstPmt) → SamePmt o o
+pmt-self none = tt
+pmt-self (some m) = (refl, refl)
+
+same-map-pid : (o o′ : Option FirstPat) (n : ℕ) → SamePat o o′ → isMapPid o n ≡ isMapPid o′ n
+unfolding isMapPid
+same-map-pid none none n h = refl
+same-map-pid none (some f) n h = absurd h
+same-map-pid (some f) none n h = absurd h
+same-map-pid (some f) (some f′) n h = ap (λ (x : Program). eqb n (x .«map_pid»)) (h .1)
+
+same-listed : (o o′ : Option FirstPmt) (n : ℕ) → SamePmt o o′ → listedAs o n ≡ listedAs o′ n
+unfolding listedAs
+same-listed none none n h = refl
+same-listed none (some m) n h = absurd h
+same-listed (some m) none n h = absurd h
+same-listed (some m) (some m′) n h =
+    ap (λ (x : MapContent). pick (eqb n (x .av1 .pid)) Av1 (pick (any (eqb n) (pids (x .entries))) Listed Unlisted)) (h .1)
+
+same-pcr : (o o′ : Option FirstPmt) (q : Bytes) → SamePmt o o′ → countingPcr o q ≡ countingPcr o′ q
+unfolding countingPcr
+same-pcr none none q h = refl
+same-pcr none (some m) q h = absurd h
+same-pcr (some m) none q h = absurd h
+same-pcr (some m) (some m′) q h = ap (λ (x : MapContent). pick (eqb (pid q) (x .pcrPid)) (pcr q) clock.None) (h .1)
+
+-- ---- both parts, where what the records say is in some relation
 module _ (R : List StreamRecord → List StreamRecord → Type 0) where
   pub record AlikeTables (t t′ : Tables) : Type 0 where
-    pub pat : t .pat ≡ t′ .pat
-    pub pmt : t .pmt ≡ t′ .pmt
+    pub pat : SamePat (t .pat) (t′ .pat)
+    pub pmt : SamePmt (t .pmt) (t′ .pmt)
     pub pcr : isPcr (t .pcr) ≡ true → isPcr (t′ .pcr) ≡ true
-    pub records : R (t .records) (t′ .records)
+    pub records : R (said (t .records)) (said (t′ .records))
 
   pub record Alike (st st′ : State) : Type 0 where
     pub tables : AlikeTables (st .tables) (st′ .tables)
@@ -161,7 +282,7 @@ module _ (R : List StreamRecord → List StreamRecord → Type 0) where
 
   pub kind-alike : (t t′ : Tables) (n : ℕ) → AlikeTables t t′ → kindOf t n ≡ kindOf t′ n
   unfolding kindOf
-  kind-alike t t′ n a = rw (a .pat, a .pmt)
+  kind-alike t t′ n a = rw (same-map-pid (t .pat) (t′ .pat) n (a .pat), same-listed (t .pmt) (t′ .pmt) n (a .pmt))
 
 -- ---- rules
 abbrev pub Records : Type 1
@@ -211,18 +332,20 @@ pcr-alike earlier earlier′ clock.None h e = h e
 pcr-alike earlier earlier′ (clock.Pcr ticks) h e = refl
 
 module _ (R S : Records) (i j : ℕ) (q : Bytes)
-    (counts : (l l′ : List StreamRecord) → R l l′ → Both S (checkedIn l q) (checkedIn l′ q)) where
+    (counts : (l l′ : List StreamRecord) → R l l′ → Both S (checkedIn 0 l q) (checkedIn 0 l′ q)) where
   checked-alike : (t t′ : Tables) → AlikeTables R t t′ → Both (AlikeTables S) (checked i q (clocked i q t)) (checked j q (clocked j q t′))
   unfolding checked
   checked-alike t t′ a =
-      both-bind S (AlikeTables S) _ _ _ _ (both-at S i j _ _ (counts (t .records) (t′ .records) (a .records)))
+      both-bind (λ (l l′ : List StreamRecord). S (said l) (said l′)) (AlikeTables S) _ _ _ _
+      (both-at (λ (l l′ : List StreamRecord). S (said l) (said l′)) i j _ _
+      (counts-alike S i j q (t .records) (t′ .records) (counts (said (t .records)) (said (t′ .records)) (a .records))))
       (λ l l′ b. (
         _,
         refl,
         record {
           pat = a .pat;
           pmt = a .pmt;
-          pcr = λ e. subst (λ (o : Option FirstPmt). isPcr (lastPcr (t′ .pcr) (countingPcr o q)) ≡ true) (a .pmt)
+          pcr = λ e. subst (λ (c : Clock). isPcr (lastPcr (t′ .pcr) c) ≡ true) (same-pcr (t .pmt) (t′ .pmt) q (a .pmt))
               (pcr-alike (t .pcr) (t′ .pcr) (countingPcr (t .pmt) q) (a .pcr) e);
           records = b;
         },
@@ -237,45 +360,56 @@ module _ (R S : Records) (i j : ℕ) (q : Bytes)
 
 -- ---- sections
 module _ (R : Records) (grows : (l l′ new : List StreamRecord) → R l l′ → R (l ++ new) (l′ ++ new)) (edition : Edition) where
-  module _ (t t′ : Tables) (a : AlikeTables R t t′) where
-    later-alike : (number : ℕ) (first section : Bytes)
-        → Both (AlikeTables R) (laterSection number first section t) (laterSection number first section t′)
+  module _ (i j : ℕ) (t t′ : Tables) (a : AlikeTables R t t′) where
+    later-alike : (number : ℕ) (first first′ section : Bytes) → first ≡ first′
+        → Both (AlikeTables R) (laterSection number first section t) (laterSection number first′ section t′)
     unfolding laterSection
-    later-alike number first section = both-given (AlikeTables R) number _ _ _ (_, refl, a)
+    later-alike number first first′ section e =
+        subst (λ (s : Bytes). Both (AlikeTables R) (laterSection number first section t) (laterSection number s section t′)) e
+        (both-given (AlikeTables R) number _ _ _ (_, refl, a))
 
-    pat-alike : (o : Option FirstPat) (section : Bytes) → Both (AlikeTables R) (patSection o section t) (patSection o section t′)
+    more-records : (new : List StreamRecord) → R (said (t .records ++ new)) (said (t′ .records ++ new))
+    more-records new =
+        subst (λ (l : List StreamRecord). R l (said (t′ .records ++ new))) (sym (map-append placeless (t .records) new))
+        (subst (λ (l : List StreamRecord). R (said (t .records) ++ said new) l) (sym (map-append placeless (t′ .records) new))
+        (grows (said (t .records)) (said (t′ .records)) (said new) (a .records)))
+
+    pat-alike : (o o′ : Option FirstPat) (section : Bytes) → SamePat o o′
+        → Both (AlikeTables R) (patSection i o section t) (patSection j o′ section t′)
     unfolding patSection
-    pat-alike none section =
+    pat-alike none none section h =
         both-value (AlikeTables R) (readPat section) _ _
-        (λ program. (_, refl, record { pat = refl; pmt = a .pmt; pcr = a .pcr; records = grows (t .records) (t′ .records) _ (a .records) }))
-    pat-alike (some first) section = later-alike 25 (first .section) section
+        (λ program. (_, refl, record { pat = (refl, refl); pmt = a .pmt; pcr = a .pcr; records = more-records _ }))
+    pat-alike none (some f) section h = absurd h
+    pat-alike (some f) none section h = absurd h
+    pat-alike (some f) (some f′) section h = later-alike 25 (f .section) (f′ .section) section (h .0)
 
-    pmt-alike : (o : Option FirstPat) (o′ : Option FirstPmt) (section : Bytes)
-        → Both (AlikeTables R) (pmtSection edition o o′ section t) (pmtSection edition o o′ section t′)
+    abbrev mapRead : ℕ → Tables → Bytes → Program → Verdict Tables
+    mapRead k t section program =
+        readPmt edition (program .number) (program .«map_pid») section
+        >>= λ m. passed (withPmt (record { packet = k; section = section; says = m }) (map named (pids (m .entries))) t)
+
+    pmt-alike : (o o′ : Option FirstPat) (m m′ : Option FirstPmt) (section : Bytes) → SamePat o o′ → SamePmt m m′
+        → Both (AlikeTables R) (pmtSection edition i o m section t) (pmtSection edition j o′ m′ section t′)
     unfolding pmtSection
-    pmt-alike none o′ section = (_, refl, a)
-    pmt-alike (some pat) none section =
-        both-value (AlikeTables R) (readPmt edition (pat .says .number) (pat .says .«map_pid») section) _ _
-        (λ m. (_, refl, record { pat = a .pat; pmt = refl; pcr = a .pcr; records = grows (t .records) (t′ .records) _ (a .records) }))
-    pmt-alike (some pat) (some first) section = later-alike 26 (first .section) section
+    pmt-alike none none m m′ section h k = (_, refl, a)
+    pmt-alike none (some f) m m′ section h k = absurd h
+    pmt-alike (some f) none m m′ section h k = absurd h
+    pmt-alike (some f) (some f′) none none section h k =
+        subst (λ (x : Program). Both (AlikeTables R) (mapRead i t section (f .says)) (mapRead j t′ section x)) (h .1)
+        (both-value (AlikeTables R) (readPmt edition (f .says .number) (f .says .«map_pid») section) _ _
+        (λ m. (_, refl, record { pat = a .pat; pmt = (refl, refl); pcr = a .pcr; records = more-records _ })))
+    pmt-alike (some f) (some f′) none (some m) section h k = absurd k
+    pmt-alike (some f) (some f′) (some m) none section h k = absurd k
+    pmt-alike (some f) (some f′) (some m) (some m′) section h k = later-alike 26 (m .section) (m′ .section) section (k .0)
 
     section-alike : (kind : Kind) (b : Bool) (w : Bytes)
-        → Both (AlikeTables R) (sectionRead edition kind b w t) (sectionRead edition kind b w t′)
+        → Both (AlikeTables R) (sectionRead edition kind i b w t) (sectionRead edition kind j b w t′)
     unfolding sectionRead
     section-alike Null b w = (_, refl, a)
-    section-alike Pat b w =
-        both-given (AlikeTables R) 25 _ _ _
-        (subst (λ (o : Option FirstPat). Both (AlikeTables R) (patSection (t .pat) (sectionOf w) t) (patSection o (sectionOf w) t′))
-        (a .pat)
-        (pat-alike (t .pat) (sectionOf w)))
+    section-alike Pat b w = both-given (AlikeTables R) 25 _ _ _ (pat-alike (t .pat) (t′ .pat) (sectionOf w) (a .pat))
     section-alike Map b w =
-        both-given (AlikeTables R) 26 _ _ _
-        (subst (λ (o : Option FirstPat). Both (AlikeTables R) (pmtSection edition (t .pat) (t .pmt) (sectionOf w) t)
-        (pmtSection edition o (t′ .pmt) (sectionOf w) t′))
-        (a .pat)
-        (subst (λ (o : Option FirstPmt). Both (AlikeTables R) (pmtSection edition (t .pat) (t .pmt) (sectionOf w) t)
-        (pmtSection edition (t .pat) o (sectionOf w) t′))
-        (a .pmt) (pmt-alike (t .pat) (t .pmt) (sectionOf w))))
+        both-given (AlikeTables R) 26 _ _ _ (pmt-alike (t .pat) (t′ .pat) (t .pmt) (t′ .pmt) (sectionOf w) (a .pat) (a .pmt))
     section-alike Av1 b w = (_, refl, a)
     section-alike Listed b w = (_, refl, a)
     section-alike Unlisted b w = (_, refl, a)
@@ -285,7 +419,7 @@ module _ (R : Records) (grows : (l l′ new : List StreamRecord) → R l l′ �
   sections-alike i j q kind =
       tables-alike R R _ _
       (λ t t′ a. both-pick (AlikeTables R) (hasPayload q) (hasPayload q) _ _ _ _ refl
-      (both-at (AlikeTables R) i j _ _ (section-alike t t′ a kind _ _)) (_, refl, a))
+      (both-at (AlikeTables R) i j _ _ (section-alike i j t t′ a kind _ _)) (_, refl, a))
 
 -- ---- the rules of a PES
 no-pcr-alike : (b c c′ : Bool) → (c ≡ true → c′ ≡ true) → (b && not c) ≡ false → (b && not c′) ≡ false
@@ -364,7 +498,7 @@ module _ (R : Records) (edition : Edition) (rooms : Rooms) (i j : ℕ) (q : Byte
 -- ---- the whole packet: 24 takes one relation of the records to another, which named PIDs keep and in which the packet is a repeat in both
 -- or in none
 module _ (R S : Records) (grows : (l l′ new : List StreamRecord) → S l l′ → S (l ++ new) (l′ ++ new)) (edition : Edition) (rooms : Rooms)
-    (q : Bytes) (counts : (l l′ : List StreamRecord) → R l l′ → Both S (checkedIn l q) (checkedIn l′ q))
+    (q : Bytes) (counts : (l l′ : List StreamRecord) → R l l′ → Both S (checkedIn 0 l q) (checkedIn 0 l′ q))
     (repeats : (l l′ : List StreamRecord) → S l l′ → lastRepeats (recordOf (pid q) l) ≡ lastRepeats (recordOf (pid q) l′)) where
   rest-alike : (i j : ℕ) (kind : Kind)
       → AlikeRules S S (inSequence (after24 edition rooms i q kind)) (inSequence (after24 edition rooms j q kind))
@@ -377,6 +511,9 @@ module _ (R S : Records) (grows : (l l′ new : List StreamRecord) → S l l′ 
   unfolding packetRules unlessRepeat
   packet-alike i j kind st st′ a =
       both-bind (Alike S) (Alike S) (inSequence (upTo24 i q) st) (inSequence (upTo24 j q) st′) _ _ (to-24-alike R S i j q counts st st′ a)
-      (λ st1 st1′ b. both-pick (Alike S) _ _ _ _ _ _ (repeats (st1 .tables .records) (st1′ .tables .records) (b .tables .records))
+      (λ st1 st1′ b. both-pick (Alike S) _ _ _ _ _ _
+      (sym (said-repeats (pid q) (st1 .tables .records))
+      ∙ repeats (said (st1 .tables .records)) (said (st1′ .tables .records)) (b .tables .records)
+      ∙ said-repeats (pid q) (st1′ .tables .records))
       (_, refl, b)
       (rest-alike i j kind st1 st1′ b))

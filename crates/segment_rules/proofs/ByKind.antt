@@ -42,18 +42,18 @@ module _ (edition : Edition) (rooms : Rooms) (i : ℕ) (p : Bytes) (st : State) 
       (bind-same (rules25to28 i p kind edition st1) _ passed (λ st2. not-av1 edition rooms i p st2 kind e) ∙ bind-unit _))
 
   -- one on neither PID 0 nor the map PID has none
-  no-section : (kind : Kind) → ((b : Bool) (w : Bytes) (t : Tables) → sectionRead edition kind b w t ≡ passed t) → (st1 : State)
+  no-section : (kind : Kind) → ((b : Bool) (w : Bytes) (t : Tables) → sectionRead edition kind i b w t ≡ passed t) → (st1 : State)
       → rules25to28 i p kind edition st1 ≡ passed st1
   unfolding rules25to28 onTables _>>=_ pick atPlace
   no-section kind silent st1 = go (hasPayload p)
     where
-      go : (b : Bool) → (pick b (atPlace i (sectionRead edition kind (payloadUnitStartIndicator p) (payload p) (st1 .tables)))
+      go : (b : Bool) → (pick b (atPlace i (sectionRead edition kind i (payloadUnitStartIndicator p) (payload p) (st1 .tables)))
           (passed (st1 .tables)) >>= λ t. passed (withTables t st1))
           ≡ passed st1
       go true = rw (silent (payloadUnitStartIndicator p) (payload p) (st1 .tables))
       go false = refl
 
-  counter-alone : (kind : Kind) → isAv1 kind ≡ false → ((b : Bool) (w : Bytes) (t : Tables) → sectionRead edition kind b w t ≡ passed t)
+  counter-alone : (kind : Kind) → isAv1 kind ≡ false → ((b : Bool) (w : Bytes) (t : Tables) → sectionRead edition kind i b w t ≡ passed t)
       → packetRules edition rooms i p kind st ≡ counted i p st
   counter-alone kind e silent =
       without-av1 kind e
@@ -64,7 +64,7 @@ module _ (edition : Edition) (rooms : Rooms) (i : ℕ) (p : Bytes) (st : State) 
   -- a packet of a PID that has no record: its PCR may count
   uncounted : recordOf (pid p) (st .tables .records) ≡ none → counted i p st ≡ passed (withTables (clocked i p (st .tables)) st)
   unfolding onTables checked atPlace _>>=_
-  uncounted e = rw (unrecorded p (st .tables .records) e)
+  uncounted e = rw (unrecorded i p (st .tables .records) e)
 
   -- another listed packet: its PCR and its counter
   pub other-listed : packetRules edition rooms i p Listed st ≡ counted i p st
@@ -102,7 +102,7 @@ module _ (edition : Edition) (rooms : Rooms) (i : ℕ) (p : Bytes) (st : State) 
   abbrev sectionOf : Kind → Verdict State
   sectionOf kind =
       counted i p st
-      >>= unlessRepeat p (onTables (λ t. atPlace i (sectionRead edition kind (payloadUnitStartIndicator p) (payload p) t)))
+      >>= unlessRepeat p (onTables (λ t. atPlace i (sectionRead edition kind i (payloadUnitStartIndicator p) (payload p) t)))
 
   module _ (carries : hasPayload p ≡ true) where
     pub pat-packet : packetRules edition rooms i p Pat st ≡ sectionOf Pat

@@ -26,23 +26,23 @@ unfolding countingPcr
 clocked-keeps i p t h e = ap (λ (o : Option FirstPmt). lastPcr (t .pcr) (countingPcr o p)) e ∙ h e
 
 -- its section
-module _ (edition : Edition) (t : Tables) (h : NoneEarly t) where
+module _ (edition : Edition) (i : ℕ) (t : Tables) (h : NoneEarly t) where
   later-keeps : (number : ℕ) (first section : Bytes) → Holds NoneEarly (laterSection number first section t)
   unfolding laterSection
   later-keeps number first section = holds-then NoneEarly _ _ (λ _ _. h)
 
-  pat-keeps : (pat : Option FirstPat) (section : Bytes) → Holds NoneEarly (patSection pat section t)
+  pat-keeps : (pat : Option FirstPat) (section : Bytes) → Holds NoneEarly (patSection i pat section t)
   unfolding patSection
   pat-keeps none section = holds-each NoneEarly _ _ (λ _ _. h)
   pat-keeps (some first) section = later-keeps 25 (first .section) section
 
-  pmt-keeps : (pat : Option FirstPat) (pmt : Option FirstPmt) (section : Bytes) → Holds NoneEarly (pmtSection edition pat pmt section t)
+  pmt-keeps : (pat : Option FirstPat) (pmt : Option FirstPmt) (section : Bytes) → Holds NoneEarly (pmtSection edition i pat pmt section t)
   unfolding pmtSection
   pmt-keeps none pmt section = h
   pmt-keeps (some pat) none section = holds-each NoneEarly _ _ (λ _ _ e. absurd (some-not-none _ e))
   pmt-keeps (some pat) (some first) section = later-keeps 26 (first .section) section
 
-  section-keeps : (kind : Kind) (b : Bool) (w : Bytes) → Holds NoneEarly (sectionRead edition kind b w t)
+  section-keeps : (kind : Kind) (b : Bool) (w : Bytes) → Holds NoneEarly (sectionRead edition kind i b w t)
   unfolding sectionRead
   section-keeps Null b w = h
   section-keeps Pat b w = holds-then NoneEarly _ _ (λ _ _. pat-keeps (t .pat) _)
@@ -57,5 +57,5 @@ module _ (edition : Edition) (rooms : Rooms) where
       → g .state .tables .pcr ≡ clock.None
   unfolding checked
   no-early-pcr ps g e =
-      run-lasts edition rooms NoneEarly AnyPacket clocked-keeps (λ i p t h. holds-each NoneEarly _ _ (λ _ _. h))
-      (λ p kind t _ h. section-keeps edition t h kind _ _) start ps g (any-packets ps) (λ _. refl) e
+      run-lasts edition rooms NoneEarly AnyPacket clocked-keeps (λ i p t _ h. holds-each NoneEarly _ _ (λ _ _. h))
+      (λ i p kind t _ h. section-keeps edition i t h kind _ _) start ps g (any-packets 0 ps) (λ _. refl) e

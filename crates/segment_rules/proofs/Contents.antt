@@ -38,7 +38,7 @@ use Rattle.segment_rules.specs.Content.{ObuPlace, placeOf, placesFrom, p
 use Rattle.segment_rules.proofs.Accepting.{all-and-one, octets-payload, Timed, units-accepted}
 use Rattle.segment_rules.proofs.Editions.{TimesBy, times-where}
 use Rattle.segment_rules.proofs.Keeping.{Holds, holds-then, holds-each}
-use Rattle.segment_rules.proofs.Lasting.{run-lasts}
+use Rattle.segment_rules.proofs.Lasting.{each-all, run-lasts}
 use Rattle.segment_rules.proofs.Fitting.{accepted-fits}
 
 -- ---- the OBUs of a unit
@@ -243,24 +243,24 @@ module _ (edition : Edition) (P : MapContent → Type 0) (Q : Bytes → Type 0)
   unfolding rules.checked
   checked-lasts i p t h = holds-each MapRight _ _ (λ _ _. h)
 
-  section-lasts : (p : Bytes) (kind : Kind) (t : Tables) → Q p → MapRight t
-      → Holds MapRight (rules.sectionRead edition kind (payloadUnitStartIndicator p) (payload p) t)
+  section-lasts : (i : ℕ) (p : Bytes) (kind : Kind) (t : Tables) → Q p → MapRight t
+      → Holds MapRight (rules.sectionRead edition kind i (payloadUnitStartIndicator p) (payload p) t)
   unfolding rules.sectionRead rules.patSection rules.pmtSection rules.laterSection
-  section-lasts p Null t o h = h
-  section-lasts p Pat t o h = holds-then MapRight _ _ (λ _ _. go (t .pat))
+  section-lasts i p Null t o h = h
+  section-lasts i p Pat t o h = holds-then MapRight _ _ (λ _ _. go (t .pat))
     where
-      go : (pat : Option FirstPat) → Holds MapRight (rules.patSection pat (sectionOf (payload p)) t)
+      go : (pat : Option FirstPat) → Holds MapRight (rules.patSection i pat (sectionOf (payload p)) t)
       go none = holds-each MapRight _ _ (λ _ _. h)
       go (some pat) = holds-then MapRight _ _ (λ _ _. h)
-  section-lasts p Map t o h = holds-then MapRight _ _ (λ _ _. go (t .pat) (t .pmt))
+  section-lasts i p Map t o h = holds-then MapRight _ _ (λ _ _. go (t .pat) (t .pmt))
     where
-      go : (pat : Option FirstPat) (pmt : Option FirstPmt) → Holds MapRight (rules.pmtSection edition pat pmt (sectionOf (payload p)) t)
+      go : (pat : Option FirstPat) (pmt : Option FirstPmt) → Holds MapRight (rules.pmtSection edition i pat pmt (sectionOf (payload p)) t)
       go none pmt = h
       go (some pat) none = holds-each MapRight _ _ (λ m e. reads (pat .says .number) (pat .says .«map_pid») p m o e)
       go (some pat) (some pmt) = holds-then MapRight _ _ (λ _ _. h)
-  section-lasts p Av1 t o h = h
-  section-lasts p Listed t o h = h
-  section-lasts p Unlisted t o h = h
+  section-lasts i p Av1 t o h = h
+  section-lasts i p Listed t o h = h
+  section-lasts i p Unlisted t o h = h
 
   accepted-map : (n : ℕ) (pat : Option FirstPat) (pmt : Option FirstPmt) (units : List AccessUnit) (t : Totals) (a : Accepted)
       → PmtRight pmt → accepted n pat pmt units t ≡ passed a → P (a .map)
@@ -277,7 +277,8 @@ module _ (edition : Edition) (P : MapContent → Type 0) (Q : Bytes → Type 0)
       let l = passed-then (rules.closePes (g .state .extraction))
       (λ x. accepted (g .index) (g .state .tables .pat) (g .state .tables .pmt) (x .units) (g .totals)) a (k .2) in
       accepted-map (g .index) (g .state .tables .pat) (g .state .tables .pmt) (l .0 .units) (g .totals) a
-      (run-lasts edition rooms MapRight Q clocked-lasts checked-lasts section-lasts start (packets s) g o tt (k .1))
+      (run-lasts edition rooms MapRight (λ _ p. Q p) clocked-lasts (λ i p t _ h. checked-lasts i p t h) section-lasts start (packets s) g
+      (each-all Q 0 (packets s) o) tt (k .1))
       (l .2)
 
 packets-octets : (n : ℕ) (s : Bytes) → Octets s → All Octets (packetsOf n s)

@@ -200,49 +200,49 @@ module _ (one other : Edition) (rooms : Rooms) where
   unfolding rules.checked
   checked-lasts i p t h = holds-each NoPmt _ _ (λ _ _. h)
 
-  section-lasts : (p : Bytes) (kind : Kind) (t : Tables) → Neither one other p → NoPmt t
-      → Holds NoPmt (rules.sectionRead one kind (payloadUnitStartIndicator p) (payload p) t)
+  section-lasts : (i : ℕ) (p : Bytes) (kind : Kind) (t : Tables) → Neither one other p → NoPmt t
+      → Holds NoPmt (rules.sectionRead one kind i (payloadUnitStartIndicator p) (payload p) t)
   unfolding rules.sectionRead rules.patSection rules.pmtSection rules.laterSection
-  section-lasts p state.Null t w h = h
-  section-lasts p state.Pat t w h = holds-then NoPmt _ _ (λ _ _. go (t .pat))
+  section-lasts i p state.Null t w h = h
+  section-lasts i p state.Pat t w h = holds-then NoPmt _ _ (λ _ _. go (t .pat))
     where
-      go : (pat : Option FirstPat) → Holds NoPmt (rules.patSection pat (sectionOf (payload p)) t)
+      go : (pat : Option FirstPat) → Holds NoPmt (rules.patSection i pat (sectionOf (payload p)) t)
       go none = holds-each NoPmt _ _ (λ _ _. h)
       go (some pat) = holds-then NoPmt _ _ (λ _ _. h)
-  section-lasts p state.Map t w h = holds-then NoPmt _ _ (λ _ _. go (t .pat) (t .pmt) h)
+  section-lasts i p state.Map t w h = holds-then NoPmt _ _ (λ _ _. go (t .pat) (t .pmt) h)
     where
       go : (pat : Option FirstPat) (pmt : Option FirstPmt) → pmt ≡ none
-          → Holds NoPmt (rules.pmtSection one pat pmt (sectionOf (payload p)) t)
+          → Holds NoPmt (rules.pmtSection one i pat pmt (sectionOf (payload p)) t)
       go none pmt e = h
       go (some pat) none e =
           holds-each NoPmt _ _
           (λ m k. absurd (pmt-never one (pat .says .number) (pat .says .«map_pid») (sectionOf (payload p)) m (w .0) k))
       go (some pat) (some pmt) e = holds-then NoPmt _ _ (λ _ _. h)
-  section-lasts p state.Av1 t w h = h
-  section-lasts p state.Listed t w h = h
-  section-lasts p state.Unlisted t w h = h
+  section-lasts i p state.Av1 t w h = h
+  section-lasts i p state.Listed t w h = h
+  section-lasts i p state.Unlisted t w h = h
 
   -- the section is read alike
-  section-same : (p : Bytes) (kind : Kind) (b : Bool) (t : Tables) → Neither one other p → NoPmt t
-      → rules.sectionRead one kind b (payload p) t ≡ rules.sectionRead other kind b (payload p) t
+  section-same : (i : ℕ) (p : Bytes) (kind : Kind) (b : Bool) (t : Tables) → Neither one other p → NoPmt t
+      → rules.sectionRead one kind i b (payload p) t ≡ rules.sectionRead other kind i b (payload p) t
   unfolding rules.sectionRead rules.pmtSection
-  section-same p state.Null b t w h = refl
-  section-same p state.Pat b t w h = refl
-  section-same p state.Map b t w h = then-same _ (go (t .pat) (t .pmt))
+  section-same i p state.Null b t w h = refl
+  section-same i p state.Pat b t w h = refl
+  section-same i p state.Map b t w h = then-same _ (go (t .pat) (t .pmt))
     where
       go : (pat : Option FirstPat) (pmt : Option FirstPmt)
-          → rules.pmtSection one pat pmt (sectionOf (payload p)) t ≡ rules.pmtSection other pat pmt (sectionOf (payload p)) t
+          → rules.pmtSection one i pat pmt (sectionOf (payload p)) t ≡ rules.pmtSection other i pat pmt (sectionOf (payload p)) t
       go none pmt = refl
       go (some pat) none =
           ap
           (λ (v : Verdict MapContent). v
-          >>= λ m. passed (withPmt (record { section = sectionOf (payload p); says = m }) (map named (pids (m .entries))) t))
+          >>= λ m. passed (withPmt (record { packet = i; section = sectionOf (payload p); says = m }) (map named (pids (m .entries))) t))
           (pmt-not one (pat .says .number) (pat .says .«map_pid») (sectionOf (payload p)) (w .0)
           ∙ sym (pmt-not other (pat .says .number) (pat .says .«map_pid») (sectionOf (payload p)) (w .1)))
       go (some pat) (some pmt) = refl
-  section-same p state.Av1 b t w h = refl
-  section-same p state.Listed b t w h = refl
-  section-same p state.Unlisted b t w h = refl
+  section-same i p state.Av1 b t w h = refl
+  section-same i p state.Listed b t w h = refl
+  section-same i p state.Unlisted b t w h = refl
 
   -- without a PMT no PID is the AV1 PID
   no-av1-pid : (t : Tables) (n : ℕ) → NoPmt t → rules.isAv1 (kindOf t n) ≡ false
@@ -263,10 +263,10 @@ module _ (one other : Edition) (rooms : Rooms) where
       (λ st1 e. rest-same p _ _ st1
       (let h1 : NoPmt (st1 .tables) =
       subst (Holds (λ (x : State). NoPmt (x .tables))) e
-      (to-24 one rooms NoPmt (Neither one other) clocked-lasts checked-lasts section-lasts i p st h) in
+      (to-24 one rooms NoPmt (λ _ q. Neither one other q) clocked-lasts (λ i p t _ h. checked-lasts i p t h) section-lasts i p w st h) in
       ap (λ (v : Verdict State). v >>= inSequence (rules.pesRules one rooms i p kind))
       (ap (λ (v : Verdict Tables). pick (hasPayload p) (atPlace i v) (passed (st1 .tables)) >>= λ t. passed (withTables t st1))
-      (section-same p kind (payloadUnitStartIndicator p) (st1 .tables) w h1))
+      (section-same i p kind (payloadUnitStartIndicator p) (st1 .tables) w h1))
       ∙ bind-same (rules.rules25to28 i p kind other st1) _ _
       (λ st2. not-av1 one rooms i p st2 kind a ∙ sym (not-av1 other rooms i p st2 kind a))))
 
@@ -278,7 +278,8 @@ module _ (one other : Edition) (rooms : Rooms) where
       bind-where (step one rooms g p) _ _
       (λ g′ e. run-same g′ ps (w .1)
       (subst (Holds (λ (x : Progress). NoPmt (x .state .tables))) e
-      (step-lasts one rooms NoPmt (Neither one other) clocked-lasts checked-lasts section-lasts g p (w .0) h)))
+      (step-lasts one rooms NoPmt (λ _ q. Neither one other q) clocked-lasts (λ i p t _ h. checked-lasts i p t h) section-lasts
+      g p (w .0) h)))
       ∙ ap (λ (v : Verdict State). (v >>= λ st. passed (oneMore (kindOf (g .state .tables) (pid p)) st g)) >>= λ g′. run other rooms g′ ps)
       (packet-same (g .index) p (kindOf (g .state .tables) (pid p)) (g .state) (w .0) h (no-av1-pid (g .state .tables) (pid p) h))
 

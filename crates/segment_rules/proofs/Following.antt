@@ -32,7 +32,7 @@ use Rattle.segment_rules.proofs.Running.{run-append, step-passed}
 abbrev Naming : List StreamRecord → Tables → Type 0
 Naming records t = (new : List ℕ) × (t .records ≡ records ++ map named new)
 
-module _ (edition : Edition) (t : Tables) where
+module _ (edition : Edition) (i : ℕ) (t : Tables) where
   none-named : Naming (t .records) t
   none-named = ([], sym (append-nil (t .records)))
 
@@ -40,19 +40,19 @@ module _ (edition : Edition) (t : Tables) where
   unfolding laterSection
   later-names number first section = holds-then (Naming (t .records)) _ _ (λ _ _. none-named)
 
-  pat-names : (pat : Option FirstPat) (section : Bytes) → Holds (Naming (t .records)) (patSection pat section t)
+  pat-names : (pat : Option FirstPat) (section : Bytes) → Holds (Naming (t .records)) (patSection i pat section t)
   unfolding patSection
   pat-names none section = holds-each (Naming (t .records)) _ _ (λ program _. (program .«map_pid» ∷ [], refl))
   pat-names (some first) section = later-names 25 (first .section) section
 
   pmt-names : (pat : Option FirstPat) (pmt : Option FirstPmt) (section : Bytes)
-      → Holds (Naming (t .records)) (pmtSection edition pat pmt section t)
+      → Holds (Naming (t .records)) (pmtSection edition i pat pmt section t)
   unfolding pmtSection
   pmt-names none pmt section = none-named
   pmt-names (some pat) none section = holds-each (Naming (t .records)) _ _ (λ m _. (pids (m .entries), refl))
   pmt-names (some pat) (some first) section = later-names 26 (first .section) section
 
-  section-names : (kind : Kind) (b : Bool) (w : Bytes) → Holds (Naming (t .records)) (sectionRead edition kind b w t)
+  section-names : (kind : Kind) (b : Bool) (w : Bytes) → Holds (Naming (t .records)) (sectionRead edition kind i b w t)
   unfolding sectionRead
   section-names Null b w = none-named
   section-names Pat b w = holds-then (Naming (t .records)) _ _ (λ _ _. pat-names (t .pat) _)
@@ -62,21 +62,21 @@ module _ (edition : Edition) (t : Tables) where
   section-names Unlisted b w = none-named
 
 -- the record of the packet's PID is checked in these records
-abbrev CheckedFrom : List StreamRecord → Bytes → Tables → Type 0
-CheckedFrom records p t = checkedIn records p ≡ passed (t .records)
+abbrev CheckedFrom : ℕ → List StreamRecord → Bytes → Tables → Type 0
+CheckedFrom i records p t = checkedIn i records p ≡ passed (t .records)
 
 module _ (edition : Edition) (rooms : Rooms) (i : ℕ) (p : Bytes) where
   -- up to 24
-  tables-checked : (t : Tables) → Holds (CheckedFrom (t .records) p) (checked i p (clocked i p t))
+  tables-checked : (t : Tables) → Holds (CheckedFrom i (t .records) p) (checked i p (clocked i p t))
   unfolding checked
-  tables-checked t = holds-each (CheckedFrom (t .records) p) _ _ (λ records e. passed-at i (checkedIn (t .records) p) records e)
+  tables-checked t = holds-each (CheckedFrom i (t .records) p) _ _ (λ records e. passed-at i (checkedIn i (t .records) p) records e)
 
-  checked-first : (st : State) → Holds (λ (st1 : State). CheckedFrom (st .tables .records) p (st1 .tables)) (inSequence (upTo24 i p) st)
+  checked-first : (st : State) → Holds (λ (st1 : State). CheckedFrom i (st .tables .records) p (st1 .tables)) (inSequence (upTo24 i p) st)
   unfolding onTables
   checked-first st =
-      subst (Holds (λ (st1 : State). CheckedFrom (st .tables .records) p (st1 .tables))) (sym (up-to-24 i p st))
-      (holds-then (λ (st1 : State). CheckedFrom (st .tables .records) p (st1 .tables)) _ _
-      (λ _ _. holds-after (λ (st1 : State). CheckedFrom (st .tables .records) p (st1 .tables)) (CheckedFrom (st .tables .records) p) _ _
+      subst (Holds (λ (st1 : State). CheckedFrom i (st .tables .records) p (st1 .tables))) (sym (up-to-24 i p st))
+      (holds-then (λ (st1 : State). CheckedFrom i (st .tables .records) p (st1 .tables)) _ _
+      (λ _ _. holds-after (λ (st1 : State). CheckedFrom i (st .tables .records) p (st1 .tables)) (CheckedFrom i (st .tables .records) p) _ _
       (tables-checked (st .tables))
       (λ _ h. h)))
 
@@ -111,20 +111,20 @@ module _ (edition : Edition) (rooms : Rooms) (i : ℕ) (p : Bytes) where
         (λ (st1 : State). Naming (st .tables .records) (st1 .tables)) _ _
         (holds-after (λ (st1 : State). Naming (st .tables .records) (st1 .tables)) (Naming (st .tables .records)) _ _
         (holds-pick (Naming (st .tables .records)) _ _ _
-        (holds-at (Naming (st .tables .records)) i _ (section-names edition (st .tables) kind _ _)) (none-named edition (st .tables)))
+        (holds-at (Naming (st .tables .records)) i _ (section-names edition i (st .tables) kind _ _)) (none-named edition i (st .tables)))
         (λ _ h. h))
         (pes-names (st .tables .records))
 
     -- the whole packet
     pub packet-records : (st st′ : State) → packetRules edition rooms i p kind st ≡ passed st′
-        → (after : List StreamRecord) × (checkedIn (st .tables .records) p ≡ passed after) × Naming after (st′ .tables)
+        → (after : List StreamRecord) × (checkedIn i (st .tables .records) p ≡ passed after) × Naming after (st′ .tables)
     unfolding packetRules
     packet-records st st′ e =
         let k = passed-then (inSequence (upTo24 i p) st) _ st′ e in (
           k .0 .tables .records,
-          subst (Holds (λ (st1 : State). CheckedFrom (st .tables .records) p (st1 .tables))) (k .1) (checked-first st),
+          subst (Holds (λ (st1 : State). CheckedFrom i (st .tables .records) p (st1 .tables))) (k .1) (checked-first st),
           subst (Holds (λ (st1 : State). Naming (k .0 .tables .records) (st1 .tables))) (k .2)
-              (holds-unless (λ (st1 : State). Naming (k .0 .tables .records) (st1 .tables)) p _ (k .0) (none-named edition (k .0 .tables))
+              (holds-unless (λ (st1 : State). Naming (k .0 .tables .records) (st1 .tables)) p _ (k .0) (none-named edition i (k .0 .tables))
               (named-then (k .0))),
         )
 
@@ -162,8 +162,8 @@ module _ (edition : Edition) (rooms : Rooms) where
   module _ (ps : List Bytes) (g g′ : Progress) (p : Bytes) (e : run edition rooms start (ps ++ (p ∷ [])) ≡ passed g′)
       (f : Followed ps g) where
     -- the record was there
-    longer : (n : ℕ) (r r′ : StreamRecord) → recordOf n (g .state .tables .records) ≡ some r → r′ ≡ pick (eqb (pid p) n) (updated r p) r
-        → SinceNamed n r′ (ps ++ (p ∷ []))
+    longer : (n : ℕ) (r r′ : StreamRecord) → recordOf n (g .state .tables .records) ≡ some r
+        → r′ ≡ pick (eqb (pid p) n) (updated (g .index) r p) r → SinceNamed n r′ (ps ++ (p ∷ []))
     longer n r r′ h k =
         let s = f n r h in
         record {
@@ -174,13 +174,13 @@ module _ (edition : Edition) (rooms : Rooms) where
           passes = s .passes;
           fresh = s .fresh;
           follows = subst (λ (t : StreamRecord). Follows t (history n (s .after ++ (p ∷ [])))) (sym k)
-              (follows-next n r (s .after) p (s .follows));
+              (follows-next (g .index) n r (s .after) p (s .follows));
         }
 
     -- it was there, or it is new
     either : (n : ℕ) (r′ : StreamRecord) (after : List StreamRecord) (new : List ℕ) → recordOf n (g′ .state .tables .records) ≡ some r′
         → g′ .state .tables .records ≡ after ++ map named new → (o o′ : Option StreamRecord) → recordOf n (g .state .tables .records) ≡ o
-        → recordOf n after ≡ o′ → o′ ≡ recordAfter n p o → SinceNamed n r′ (ps ++ (p ∷ []))
+        → recordOf n after ≡ o′ → o′ ≡ recordAfter (g .index) n p o → SinceNamed n r′ (ps ++ (p ∷ []))
     either n r′ after new h split none none ho ha hc =
         just-named n r′ (ps ++ (p ∷ [])) g′ e h
         (named-record n r′ new (sym (new-record n after (map named new) ha) ∙ ap (recordOf n) (sym split) ∙ h))
@@ -197,7 +197,7 @@ module _ (edition : Edition) (rooms : Rooms) where
         let split : g′ .state .tables .records ≡ q .0 ++ map named (q .2 .0) = ap (λ (x : Progress). x .state .tables .records) (k .2)
         ∙ q .2 .1 in
         either n r (q .0) (q .2 .0) h split (recordOf n (g .state .tables .records)) (recordOf n (q .0)) refl refl
-        (checked-record n p (g .state .tables .records) (q .0) (q .1))
+        (checked-record (g .index) n p (g .state .tables .records) (q .0) (q .1))
 
   run-follows : (ps : List Bytes) (g : Progress) (more : List Bytes) (g′ : Progress) → run edition rooms start ps ≡ passed g → Followed ps g
       → run edition rooms g more ≡ passed g′ → Followed (ps ++ more) g′
@@ -228,12 +228,12 @@ module _ (edition : Edition) (rooms : Rooms) where
     since = history (pid p) (records-follow ps g e (pid p) r has .after)
 
     same-sentence : follows r p ≡ rightAfter since p
-    same-sentence = history-follows r since p (records-follow ps g e (pid p) r has .follows)
+    same-sentence = history-follows (g .index) r since p (records-follow ps g e (pid p) r has .follows)
 
     refused-24 : rightAfter since p ≡ false → inSequence (upTo24 (g .index) p) (g .state) ≡ refused 24 (g .index)
     unfolding onTables checked _>>=_ _>>_ atPlace
     refused-24 w =
-        up-to-24 (g .index) p (g .state) ∙ rw (right, wrong-refused p r (g .state .tables .records) has (same-sentence ∙ w))
+        up-to-24 (g .index) p (g .state) ∙ rw (right, wrong-refused (g .index) p r (g .state .tables .records) has (same-sentence ∙ w))
 
     pub counter-wrong : rightAfter since p ≡ false → step edition rooms g p ≡ refused 24 (g .index)
     unfolding step packetRules _>>=_
@@ -242,7 +242,7 @@ module _ (edition : Edition) (rooms : Rooms) where
     pub counter-right : rightAfter since p ≡ true → (st : State) × (inSequence (upTo24 (g .index) p) (g .state) ≡ passed st)
     unfolding onTables checked _>>=_ _>>_ atPlace
     counter-right w =
-        let q = right-passes p r (g .state .tables .records) has (same-sentence ∙ w) in (
+        let q = right-passes (g .index) p r (g .state .tables .records) has (same-sentence ∙ w) in (
           withTables (withRecords (q .0) (clocked (g .index) p (g .state .tables))) (g .state),
           up-to-24 (g .index) p (g .state)
               ∙ rw (right, q .1),

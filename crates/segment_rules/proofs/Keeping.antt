@@ -21,6 +21,10 @@ Holds P (passed a) = P a
 Holds P (refused number place) = Unit {0}
 
 module _ {A : Type 0} (P : A → Type 0) where
+  pub holds-where : (v : Verdict A) → ((a : A) → v ≡ passed a → P a) → Holds P v
+  holds-where (passed a) h = h a refl
+  holds-where (refused number place) h = tt
+
   pub holds-at : (place : ℕ) (v : Verdict A) → Holds P v → Holds P (atPlace place v)
   unfolding atPlace
   holds-at place (passed a) h = h

@@ -7,6 +7,7 @@ pub mod Running
 pub mod Thirteen
 pub mod Following
 pub mod Naming
+pub mod Lying
 pub mod Marking
 pub mod Alike
 pub mod Repeating

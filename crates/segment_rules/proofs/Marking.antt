@@ -1,5 +1,6 @@
 -- The records of a run in which a copy has come behind its original: they are those without the copy, but for the record of the copy's PID,
--- which has the copy as its last packet and says that it was a repeat (`mark`), until the next packet of that PID comes. Assumes nothing.
+-- which has the copy as its last packet and says that it was a repeat (`mark`), until the next packet of that PID comes. The two runs are
+-- compared without where the packets lie, which is 0 in all records here (`said`, Alike.antt). Assumes nothing.
 use Prim.Native.Nat.{ℕ}
 use mathlib.Core.Bool.{Bool, true, false, not, _&&_, _||_, and-false, or-true, or-false}
 use mathlib.Core.Path.{_≡_, refl, sym, ap, _∙_}
@@ -36,10 +37,10 @@ module _ (p p′ : Bytes) (copies : copyOf (some p) p′ ≡ true) where
 
   -- the record of the PID after the original, and after the copy
   abbrev pub afterOriginal : StreamRecord
-  afterOriginal = record { pid = pid p; last = some p; repeat = false }
+  afterOriginal = record { pid = pid p; last = some p; lies = 0; repeat = false }
 
   abbrev pub afterCopy : StreamRecord
-  afterCopy = record { pid = pid p; last = some p′; repeat = true }
+  afterCopy = record { pid = pid p; last = some p′; lies = 0; repeat = true }
 
   unfoldable pub mark : List StreamRecord → List StreamRecord
   mark [] = []
@@ -49,25 +50,25 @@ module _ (p p′ : Bytes) (copies : copyOf (some p) p′ ≡ true) where
   repeats-it : repeats afterOriginal p′ ≡ true
   repeats-it = rw copies
 
-  check-copy : check afterOriginal p′ ≡ passed afterCopy
+  check-copy : check 0 afterOriginal p′ ≡ passed afterCopy
   check-copy =
-      check-right afterOriginal p′
+      check-right 0 afterOriginal p′
       (ap (λ (b : Bool). counterRight (some p) p′ || b) repeats-it ∙ or-true (counterRight (some p) p′))
-      ∙ ap (λ (b : Bool). passed (record { pid = pid p; last = some p′; repeat = b })) repeats-it
+      ∙ ap (λ (b : Bool). passed (record { pid = pid p; last = some p′; lies = 0; repeat = b })) repeats-it
 
   pub copy-checked : (records : List StreamRecord) → recordOf (pid p) records ≡ some afterOriginal
-      → checkedIn records p′ ≡ passed (mark records)
+      → checkedIn 0 records p′ ≡ passed (mark records)
   unfolding checkedIn recordOf mark pick _>>=_
   copy-checked [] e = absurd (some-not-none afterOriginal (sym e))
   copy-checked (r ∷ records) e =
-      ap (λ (n : ℕ). pick (eqb (r .pid) n) (check r p′ >>= λ r′. passed (r′ ∷ records))
-      (checkedIn records p′ >>= λ records′. passed (r ∷ records′)))
+      ap (λ (n : ℕ). pick (eqb (r .pid) n) (check 0 r p′ >>= λ r′. passed (r′ ∷ records))
+      (checkedIn 0 records p′ >>= λ records′. passed (r ∷ records′)))
       same-pid
       ∙ go (eqb (r .pid) (pid p)) e (copy-checked records)
     where
       go : (b : Bool) → pick b (some r) (recordOf (pid p) records) ≡ some afterOriginal
-          → (recordOf (pid p) records ≡ some afterOriginal → checkedIn records p′ ≡ passed (mark records))
-          → pick b (check r p′ >>= λ r′. passed (r′ ∷ records)) (checkedIn records p′ >>= λ records′. passed (r ∷ records′))
+          → (recordOf (pid p) records ≡ some afterOriginal → checkedIn 0 records p′ ≡ passed (mark records))
+          → pick b (check 0 r p′ >>= λ r′. passed (r′ ∷ records)) (checkedIn 0 records p′ >>= λ records′. passed (r ∷ records′))
           ≡ passed (pick b (afterCopy ∷ records) (r ∷ mark records))
       go true k more = rw (some-same r afterOriginal k, check-copy)
       go false k more = rw (more k)
@@ -127,43 +128,43 @@ module _ (p p′ : Bytes) (copies : copyOf (some p) p′ ≡ true) where
 
   -- the check of the first of these records, or of those behind it
   first-check : (r : StreamRecord) (records : List StreamRecord) (q : Bytes) → eqb (r .pid) (pid q) ≡ true
-      → checkedIn (r ∷ records) q ≡ (check r q >>= λ r′. passed (r′ ∷ records))
+      → checkedIn 0 (r ∷ records) q ≡ (check 0 r q >>= λ r′. passed (r′ ∷ records))
   unfolding checkedIn pick
   first-check r records q e = rw e
 
   behind-check : (r : StreamRecord) (records : List StreamRecord) (q : Bytes) → eqb (r .pid) (pid q) ≡ false
-      → checkedIn (r ∷ records) q ≡ (checkedIn records q >>= λ records′. passed (r ∷ records′))
+      → checkedIn 0 (r ∷ records) q ≡ (checkedIn 0 records q >>= λ records′. passed (r ∷ records′))
   unfolding checkedIn pick
   behind-check r records q e = rw e
 
-  none-checked : (q : Bytes) → checkedIn (mark []) q ≡ (checkedIn [] q >>= λ after. passed (mark after))
+  none-checked : (q : Bytes) → checkedIn 0 (mark []) q ≡ (checkedIn 0 [] q >>= λ after. passed (mark after))
   unfolding checkedIn mark _>>=_
   none-checked q = refl
 
   pub other-checked : (q : Bytes) (records : List StreamRecord) → eqb (pid p) (pid q) ≡ false
-      → checkedIn (mark records) q ≡ (checkedIn records q >>= λ after. passed (mark after))
+      → checkedIn 0 (mark records) q ≡ (checkedIn 0 records q >>= λ after. passed (mark after))
   unfolding _>>=_
   other-checked q [] e = none-checked q
   other-checked q (r ∷ records) e =
       case (eqb (r .pid) (pid p))
       (λ b. let off : eqb (r .pid) (pid q) ≡ false = ap (λ (m : ℕ). eqb m (pid q)) (eqb-true (r .pid) (pid p) b) ∙ e in
-      ap (λ (l : List StreamRecord). checkedIn l q) (mark-here r records b)
+      ap (λ (l : List StreamRecord). checkedIn 0 l q) (mark-here r records b)
       ∙ behind-check afterCopy records q e
-      ∙ bind-same (checkedIn records q) _ _ (λ l. ap passed (sym (mark-here r l b)))
-      ∙ sym (bind-assoc (checkedIn records q) (λ l. passed (r ∷ l)) (λ l. passed (mark l)))
+      ∙ bind-same (checkedIn 0 records q) _ _ (λ l. ap passed (sym (mark-here r l b)))
+      ∙ sym (bind-assoc (checkedIn 0 records q) (λ l. passed (r ∷ l)) (λ l. passed (mark l)))
       ∙ sym (ap (λ (v : Verdict (List StreamRecord)). v >>= λ l. passed (mark l)) (behind-check r records q off)))
-      (λ b. ap (λ (l : List StreamRecord). checkedIn l q) (mark-behind r records b)
+      (λ b. ap (λ (l : List StreamRecord). checkedIn 0 l q) (mark-behind r records b)
       ∙ case (eqb (r .pid) (pid q))
       (λ on. first-check r (mark records) q on
-      ∙ bind-where (check r q) _ _
-      (λ r′ k. ap passed (sym (mark-behind r′ records (ap (λ (s : StreamRecord). eqb (s .pid) (pid p)) (check-passed r r′ q k .1) ∙ b))))
-      ∙ sym (bind-assoc (check r q) (λ r′. passed (r′ ∷ records)) (λ l. passed (mark l)))
+      ∙ bind-where (check 0 r q) _ _
+      (λ r′ k. ap passed (sym (mark-behind r′ records (ap (λ (s : StreamRecord). eqb (s .pid) (pid p)) (check-passed 0 r r′ q k .1) ∙ b))))
+      ∙ sym (bind-assoc (check 0 r q) (λ r′. passed (r′ ∷ records)) (λ l. passed (mark l)))
       ∙ sym (ap (λ (v : Verdict (List StreamRecord)). v >>= λ l. passed (mark l)) (first-check r records q on)))
       (λ off. behind-check r (mark records) q off
       ∙ ap (λ (v : Verdict (List StreamRecord)). v >>= λ l. passed (r ∷ l)) (other-checked q records e)
-      ∙ bind-assoc (checkedIn records q) (λ l. passed (mark l)) (λ l. passed (r ∷ l))
-      ∙ bind-same (checkedIn records q) _ _ (λ l. ap passed (sym (mark-behind r l b)))
-      ∙ sym (bind-assoc (checkedIn records q) (λ l. passed (r ∷ l)) (λ l. passed (mark l)))
+      ∙ bind-assoc (checkedIn 0 records q) (λ l. passed (mark l)) (λ l. passed (r ∷ l))
+      ∙ bind-same (checkedIn 0 records q) _ _ (λ l. ap passed (sym (mark-behind r l b)))
+      ∙ sym (bind-assoc (checkedIn 0 records q) (λ l. passed (r ∷ l)) (λ l. passed (mark l)))
       ∙ sym (ap (λ (v : Verdict (List StreamRecord)). v >>= λ l. passed (mark l)) (behind-check r records q off))))
 
   -- the record of the PID is the first, or behind it
@@ -182,7 +183,7 @@ module _ (p p′ : Bytes) (copies : copyOf (some p) p′ ≡ true) where
 
   -- of the same PID, no copy of the original: then the records are the same again
   check-next : (q : Bytes) → copyOf (some p) q ≡ false → follows afterOriginal q ≡ true
-      → check afterCopy q ≡ passed (updated afterOriginal q)
+      → check 0 afterCopy q ≡ passed (updated 0 afterOriginal q)
   unfolding counterRight
   check-next q f h =
       let no-repeat : repeats afterOriginal q ≡ false = rw f in
@@ -190,36 +191,38 @@ module _ (p p′ : Bytes) (copies : copyOf (some p) p′ ≡ true) where
       sym (or-false (counterRight (some p) q)) ∙ ap (λ (b : Bool). counterRight (some p) q || b) (sym no-repeat) ∙ h in
       let so : counterRight (some p′) q ≡ true =
       ap (λ (n : ℕ). discontinuityIndicator q || eqb (continuityCounter q) (due n (hasPayload q))) same-counter ∙ in-step in
-      check-right afterCopy q (ap (λ (b : Bool). b || repeats afterCopy q) so)
-      ∙ ap (λ (b : Bool). passed (record { pid = pid p; last = some q; repeat = b })) (and-false (copyOf (some p′) q) ∙ sym no-repeat)
+      check-right 0 afterCopy q (ap (λ (b : Bool). b || repeats afterCopy q) so)
+      ∙ ap (λ (b : Bool). passed (record { pid = pid p; last = some q; lies = 0; repeat = b }))
+      (and-false (copyOf (some p′) q) ∙ sym no-repeat)
 
   pub next-checked : (q : Bytes) (records after : List StreamRecord) → pid q ≡ pid p → copyOf (some p) q ≡ false
-      → recordOf (pid p) records ≡ some afterOriginal → checkedIn records q ≡ passed after → checkedIn (mark records) q ≡ passed after
+      → recordOf (pid p) records ≡ some afterOriginal → checkedIn 0 records q ≡ passed after → checkedIn 0 (mark records) q ≡ passed after
   unfolding _>>=_
   next-checked q [] after e f h k = absurd (some-not-none afterOriginal (sym (sym none-there ∙ h)))
   next-checked q (r ∷ records) after e f h k =
       case (eqb (r .pid) (pid p))
       (λ b. let on : eqb (r .pid) (pid q) ≡ true = ap (λ (m : ℕ). eqb (r .pid) m) e ∙ b in
       let r-is : r ≡ afterOriginal = some-same r afterOriginal (sym (record-first r records b) ∙ h) in
-      let c = passed-then (check r q) (λ r′. passed (r′ ∷ records)) after (sym (first-check r records q on) ∙ k) in
-      let u = check-passed r (c .0) q (c .1) in
+      let c = passed-then (check 0 r q) (λ r′. passed (r′ ∷ records)) after (sym (first-check r records q on) ∙ k) in
+      let u = check-passed 0 r (c .0) q (c .1) in
       let right : follows afterOriginal q ≡ true = ap (λ (s : StreamRecord). follows s q) (sym r-is) ∙ u .0 in
       let own : eqb (pid p) (pid q) ≡ true = eq-eqb (pid p) (pid q) (sym e) in
-      ap (λ (l : List StreamRecord). checkedIn l q) (mark-here r records b)
+      ap (λ (l : List StreamRecord). checkedIn 0 l q) (mark-here r records b)
       ∙ first-check afterCopy records q own
       ∙ ap (λ (v : Verdict StreamRecord). v >>= λ r′. passed (r′ ∷ records)) (check-next q f right)
-      ∙ ap (λ (s : StreamRecord). passed (s ∷ records)) (ap (λ (s : StreamRecord). updated s q) (sym r-is) ∙ sym (u .1))
+      ∙ ap (λ (s : StreamRecord). passed (s ∷ records)) (ap (λ (s : StreamRecord). updated 0 s q) (sym r-is) ∙ sym (u .1))
       ∙ c .2)
       (λ b. let off : eqb (r .pid) (pid q) ≡ false = ap (λ (m : ℕ). eqb (r .pid) m) e ∙ b in
-      let c = passed-then (checkedIn records q) (λ l. passed (r ∷ l)) after (sym (behind-check r records q off) ∙ k) in
-      ap (λ (l : List StreamRecord). checkedIn l q) (mark-behind r records b)
+      let c = passed-then (checkedIn 0 records q) (λ l. passed (r ∷ l)) after (sym (behind-check r records q off) ∙ k) in
+      ap (λ (l : List StreamRecord). checkedIn 0 l q) (mark-behind r records b)
       ∙ behind-check r (mark records) q off
       ∙ ap (λ (v : Verdict (List StreamRecord)). v >>= λ l. passed (r ∷ l))
       (next-checked q records (c .0) e f (sym (record-behind r records b) ∙ h) (c .1))
       ∙ c .2)
 
-  -- "A third copy is 24."
-  pub third-refused : (q : Bytes) → copyOf (some p′) q ≡ true → check afterCopy q ≡ refused 24 0
-  third-refused q e =
-      check-wrong afterCopy q
+  -- "A third copy is 24.", wherever the copies lie
+  pub third-refused : (q : Bytes) → copyOf (some p′) q ≡ true → (i lies : ℕ)
+      → check i (record { pid = pid p; last = some p′; lies = lies; repeat = true }) q ≡ refused 24 0
+  third-refused q e i lies =
+      check-wrong i (record { pid = pid p; last = some p′; lies = lies; repeat = true }) q
       (ap (λ (b : Bool). b || repeats afterCopy q) (copy-not-due p′ q e) ∙ and-false (copyOf (some p′) q))

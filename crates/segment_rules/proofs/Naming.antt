@@ -44,11 +44,11 @@ pub checked-named : (i : ℕ) (p : Bytes) (t : Tables) → Named t → Holds Nam
 unfolding checked
 checked-named i p t h =
     holds-each Named _ _
-    (λ records e. let k = passed-at i (checkedIn (t .records) p) records e in
+    (λ records e. let k = passed-at i (checkedIn i (t .records) p) records e in
     record {
       patFirst = h .patFirst;
-      pids = checked-pids p (t .records) records k ∙ h .pids;
-      null = checked-record nullPid p (t .records) records k ∙ ap (λ (o : Option StreamRecord). recordAfter nullPid p o) (h .null);
+      pids = checked-pids i p (t .records) records k ∙ h .pids;
+      null = checked-record i nullPid p (t .records) records k ∙ ap (λ (o : Option StreamRecord). recordAfter i nullPid p o) (h .null);
     })
 
 module _ (t : Tables) (h : Named t) where
@@ -72,11 +72,11 @@ module _ (t : Tables) (h : Named t) where
   no-pmt none (some pmt) e f = absurd f
   no-pmt (some pat) pmt e f = let z : _≡_ {A = ℕ} 0 1 = cc in absurd (omega arith)
 
-  pat-named : (pat : Option FirstPat) → t .pat ≡ pat → (section : Bytes) → Holds Named (patSection pat section t)
+  pat-named : (pat : Option FirstPat) → t .pat ≡ pat → (section : Bytes) → (i : ℕ) → Holds Named (patSection i pat section t)
   unfolding patSection
-  pat-named none e section =
+  pat-named none e section i =
       holds-each Named _ _
-      (λ program r. let first : FirstPat = record { section = section; says = program } in
+      (λ program r. let first : FirstPat = record { packet = i; section = section; says = program } in
       let m = program .«map_pid» in
       let nonePmt = no-pmt (t .pat) (t .pmt) e (h .patFirst) in
       record {
@@ -87,16 +87,16 @@ module _ (t : Tables) (h : Named t) where
         null = also-named (m ∷ [])
             (ne-eqb m nullPid (λ z. absurd (omega (arith, ltb-false 0x1FFE m (map-pid-in-range section program r)))), tt);
       })
-  pat-named (some first) e section = later-named 25 (first .section) section
+  pat-named (some first) e section i = later-named 25 (first .section) section
 
   -- the first PMT names the listed PIDs
   pmt-named : (edition : Edition) (pat : Option FirstPat) (pmt : Option FirstPmt) → t .pat ≡ pat → t .pmt ≡ pmt → (section : Bytes)
-      → Holds Named (pmtSection edition pat pmt section t)
+      → (i : ℕ) → Holds Named (pmtSection edition i pat pmt section t)
   unfolding pmtSection
-  pmt-named edition none pmt e f section = h
-  pmt-named edition (some pat) none e f section =
+  pmt-named edition none pmt e f section i = h
+  pmt-named edition (some pat) none e f section i =
       holds-each Named _ _
-      (λ m r. let first : FirstPmt = record { section = section; says = m } in
+      (λ m r. let first : FirstPmt = record { packet = i; section = section; says = m } in
       record {
         patFirst = subst (λ (x : Option FirstPat). PatFirst x (some first)) (sym e) tt;
         pids =
@@ -106,16 +106,16 @@ module _ (t : Tables) (h : Named t) where
             ∙ ap (λ (x : Option FirstPat). namedPids x (some first)) (sym e);
         null = also-named (pids (m .entries)) (listed-not-null edition (pat .says .number) (pat .says .«map_pid») section m r);
       })
-  pmt-named edition (some pat) (some first) e f section = later-named 26 (first .section) section
+  pmt-named edition (some pat) (some first) e f section i = later-named 26 (first .section) section
 
-  section-named : (edition : Edition) (kind : Kind) (b : Bool) (w : Bytes) → Holds Named (sectionRead edition kind b w t)
+  pub section-named : (edition : Edition) (kind : Kind) (i : ℕ) (b : Bool) (w : Bytes) → Holds Named (sectionRead edition kind i b w t)
   unfolding sectionRead
-  section-named edition Null b w = h
-  section-named edition Pat b w = holds-then Named _ _ (λ _ _. pat-named (t .pat) refl _)
-  section-named edition Map b w = holds-then Named _ _ (λ _ _. pmt-named edition (t .pat) (t .pmt) refl refl _)
-  section-named edition Av1 b w = h
-  section-named edition Listed b w = h
-  section-named edition Unlisted b w = h
+  section-named edition Null i b w = h
+  section-named edition Pat i b w = holds-then Named _ _ (λ _ _. pat-named (t .pat) refl _ i)
+  section-named edition Map i b w = holds-then Named _ _ (λ _ _. pmt-named edition (t .pat) (t .pmt) refl refl _ i)
+  section-named edition Av1 i b w = h
+  section-named edition Listed i b w = h
+  section-named edition Unlisted i b w = h
 
 -- ---- a packet, a run
 pub clocked-named : (i : ℕ) (p : Bytes) (t : Tables) → Named t → Named (clocked i p t)
@@ -124,14 +124,15 @@ clocked-named i p t h = record { patFirst = h .patFirst; pids = h .pids; null = 
 module _ (edition : Edition) (rooms : Rooms) where
   pub packet-named : (i : ℕ) (p : Bytes) (kind : Kind) → Keeps (λ (st : State). Named (st .tables)) (packetRules edition rooms i p kind)
   packet-named i p kind =
-      packet-lasts edition rooms Named AnyPacket clocked-named checked-named
-      (λ p kind t _ h. section-named t h edition kind _ _) i p kind tt
+      packet-lasts edition rooms Named AnyPacket clocked-named (λ i p t _ h. checked-named i p t h)
+      (λ i p kind t _ h. section-named t h edition kind i _ _) i p tt kind
 
   pub run-named : (ps : List Bytes) (g : Progress) → run edition rooms start ps ≡ passed g → Named (g .state .tables)
   unfolding recordOf pick
   run-named ps g e =
-      run-lasts edition rooms Named AnyPacket clocked-named checked-named (λ p kind t _ h. section-named t h edition kind _ _) start ps g
-      (any-packets ps) (record { patFirst = tt; pids = refl; null = refl }) e
+      run-lasts edition rooms Named AnyPacket clocked-named (λ i p t _ h. checked-named i p t h)
+      (λ i p kind t _ h. section-named t h edition kind i _ _) start ps g
+      (any-packets 0 ps) (record { patFirst = tt; pids = refl; null = refl }) e
 
 -- ---- which PIDs have no record
 -- "PID 0x1FFF"

@@ -112,27 +112,27 @@ module _ (number : ℕ) (apart : (n : ℕ) → eqb n 8 ≡ false → eqb n 30 �
       refuses-bind _ _ _ (entries-said _ mapPid [] _) (λ es _.
       refuses-bind _ _ _ (av1-said edition es) (λ _ _. tt))))))
 
-  pat-section-said : (pat : Option FirstPat) (section : Bytes) (t : Tables) → Without number (patSection pat section t)
+  pat-section-said : (i : ℕ) (pat : Option FirstPat) (section : Bytes) (t : Tables) → Without number (patSection i pat section t)
   unfolding patSection laterSection
-  pat-section-said none section t = refuses-bind _ _ _ (pat-said section) (λ _ _. tt)
-  pat-section-said (some pat) section t = try 25 _ _ refl refl tt
+  pat-section-said i none section t = refuses-bind _ _ _ (pat-said section) (λ _ _. tt)
+  pat-section-said i (some pat) section t = try 25 _ _ refl refl tt
 
-  pmt-section-said : (edition : Edition) (pat : Option FirstPat) (pmt : Option FirstPmt) (section : Bytes) (t : Tables)
-      → Without number (pmtSection edition pat pmt section t)
+  pmt-section-said : (edition : Edition) (i : ℕ) (pat : Option FirstPat) (pmt : Option FirstPmt) (section : Bytes) (t : Tables)
+      → Without number (pmtSection edition i pat pmt section t)
   unfolding pmtSection laterSection
-  pmt-section-said edition none pmt section t = tt
-  pmt-section-said edition (some pat) none section t = refuses-bind _ _ _ (pmt-said edition _ _ section) (λ _ _. tt)
-  pmt-section-said edition (some pat) (some pmt) section t = try 26 _ _ refl refl tt
+  pmt-section-said edition i none pmt section t = tt
+  pmt-section-said edition i (some pat) none section t = refuses-bind _ _ _ (pmt-said edition _ _ section) (λ _ _. tt)
+  pmt-section-said edition i (some pat) (some pmt) section t = try 26 _ _ refl refl tt
 
-  section-said : (edition : Edition) (kind : state.Kind) (b : Bool) (w : Bytes) (t : Tables)
-      → Without number (sectionRead edition kind b w t)
+  section-said : (edition : Edition) (kind : state.Kind) (i : ℕ) (b : Bool) (w : Bytes) (t : Tables)
+      → Without number (sectionRead edition kind i b w t)
   unfolding sectionRead
-  section-said edition state.Null b w t = tt
-  section-said edition state.Pat b w t = try 25 _ _ refl refl (pat-section-said (t .pat) _ t)
-  section-said edition state.Map b w t = try 26 _ _ refl refl (pmt-section-said edition (t .pat) (t .pmt) _ t)
-  section-said edition state.Av1 b w t = tt
-  section-said edition state.Listed b w t = tt
-  section-said edition state.Unlisted b w t = tt
+  section-said edition state.Null i b w t = tt
+  section-said edition state.Pat i b w t = try 25 _ _ refl refl (pat-section-said i (t .pat) _ t)
+  section-said edition state.Map i b w t = try 26 _ _ refl refl (pmt-section-said edition i (t .pat) (t .pmt) _ t)
+  section-said edition state.Av1 i b w t = tt
+  section-said edition state.Listed i b w t = tt
+  section-said edition state.Unlisted i b w t = tt
 
   -- ---- the rules
   abbrev pub Apart : Rule → Type 0
@@ -152,13 +152,13 @@ module _ (number : ℕ) (apart : (n : ℕ) → eqb n 8 ≡ false → eqb n 30 �
   unfolding onTables
   tables-apart f h st = refuses-bind _ _ _ (h (st .tables)) (λ _ _. tt)
 
-  counter-said : (records : List StreamRecord) (p : Bytes) → Without number (checkedIn records p)
+  counter-said : (i : ℕ) (records : List StreamRecord) (p : Bytes) → Without number (checkedIn i records p)
   unfolding checkedIn check
-  counter-said [] p = tt
-  counter-said (r ∷ records) p =
+  counter-said i [] p = tt
+  counter-said i (r ∷ records) p =
       refuses-pick _ _ _ _
       (refuses-bind _ _ _ (try 24 _ _ refl refl tt) (λ _ _. tt))
-      (refuses-bind _ _ _ (counter-said records p) (λ _ _. tt))
+      (refuses-bind _ _ _ (counter-said i records p) (λ _ _. tt))
 
   pub to-24-apart : (i : ℕ) (p : Bytes) → Apart (inSequence (upTo24 i p))
   unfolding rule21 rule22 rule23 pcrCounts rule24 checked
@@ -171,7 +171,7 @@ module _ (number : ℕ) (apart : (n : ℕ) → eqb n 8 ≡ false → eqb n 30 �
             rule-apart i p 23 _ refl refl,
             (
               tables-apart _ (λ t. tt),
-              (tables-apart _ (λ t. refuses-bind _ _ _ (refuses-at _ i _ (counter-said (t .records) p)) (λ _ _. tt)), tt),
+              (tables-apart _ (λ t. refuses-bind _ _ _ (refuses-at _ i _ (counter-said i (t .records) p)) (λ _ _. tt)), tt),
             ),
           ),
         ),
@@ -180,7 +180,7 @@ module _ (number : ℕ) (apart : (n : ℕ) → eqb n 8 ≡ false → eqb n 30 �
   pub sections-apart : (edition : Edition) (i : ℕ) (p : Bytes) (kind : state.Kind) → Apart (rules25to28 i p kind edition)
   unfolding rules25to28
   sections-apart edition i p kind =
-      tables-apart _ (λ t. refuses-pick _ _ _ _ (refuses-at _ i _ (section-said edition kind _ _ t)) tt)
+      tables-apart _ (λ t. refuses-pick _ _ _ _ (refuses-at _ i _ (section-said edition kind i _ _ t)) tt)
 
   -- ---- the closing of a PES, and the end
   pub close-apart : (x : Extraction) → Without number (closePes x)

@@ -11,7 +11,7 @@ use lib.Dec.{eqb, ltb}
 use lib.ListN.{length, length-append}
 use Rattle.lists.specs.Lists.{Bytes, pick}
 use Rattle.refusal.specs.Verdict.{Verdict, passed, refused, _>>=_, _>>_, atPlace}
-use Rattle.refusal.proofs.Verdicts.{All, pass-on, passed-then}
+use Rattle.refusal.proofs.Verdicts.{All, pass-on, passed-same, passed-then}
 use Rattle.descriptor.specs.Edition.{Edition}
 use Rattle.packet.specs.declared.header.Header.{Header}
 use Rattle.packet.specs.Header.{packetLength, headerOf, pid}
@@ -20,13 +20,14 @@ use Rattle.packet.specs.declared.header.Clock.the-variants as clock
 use Rattle.packet.specs.Counter.{StreamRecord, named, copyOf, repeats, updated, recordOf, checkedIn}
 use Rattle.packet.proofs.Counters.{recordAfter, checked-record, kept-record, some-not-none, some-same}
 use Rattle.packet.proofs.Packets.{Whole, length-flatten, packets-flatten}
+use Rattle.psi.specs.declared.pat.Program.{Program}
 use Rattle.pes.specs.declared.header.Times.{Times}
 use Rattle.segment_rules.specs.declared.Totals.{Totals}
 use Rattle.segment_rules.specs.State.{FirstPat, FirstPmt, OpenPes, AccessUnit, Extraction}
 use Rattle.segment_rules.specs.State.{State, counting, kindOf, withTables, withRecords}
 use Rattle.segment_rules.specs.State.{Kind, Null, Pat, Map, Av1, Listed, Unlisted}
 use Rattle.segment_rules.specs.Rules.{Rooms, inSequence, onTables, lastPcr, isPcr, countingPcr, clocked}
-use Rattle.segment_rules.specs.Rules.{checked, upTo24, lastRepeats, isRepeat, packetRules, closePes}
+use Rattle.segment_rules.specs.Rules.{checked, upTo24, lastRepeats, isRepeat, packetRules}
 use Rattle.segment_rules.specs.Check.{Progress, Accepted, oneMore, step, run, start}
 use Rattle.segment_rules.specs.Check.{mostPackets, segmentLengthWrong, accepted, ending, checkSegment}
 use Rattle.segment_rules.specs.Check.{Outputs, lengths, ptsAndDts, timesInTurn, outputsAfter}
@@ -36,6 +37,7 @@ use Rattle.segment_rules.proofs.Running.{run-append, step-passed}
 use Rattle.segment_rules.proofs.Marking.{same-pid, afterOriginal, mark, copy-checked, mark-other}
 use Rattle.segment_rules.proofs.Marking.{mark-own, mark-append, other-checked, next-checked}
 use Rattle.segment_rules.proofs.Alike.{Both, both-bind, AlikeUnits, close-alike, AlikePes, Alike, kind-alike, Records, packet-alike}
+use Rattle.segment_rules.proofs.Alike.{said, said-checked, said-repeats, said-record, SamePat, SamePmt, pat-self, pmt-self}
 
 -- ---- the totals
 -- two packets count the same in either order
@@ -94,8 +96,8 @@ self : {A : Type 0} (v : Verdict A) → Both (λ (a b : A). a ≡ b) v v
 self (passed a) = (a, refl, refl)
 self (refused number place) = tt
 
-equal-counts : (q : Bytes) (l l′ : List StreamRecord) → Equal l l′ → Both Equal (checkedIn l q) (checkedIn l′ q)
-equal-counts q l l′ e = subst (λ (x : List StreamRecord). Both Equal (checkedIn l q) (checkedIn x q)) e (self (checkedIn l q))
+equal-counts : (q : Bytes) (l l′ : List StreamRecord) → Equal l l′ → Both Equal (checkedIn 0 l q) (checkedIn 0 l′ q)
+equal-counts q l l′ e = subst (λ (x : List StreamRecord). Both Equal (checkedIn 0 l q) (checkedIn 0 x q)) e (self (checkedIn 0 l q))
 
 equal-repeats : (q : Bytes) (l l′ : List StreamRecord) → Equal l l′ → lastRepeats (recordOf (pid q) l) ≡ lastRepeats (recordOf (pid q) l′)
 equal-repeats q l l′ e = ap (λ (x : List StreamRecord). lastRepeats (recordOf (pid q) x)) e
@@ -115,7 +117,7 @@ module _ (edition : Edition) (rooms : Rooms) (k : Kind) where
     pub totals : g′ .totals ≡ counting k (g .totals)
 
   module _ (R S : Records) (grows : (l l′ new : List StreamRecord) → S l l′ → S (l ++ new) (l′ ++ new)) (q : Bytes)
-      (counts : (l l′ : List StreamRecord) → R l l′ → Both S (checkedIn l q) (checkedIn l′ q))
+      (counts : (l l′ : List StreamRecord) → R l l′ → Both S (checkedIn 0 l q) (checkedIn 0 l′ q))
       (repeats : (l l′ : List StreamRecord) → S l l′ → lastRepeats (recordOf (pid q) l) ≡ lastRepeats (recordOf (pid q) l′)) where
     step-alike : (g g′ : Progress) → AlikeRuns R g g′ → Both (AlikeRuns S) (step edition rooms g q) (step edition rooms g′ q)
     unfolding step
@@ -181,18 +183,18 @@ module _ (edition : Edition) (rooms : Rooms) (k : Kind) (p p′ : Bytes) (copies
   module _ (q : Bytes) where
     -- a packet of another PID
     module _ (other : eqb (pid p) (pid q) ≡ false) where
-      marked-counts : (l l′ : List StreamRecord) → Marked l l′ → Both Marked (checkedIn l q) (checkedIn l′ q)
+      marked-counts : (l l′ : List StreamRecord) → Marked l l′ → Both Marked (checkedIn 0 l q) (checkedIn 0 l′ q)
       unfolding pick _>>=_
       marked-counts l l′ m =
-          subst (λ (x : List StreamRecord). Both Marked (checkedIn l q) (checkedIn x q)) (sym (m .0))
-          (subst (Both Marked (checkedIn l q)) (sym (other-checked p p′ copies q l other)) (go (checkedIn l q) refl))
+          subst (λ (x : List StreamRecord). Both Marked (checkedIn 0 l q) (checkedIn 0 x q)) (sym (m .0))
+          (subst (Both Marked (checkedIn 0 l q)) (sym (other-checked p p′ copies q l other)) (go (checkedIn 0 l q) refl))
         where
           off : eqb (pid q) (pid p) ≡ false
           off = ne-eqb (pid q) (pid p) (λ z. eqb-false (pid p) (pid q) other (sym z))
 
-          go : (v : Verdict (List StreamRecord)) → checkedIn l q ≡ v → Both Marked v (v >>= λ after. passed (mark p p′ copies after))
+          go : (v : Verdict (List StreamRecord)) → checkedIn 0 l q ≡ v → Both Marked v (v >>= λ after. passed (mark p p′ copies after))
           go (passed after) e =
-              (mark p p′ copies after, refl, (refl, checked-record (pid p) q l after e ∙ ap (recordAfter (pid p) q) (m .1) ∙ rw off))
+              (mark p p′ copies after, refl, (refl, checked-record 0 (pid p) q l after e ∙ ap (recordAfter 0 (pid p) q) (m .1) ∙ rw off))
           go (refused number place) e = tt
 
       marked-repeats : (l l′ : List StreamRecord) → Marked l l′ → lastRepeats (recordOf (pid q) l) ≡ lastRepeats (recordOf (pid q) l′)
@@ -202,11 +204,11 @@ module _ (edition : Edition) (rooms : Rooms) (k : Kind) (p p′ : Bytes) (copies
 
     -- the next packet of the PID, which is no copy
     next-counts : pid q ≡ pid p → copyOf (some p) q ≡ false → (l l′ : List StreamRecord) → Marked l l′
-        → Both Equal (checkedIn l q) (checkedIn l′ q)
+        → Both Equal (checkedIn 0 l q) (checkedIn 0 l′ q)
     next-counts e f l l′ m =
-        subst (λ (x : List StreamRecord). Both Equal (checkedIn l q) (checkedIn x q)) (sym (m .0)) (go (checkedIn l q) refl)
+        subst (λ (x : List StreamRecord). Both Equal (checkedIn 0 l q) (checkedIn 0 x q)) (sym (m .0)) (go (checkedIn 0 l q) refl)
       where
-        go : (v : Verdict (List StreamRecord)) → checkedIn l q ≡ v → Both Equal v (checkedIn (mark p p′ copies l) q)
+        go : (v : Verdict (List StreamRecord)) → checkedIn 0 l q ≡ v → Both Equal v (checkedIn 0 (mark p p′ copies l) q)
         go (passed after) h = (after, next-checked p p′ copies q l after e f (m .1) h, refl)
         go (refused number place) h = tt
 
@@ -253,35 +255,46 @@ pcr-kept earlier (clock.Pcr ticks) e = refl
 module _ (edition : Edition) (rooms : Rooms) (p p′ : Bytes) (copies : copyOf (some p) p′ ≡ true) where
   -- after the original, which was no repeat: the record of its PID
   original-record : (g g1 : Progress) (r : StreamRecord) → recordOf (pid p) (g .state .tables .records) ≡ some r → repeats r p ≡ false
-      → step edition rooms g p ≡ passed g1 → recordOf (pid p) (g1 .state .tables .records) ≡ some (afterOriginal p p′ copies)
+      → step edition rooms g p ≡ passed g1 → recordOf (pid p) (said (g1 .state .tables .records)) ≡ some (afterOriginal p p′ copies)
   unfolding pick
   original-record g g1 r h new e =
       let s = step-passed edition rooms g g1 p e in
       let q = packet-records edition rooms (g .index) p (kindOf (g .state .tables) (pid p)) (g .state) (s .0) (s .1) in
       let own : eqb (pid p) (pid p) ≡ true = eq-eqb (pid p) (pid p) refl in
-      let there : recordOf (pid p) (q .0) ≡ some (updated r p) =
-      checked-record (pid p) p (g .state .tables .records) (q .0) (q .1) ∙ ap (recordAfter (pid p) p) h ∙ rw own in
-      ap (λ (x : Progress). recordOf (pid p) (x .state .tables .records)) (s .2)
+      let there : recordOf (pid p) (q .0) ≡ some (updated (g .index) r p) =
+      checked-record (g .index) (pid p) p (g .state .tables .records) (q .0) (q .1) ∙ ap (recordAfter (g .index) (pid p) p) h ∙ rw own in
+      said-record (pid p) (g1 .state .tables .records) (updated (g .index) r p)
+      (ap (λ (x : Progress). recordOf (pid p) (x .state .tables .records)) (s .2)
       ∙ ap (recordOf (pid p)) (q .2 .1)
-      ∙ kept-record (pid p) (q .0) (map named (q .2 .0)) (updated r p) there
-      ∙ ap₂ (λ (n : ℕ) (b : Bool). some (record { pid = n; last = some p; repeat = b }))
+      ∙ kept-record (pid p) (q .0) (map named (q .2 .0)) (updated (g .index) r p) there)
+      ∙ ap₂ (λ (n : ℕ) (b : Bool). some (record { pid = n; last = some p; lies = 0; repeat = b }))
       (record-pid (pid p) (g .state .tables .records) r h) new
 
   -- then the copy
-  module _ (g : Progress) (own : recordOf (pid p) (g .state .tables .records) ≡ some (afterOriginal p p′ copies)) (h : Header)
+  module _ (g : Progress) (own : recordOf (pid p) (said (g .state .tables .records)) ≡ some (afterOriginal p p′ copies)) (h : Header)
       (right : headerOf p′ ≡ passed h) where
+    -- the records behind the copy: but for where the packets lie, those that are marked
+    records-behind : (after : List StreamRecord) × (checkedIn (g .index) (g .state .tables .records) p′ ≡ passed after)
+        × (passed (said after) ≡ passed (mark p p′ copies (said (g .state .tables .records))))
+    records-behind =
+        passed-then (checkedIn (g .index) (g .state .tables .records) p′) (λ after. passed (said after)) _
+        (sym (said-checked (g .index) p′ (g .state .tables .records)) ∙ copy-checked p p′ copies (said (g .state .tables .records)) own)
+
+    marked-behind : said (records-behind .0) ≡ mark p p′ copies (said (g .state .tables .records))
+    marked-behind = passed-same _ _ (records-behind .2)
+
     abbrev marked : State
-    marked =
-        withTables (withRecords (mark p p′ copies (g .state .tables .records)) (clocked (g .index) p′ (g .state .tables))) (g .state)
+    marked = withTables (withRecords (records-behind .0) (clocked (g .index) p′ (g .state .tables))) (g .state)
 
     copy-24 : inSequence (upTo24 (g .index) p′) (g .state) ≡ passed marked
     unfolding onTables checked _>>=_ _>>_ atPlace
-    copy-24 = up-to-24 (g .index) p′ (g .state) ∙ rw (right, copy-checked p p′ copies (g .state .tables .records) own)
+    copy-24 = up-to-24 (g .index) p′ (g .state) ∙ rw (right, records-behind .1)
 
     is-repeat : isRepeat p′ marked ≡ true
     is-repeat =
-        ap (λ (n : ℕ). lastRepeats (recordOf n (mark p p′ copies (g .state .tables .records)))) (same-pid p p′ copies)
-        ∙ ap lastRepeats (mark-own p p′ copies (g .state .tables .records) _ own)
+        sym (said-repeats (pid p′) (records-behind .0))
+        ∙ ap₂ (λ (n : ℕ) (l : List StreamRecord). lastRepeats (recordOf n l)) (same-pid p p′ copies) marked-behind
+        ∙ ap lastRepeats (mark-own p p′ copies (said (g .state .tables .records)) _ own)
 
     copy-packet : (kind : Kind) → packetRules edition rooms (g .index) p′ kind (g .state) ≡ passed marked
     unfolding packetRules _>>=_
@@ -306,10 +319,10 @@ module _ (edition : Edition) (rooms : Rooms) (p p′ : Bytes) (copies : copyOf (
               record {
                 tables =
                     record {
-                      pat = refl;
-                      pmt = refl;
+                      pat = pat-self (g .state .tables .pat);
+                      pmt = pmt-self (g .state .tables .pmt);
                       pcr = pcr-kept (g .state .tables .pcr) (countingPcr (g .state .tables .pmt) p′);
-                      records = (refl, own);
+                      records = (marked-behind, own);
                     };
                 units = record { pes = alike-self (g .state .extraction .pes); carried = refl; times = refl };
               };
@@ -326,28 +339,32 @@ pub record OneMore (k : Kind) (a a′ : Accepted) : Type 0 where
   pub totals : a′ .totals ≡ counting k (a .totals)
 
 module _ (edition : Edition) (rooms : Rooms) (k : Kind) where
-  accepted-alike : (n n′ : ℕ) (pat : Option FirstPat) (pmt : Option FirstPmt) (x x′ : Extraction) (t t′ : Totals) → AlikeUnits x x′
-      → t′ ≡ counting k t → Both (OneMore k) (accepted n pat pmt (x .units) t) (accepted n′ pat pmt (x′ .units) t′)
+  accepted-alike : (n n′ : ℕ) (pat pat′ : Option FirstPat) (pmt pmt′ : Option FirstPmt) (x x′ : Extraction) (t t′ : Totals)
+      → SamePat pat pat′ → SamePmt pmt pmt′ → AlikeUnits x x′ → t′ ≡ counting k t
+      → Both (OneMore k) (accepted n pat pmt (x .units) t) (accepted n′ pat′ pmt′ (x′ .units) t′)
   unfolding accepted
-  accepted-alike n n′ none pmt x x′ t t′ a e = tt
-  accepted-alike n n′ (some pat) none x x′ t t′ a e = tt
-  accepted-alike n n′ (some pat) (some pmt) x x′ t t′ a e =
-      (_, refl, record { program = refl; map = refl; carried = sym (a .carried); times = sym (a .times); totals = e })
+  accepted-alike n n′ none pat′ pmt pmt′ x x′ t t′ f m a e = tt
+  accepted-alike n n′ (some pat) pat′ none pmt′ x x′ t t′ f m a e = tt
+  accepted-alike n n′ (some pat) none (some pmt) pmt′ x x′ t t′ f m a e = absurd f
+  accepted-alike n n′ (some pat) (some pat′) (some pmt) none x x′ t t′ f m a e = absurd m
+  accepted-alike n n′ (some pat) (some pat′) (some pmt) (some pmt′) x x′ t t′ f m a e = (
+    _,
+    refl,
+    record {
+      program = ap (λ (p : Program). p .number) (sym (f .1));
+      map = sym (m .1);
+      carried = sym (a .carried);
+      times = sym (a .times);
+      totals = e;
+    },
+  )
 
   end-alike : (g g′ : Progress) → AlikeRuns edition rooms k AnyRecords g g′ → Both (OneMore k) (ending g) (ending g′)
   unfolding ending
   end-alike g g′ a =
-      subst
-      (λ (pat : Option FirstPat). Both (OneMore k) (ending g)
-      (closePes (g′ .state .extraction) >>= λ x. accepted (g′ .index) pat (g′ .state .tables .pmt) (x .units) (g′ .totals)))
-      (a .states .tables .pat)
-      (subst
-      (λ (pmt : Option FirstPmt). Both (OneMore k) (ending g)
-      (closePes (g′ .state .extraction) >>= λ x. accepted (g′ .index) (g .state .tables .pat) pmt (x .units) (g′ .totals)))
-      (a .states .tables .pmt)
-      (both-bind AlikeUnits (OneMore k) _ _ _ _ (close-alike (g .state .extraction) (g′ .state .extraction) (a .states .units))
-      (λ x x′ b. accepted-alike (g .index) (g′ .index) (g .state .tables .pat) (g .state .tables .pmt) x x′ (g .totals) (g′ .totals) b
-      (a .totals))))
+      both-bind AlikeUnits (OneMore k) _ _ _ _ (close-alike (g .state .extraction) (g′ .state .extraction) (a .states .units))
+      (λ x x′ b. accepted-alike (g .index) (g′ .index) (g .state .tables .pat) (g′ .state .tables .pat) (g .state .tables .pmt)
+      (g′ .state .tables .pmt) x x′ (g .totals) (g′ .totals) (a .states .tables .pat) (a .states .tables .pmt) b (a .totals))
 
 -- ---- the theorem
 -- a packet p behind the packets a, and p′ behind p, and then the packets b

@@ -22,15 +22,15 @@ use Rattle.segment_rules.specs.Check.{Progress, step, run, start, segmen
 use Rattle.segment_rules.proofs.ByKind.{map-packet}
 use Rattle.segment_rules.proofs.Running.{run-append, index-totals}
 
--- there is a first PAT and no PMT yet; the packet is on the map PID and passes 21 to 24; it is no repeat; its section lies right in its
--- payload, and is right up to its entries, of which twelve pass and have bytes behind them
-pub record Thirteen (t : Tables) (p : Bytes) : Type 0 where
+-- there is a first PAT and no PMT yet; the packet, which has this index, is on the map PID and passes 21 to 24; it is no repeat; its
+-- section lies right in its payload, and is right up to its entries, of which twelve pass and have bytes behind them
+pub record Thirteen (i : ℕ) (t : Tables) (p : Bytes) : Type 0 where
   pub first : FirstPat
   pub pat : t .pat ≡ some first
   pub pmt : t .pmt ≡ none
   pub onMapPid : kindOf t (pid p) ≡ Map
   pub header : (h : Header) × (headerOf p ≡ passed h)
-  pub counter : (records : List StreamRecord) × (checkedIn (t .records) p ≡ passed records)
+  pub counter : (records : List StreamRecord) × (checkedIn i (t .records) p ≡ passed records)
   pub new : lastRepeats (recordOf (pid p) (counter .0)) ≡ false
   pub carries : hasPayload p ≡ true
   pub found : misplaced (payloadUnitStartIndicator p) (payload p) ≡ false
@@ -44,7 +44,7 @@ pub record Thirteen (t : Tables) (p : Bytes) : Type 0 where
   pub behind : entryBytes (sectionOf (payload p)) ≡ twelve ++ (next ∷ more)
 
 module _ (edition : Edition) (rooms : Rooms) where
-  module _ (st : State) (p : Bytes) (t : Thirteen (st .tables) p) where
+  module _ (i : ℕ) (st : State) (p : Bytes) (t : Thirteen i (st .tables) p) where
     -- the PMT's reading
     pmt-refused : readPmt edition (t .first .says .number) (t .first .says .«map_pid») (sectionOf (payload p)) ≡ refused 27 0
     pmt-refused =
@@ -53,22 +53,23 @@ module _ (edition : Edition) (rooms : Rooms) where
         (t .count) (t .next) (t .more) (t .behind)
 
     -- the packet
-    packet-refused : (i : ℕ) → packetRules edition rooms i p Map st ≡ refused 27 i
+    packet-refused : packetRules edition rooms i p Map st ≡ refused 27 i
     unfolding onTables checked sectionRead pmtSection unlessRepeat _>>=_ _>>_ given atPlace pick
-    packet-refused i =
+    packet-refused =
         map-packet edition rooms i p st (t .header .0) (t .header .1) (t .carries)
         ∙ rw (t .counter .1, t .new, t .found, t .pat, t .pmt, pmt-refused)
 
   -- the run from there, whatever comes after
-  run-refused : (g : Progress) (p : Bytes) (ps : List Bytes) → Thirteen (g .state .tables) p
+  run-refused : (g : Progress) (p : Bytes) (ps : List Bytes) → Thirteen (g .index) (g .state .tables) p
       → run edition rooms g (p ∷ ps) ≡ refused 27 (g .index)
   unfolding run step _>>=_
-  run-refused g p ps t = rw (t .onMapPid, packet-refused (g .state) p t (g .index))
+  run-refused g p ps t = rw (t .onMapPid, packet-refused (g .index) (g .state) p t)
 
   -- the whole segment
   pub thirteen-refused : (s : Bytes) (a : List Bytes) (p : Bytes) (ps : List Bytes) (g : Progress) → segmentLengthWrong s ≡ false
       → packets s ≡ a ++ (p ∷ ps)
-      → run edition rooms start a ≡ passed g → Thirteen (g .state .tables) p → checkSegment edition rooms s ≡ refused 27 (length a)
+      → run edition rooms start a ≡ passed g → Thirteen (g .index) (g .state .tables) p
+      → checkSegment edition rooms s ≡ refused 27 (length a)
   unfolding checkSegment _>>=_
   thirteen-refused s a p ps g right parts before t =
       sym (pass-on 20 right refl)

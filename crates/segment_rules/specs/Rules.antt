@@ -74,35 +74,36 @@ isPcr (clock.Pcr ticks) = true
 unfoldable pub laterSection : ℕ → Bytes → Bytes → Tables → Verdict Tables
 laterSection number first section t = given number (not (same section first)) >> passed t
 
--- 25: the first PAT is read, and names the map PID; a later one is compared with it
-unfoldable pub patSection : Option FirstPat → Bytes → Tables → Verdict Tables
-patSection none section t = do
+-- 25: the first PAT, which the packet with this index brought, is read, and names the map PID; a later one is compared
+-- with it
+unfoldable pub patSection : ℕ → Option FirstPat → Bytes → Tables → Verdict Tables
+patSection i none section t = do
   program ← readPat section
-  passed (withPat (record { section = section; says = program }) (named (program .«map_pid») ∷ []) t)
-patSection (some first) section t = laterSection 25 (first .section) section t
+  passed (withPat (record { packet = i; section = section; says = program }) (named (program .«map_pid») ∷ []) t)
+patSection i (some first) section t = laterSection 25 (first .section) section t
 
 -- 26, 27, 28: the first PMT of the PAT's program is read, and names the listed PIDs; a later one is compared with it.
 -- Before a PAT no PID is the map PID
-unfoldable pub pmtSection : Edition → Option FirstPat → Option FirstPmt → Bytes → Tables → Verdict Tables
-pmtSection edition none pmt section t = passed t
-pmtSection edition (some pat) none section t = do
+unfoldable pub pmtSection : Edition → ℕ → Option FirstPat → Option FirstPmt → Bytes → Tables → Verdict Tables
+pmtSection edition i none pmt section t = passed t
+pmtSection edition i (some pat) none section t = do
   m ← readPmt edition (pat .says .number) (pat .says .«map_pid») section
-  passed (withPmt (record { section = section; says = m }) (map named (pids (m .entries))) t)
-pmtSection edition (some pat) (some first) section t = laterSection 26 (first .section) section t
+  passed (withPmt (record { packet = i; section = section; says = m }) (map named (pids (m .entries))) t)
+pmtSection edition i (some pat) (some first) section t = laterSection 26 (first .section) section t
 
 -- "a packet with payload on PID 0 or the map PID": 25 or 26 by how its section lies in it, then by what the section
--- says; of the packet's payload start and its payload
-unfoldable pub sectionRead : Edition → Kind → Bool → Bytes → Tables → Verdict Tables
-sectionRead edition Null start payload t = passed t
-sectionRead edition Pat start payload t = do
+-- says; of the packet's index, its payload start and its payload
+unfoldable pub sectionRead : Edition → Kind → ℕ → Bool → Bytes → Tables → Verdict Tables
+sectionRead edition Null i start payload t = passed t
+sectionRead edition Pat i start payload t = do
   given 25 (misplaced start payload)
-  patSection (t .pat) (sectionOf payload) t
-sectionRead edition Map start payload t = do
+  patSection i (t .pat) (sectionOf payload) t
+sectionRead edition Map i start payload t = do
   given 26 (misplaced start payload)
-  pmtSection edition (t .pat) (t .pmt) (sectionOf payload) t
-sectionRead edition Av1 start payload t = passed t
-sectionRead edition Listed start payload t = passed t
-sectionRead edition Unlisted start payload t = passed t
+  pmtSection edition i (t .pat) (t .pmt) (sectionOf payload) t
+sectionRead edition Av1 i start payload t = passed t
+sectionRead edition Listed i start payload t = passed t
+sectionRead edition Unlisted i start payload t = passed t
 
 -- ---- the closing of a PES
 -- 32 "PES length not 0 and not the number of PES bytes after that field": the first six bytes of the header are those
@@ -194,7 +195,7 @@ module _ (i : ℕ) (p : Bytes) where
   -- 24 "counter wrong on PID 0, the map PID or a listed PID"
   unfoldable pub checked : Tables → Verdict Tables
   checked t = do
-    records ← atPlace i (checkedIn (t .records) p)
+    records ← atPlace i (checkedIn i (t .records) p)
     passed (withRecords records t)
 
   unfoldable pub rule24 : Rule
@@ -219,7 +220,7 @@ module _ (i : ℕ) (p : Bytes) where
     -- 25, 26 "PAT or PMT wrong", 27 "more than 12 entries in the PMT", 28 "not exactly one AV1 entry, ..": of a packet
     -- with payload
     abbrev pub sectionTried : Edition → Tables → Verdict Tables
-    sectionTried edition t = atPlace i (sectionRead edition kind (payloadUnitStartIndicator p) (payload p) t)
+    sectionTried edition t = atPlace i (sectionRead edition kind i (payloadUnitStartIndicator p) (payload p) t)
 
     unfoldable pub rules25to28 : Edition → Rule
     rules25to28 edition = onTables (λ t. pick (hasPayload p) (sectionTried edition t) (passed t))

@@ -17,13 +17,15 @@ use Rattle.pes.specs.declared.header.Times.{Times}
 use Rattle.segment_rules.specs.declared.Totals.{Totals}
 
 -- ---- the tables
--- the first PAT: its section's bytes, and the program that they name
+-- the first PAT: the packet that brought it, its section's bytes, and the program that they name
 pub record FirstPat : Type 0 where
+  pub packet : ℕ
   pub section : Bytes
   pub says : Program
 
--- the first PMT: its section's bytes, and the map that they give
+-- the first PMT: the packet that brought it, its section's bytes, and the map that they give
 pub record FirstPmt : Type 0 where
+  pub packet : ℕ
   pub section : Bytes
   pub says : MapContent
 

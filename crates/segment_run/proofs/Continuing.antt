@@ -1,502 +1,375 @@
--- A packet of the AV1 PID that goes on with the open PES, by its rules: its counter is right and it is no repeat, its payload stands
--- behind what is there (`one-goes`); and so each of a run of them (`goes`). Assumes nothing.
+-- Packets that go on, by their rules. On the AV1 PID each passes, and its payload stands behind what is there (`one-goes`); on another
+-- listed PID each passes by its counter alone (`one-counts`); and so each of a run of them (`goes`, `counts`). Assumes nothing.
 use Prim.Native.Nat.{ℕ, zero, suc, _+_, _-_, _*_, _/_, _%_, _≤_, _<_}
-use mathlib.Core.Bool.{Bool, true, false, not, _&&_, _||_, or-true, and-false}
+use mathlib.Core.Bool.{true, false}
 use mathlib.Core.Path.{_≡_, refl, sym, ap, ap₂, subst, _∙_}
 use mathlib.Core.List.{List, [], _∷_, _++_, flatten}
-use mathlib.Core.Option.{Option, none, some}
 use native.Mathlib.Omega.{arith}
 use native.Mathlib.Numerals.{add-one}
-use borrow.Author.Tests.{eq-eqb, ltb-true, ltb-false}
-use lib.Dec.{eqb, ltb}
-use lib.ListN.{length, getD, set, drop, length-append, length-drop, take-append-drop}
-use lib.Seq.{getD-set-same}
+use borrow.Author.Tests.{ltb-true, ltb-false}
+use lib.Dec.{ltb}
+use lib.ListN.{length, drop, length-append, length-drop, take-append-drop}
 use Rattle.lists.specs.Lists.{Bytes, pick, placed}
 use borrow.Rule.Slice.PartMut.{midOf}
 use Rattle.lists.proofs.Parts.{tail-lent}
 use Rattle.lists.proofs.Placed.{placed-long, placed-twice}
 use Rattle.lists.proofs.Tests.{case, clash}
-use Rattle.refusal.specs.Verdict.{Verdict, passed, _>>=_, atPlace}
-use Rattle.refusal.proofs.Verdicts.{pass-on}
-use Rattle.descriptor.specs.Edition.{Edition}
-use Rattle.packet.specs.Header.{packetLength, packets, pid, fields, continuityCounter, hasPayload, discontinuityIndicator, payload}
-use Rattle.packet.specs.declared.header.Clock.{Clock}
-use Rattle.packet.specs.declared.header.Clock.the-variants as clock
-use Rattle.packet.specs.declared.counter.Stream.{Stream}
-use Rattle.packet.specs.declared.counter.Last.{Last}
+use Rattle.refusal.specs.Verdict.{Verdict, passed, _>>=_}
+use Rattle.descriptor.specs.Naming.{editionSays}
+use Rattle.descriptor.specs.declared.edition.Edition.{Edition}
+use Rattle.packet.specs.Header.{packetLength, packets, packetAt, pid, fields, payload}
 use Rattle.packet.specs.declared.counter.Last.the-variants as last
-use Rattle.packet.specs.declared.streams.Streams.{Streams}
 use Rattle.packet.specs.declared.streams.Slot.the-variants as slots
-use Rattle.packet.specs.Counter as counter
-use Rattle.packet.specs.Counter.{StreamRecord, namedStream, due, counterRight, sameBytes, copyOf, repeats, check, checkedIn, pidsOf}
-use Rattle.packet.specs.Counter.{LastRepresents, Represents}
-use Rattle.packet.specs.Streams.{listed, lookUp, pidsIn, recordAt, putBack}
-use Rattle.packet.proofs.Copies.{copy-not-due}
-use Rattle.packet.proofs.Counters.{checked-pids}
-use Rattle.packet.proofs.Slots.{put-listed}
-use Rattle.packet.proofs.Recorded.{found-at}
-use Rattle.plain.specs.Runs.{nextCounter, goesOn, payloadLength, goingOn, payloads}
+use Rattle.packet.specs.Streams.{withLast}
+use Rattle.plain.specs.Runs.{nextCounter, countsOn, countingOn, goesOn, payloadLength, goingOn, payloads}
 use Rattle.plain.proofs.Places.{next-packet, no-packet, packet-length}
-use Rattle.plain.proofs.Plains.{plain-passes, no-start, of-pid, counter-next, with-payload, no-break, no-pcr, payload-behind}
-use Rattle.plain.proofs.Following.{going-bounded, going-none, going-next, going-full, going-stop}
+use Rattle.plain.proofs.Plains.{plain-passes, of-pid, with-payload, payload-behind, no-start, counts-too}
+use Rattle.plain.proofs.Following.{counting-none, counting-next, counting-stop, counting-bounded}
+use Rattle.plain.proofs.Following.{going-none, going-next, going-full, going-stop, going-bounded}
 use Rattle.segment_rules.specs.State as state
-use Rattle.segment_rules.specs.State.{FirstPmt, State, kindOf, withTables, withRecords}
-use Rattle.segment_rules.specs.Rules.{inSequence, onTables, countingPcr, lastPcr, isPcr, clocked, checked, pesRules, isRepeat, unlessRepeat}
-use Rattle.segment_rules.specs.Rules.{unitOf, packetRules}
+use Rattle.segment_rules.specs.State.{kindOf}
+use Rattle.segment_rules.specs.Rules.{inSequence, isPcr, pesRules, unlessRepeat, unitOf, packetRules}
 use Rattle.segment_rules.specs.Check.{Outputs, outputsOf, roomsOf}
-use Rattle.segment_rules.specs.Named.{Named}
 use Rattle.segment_rules.proofs.Sequence.{not-repeated}
 use Rattle.segment_rules.proofs.Running.{length-packets}
-use Rattle.segment_rules.proofs.ByKind.{av1-packet}
-use Rattle.segment_rules.proofs.ByKind as kinds
+use Rattle.segment_rules.proofs.ByKind.{av1-packet, other-listed}
 use Rattle.segment_rules.proofs.Growing.{Grows, same-units, one-more, packet-grows}
-use Rattle.tables.specs.declared.state.PatSeen.{PatSeen}
-use Rattle.tables.specs.declared.state.PatSeen.the-variants as pat
-use Rattle.tables.specs.declared.state.PmtSeen.{PmtSeen}
-use Rattle.tables.specs.declared.state.PmtSeen.the-variants as pmt
-use Rattle.tables.specs.declared.state.Kind.the-variants as slot
-use Rattle.tables.specs.declared.counters.Counters.{Counters}
+use Rattle.tables.specs.declared.state.Kind.{Kind}
+use Rattle.tables.specs.declared.state.Kind.the-variants as kinds
 use Rattle.tables.specs.declared.tables.Tables.{Tables}
-use Rattle.tables.specs.Tables.{lastRepeated, streamsIn, RecordsRepresent, packetAt, TablesRepresent, SlotOf}
-use Rattle.tables.specs.Parts.{withListedRecord}
-use Rattle.tables.proofs.Standing.{pids-stand, stands-at, stands-set}
-use Rattle.tables.proofs.Counting.{within as slot-within, listed-there, listed-put, kind-repeats}
+use Rattle.tables.specs.Tables.{slotIn, Kept, KindRefines}
 use Rattle.units.specs.declared.state.PesFound.{PesFound}
 use Rattle.units.specs.declared.state.PesSeen.{PesSeen}
 use Rattle.units.specs.declared.state.PesSeen.the-variants as seen
 use Rattle.units.specs.declared.units.Extraction.{Extraction}
-use Rattle.units.specs.Extraction.{UnitsRepresent}
-use Rattle.extraction.specs.Packets.{StateRepresents}
-use Rattle.units.specs.Extraction.{PayloadOf}
-use Rattle.segment_run.specs.Parts.{MayGoOn, lastAt, withLast, Pass, GoesOn}
+use Rattle.units.specs.Extraction.{UnitsRepresent, PayloadOf}
 use Rattle.units.proofs.Extracting.{adds-right}
-use Rattle.segment_run.proofs.Passing.{cons-first, cons-rest}
+use Rattle.extraction.specs.declared.packets.State.{State}
+use Rattle.extraction.specs.Packets.{StateKept}
+use Rattle.segment_run.specs.declared.going.Seen.{Seen}
+use Rattle.segment_run.specs.declared.going.Seen.the-variants as found
+use Rattle.segment_run.specs.Parts.{Follows, CounterSeen, MayGoOn, opens, isOpened, lastWent, Pass, GoesOn}
+use Rattle.segment_run.proofs.Counting.{Due, due-kept, last-twice, next-due, stateAfter, counted-so, not-repeating, kept-so}
 
--- ---- the counter
--- the definitions' record of a PID whose last packet the code has seen
-last-seen : (segment : Bytes) (s : Stream) (r : StreamRecord) (counter at : ℕ) (repeat : Bool) → Represents segment s r
-    → s .last ≡ last.Packet counter at repeat → (q : Bytes) × (r .last ≡ some q) × (continuityCounter q ≡ counter)
-last-seen segment s r counter at repeat h e = go (s .last) (r .last) (r .repeat) (h .1) e
-  where
-    go : (l : Last) (o : Option Bytes) (b : Bool) → LastRepresents segment l o b → l ≡ last.Packet counter at repeat
-        → (q : Bytes) × (o ≡ some q) × (continuityCounter q ≡ counter)
-    go last.Unseen o b k f = let z : _≡_ {A = ℕ} 0 1 = cc in absurd (omega arith)
-    go (last.Packet counter′ at′ repeat′) none b k f = absurd k
-    go (last.Packet counter′ at′ repeat′) (some q) b k f =
-        let same : counter′ ≡ counter = cc in
-        (q, refl, sym (k .0) ∙ same)
+-- ---- so many packets, one by one
+-- the last of one and of those behind it
+went-one : (numbers : List ℕ) (slot counter k m : ℕ)
+    → lastWent (withLast numbers slot (last.Packet (nextCounter counter) k false)) slot (nextCounter counter) (k + 1) m
+    ≡ lastWent numbers slot counter k (suc m)
+went-one numbers slot counter k zero =
+    let z : k ≡ k + 0 = omega arith in
+    let y : (counter + 1) % 16 ≡ (counter + suc 0) % 16 = omega arith in
+    ap₂ (λ (x w : ℕ). withLast numbers slot (last.Packet x w false)) y z
+went-one numbers slot counter k (suc m) =
+    let z : k + 1 + m ≡ k + suc m = omega arith in
+    let y : ((counter + 1) % 16 + suc m) % 16 ≡ (counter + suc (suc m)) % 16 = omega arith in
+    last-twice numbers slot (last.Packet (nextCounter counter) k false)
+    (last.Packet (((counter + 1) % 16 + suc m) % 16) (k + 1 + m) false)
+    ∙ ap₂ (λ (x w : ℕ). withLast numbers slot (last.Packet x w false)) y z
 
--- a packet with payload whose counter is the next one is right
-right-after : (q p : Bytes) (counter : ℕ) → continuityCounter q ≡ counter → hasPayload p ≡ true → continuityCounter p ≡ nextCounter counter
-    → counterRight (some q) p ≡ true
-unfolding counterRight due pick
-right-after q p counter e h k =
-    ap (λ (b : Bool). discontinuityIndicator p || eqb (continuityCounter p)
-    (pick b ((continuityCounter q + 1) % 16) (continuityCounter q))) h
-    ∙ ap (λ (b : Bool). discontinuityIndicator p || b)
-    (eq-eqb (continuityCounter p) ((continuityCounter q + 1) % 16) (k ∙ ap (λ (n : ℕ). (n + 1) % 16) (sym e)))
-    ∙ or-true (discontinuityIndicator p)
+module _ (edition : Edition) (segment : Bytes) (before : Outputs) (kind : state.Kind) (slot : ℕ) where
+  -- m packets from index k on pass, which leave this state and these outputs
+  pub record Gone (m k : ℕ) (numbers : List ℕ) (counter : ℕ) (st : state.State) (c : State) (after : Outputs) : Type 0 where
+    pub reached : state.State
+    pub passes : Pass (editionSays edition) segment (roomsOf before) kind m k st reached
+    pub kept : StateKept edition segment before after c (lastWent numbers slot counter k m) reached
 
--- and no copy
-not-equal : (q p : Bytes) → counterRight (some q) p ≡ true → hasPayload p ≡ true → discontinuityIndicator p ≡ false → sameBytes q p ≡ false
-unfolding copyOf
-not-equal q p r h d =
-    case (sameBytes q p)
-    (λ t. clash r (copy-not-due q p (ap₂ (λ (x y : Bool). x && not y && sameBytes q p) h d ∙ t)))
-    (λ t. t)
+  module _ (k : ℕ) (numbers : List ℕ) (counter : ℕ) (st : state.State) (c : State) (after : Outputs) where
+    none-gone : StateKept edition segment before after c numbers st → Gone 0 k numbers counter st c after
+    none-gone s = record { reached = st; passes = refl; kept = s }
 
--- so that it becomes the last packet of its PID, which is no repeat
-abbrev latest : StreamRecord → Bytes → Bool → StreamRecord
-latest r p repeat = record { pid = r .pid; last = some p; repeat = repeat }
+    one-gone : (m : ℕ) (next : state.State) → kindOf (st .tables) (pid (packetAt segment k)) ≡ kind
+        → packetRules (editionSays edition) (roomsOf before) k (packetAt segment k) kind st ≡ passed next
+        → next .extraction .units ≡ st .extraction .units
+        → Gone m (k + 1) (withLast numbers slot (last.Packet (nextCounter counter) k false)) (nextCounter counter) next c after
+        → Gone (suc m) k numbers counter st c after
+    one-gone m next is rule same rest =
+        record {
+          reached = rest .reached;
+          passes = (next, is, rule, same, rest .passes);
+          kept =
+              subst (λ (l : List ℕ). StateKept edition segment before after c l (rest .reached)) (went-one numbers slot counter k m)
+              (rest .kept);
+        }
 
-checks-right : (r : StreamRecord) (q p : Bytes) → r .last ≡ some q → counterRight (some q) p ≡ true → sameBytes q p ≡ false
-    → check r p ≡ passed (latest r p false)
-unfolding check copyOf
-checks-right r q p e f g =
-    let right : counterRight (r .last) p ≡ true = ap (λ (o : Option Bytes). counterRight o p) e ∙ f in
-    let other : copyOf (r .last) p ≡ false =
-    ap (λ (o : Option Bytes). copyOf o p) e ∙ ap (λ (b : Bool). hasPayload p && not (discontinuityIndicator p) && b) g
-    ∙ and-false (hasPayload p && not (discontinuityIndicator p)) in
-    let copy : repeats r p ≡ false = ap (λ (b : Bool). b && not (r .repeat)) other in
-    sym (pass-on 24 (ap₂ (λ (x y : Bool). not (x || y)) right copy) refl) ∙ ap (λ (b : Bool). passed (latest r p b)) copy
+-- ---- a packet of another listed PID
+module _ (edition : Edition) (segment : Bytes) (before now : Outputs) (c : State) (n slot : ℕ) where
+  module _ (numbers : List ℕ) (st : state.State) (s : StateKept edition segment before now c numbers st) (counter : ℕ)
+      (d : Due (st .tables .records) n slot counter) (k : ℕ) (g : countsOn n counter (packetAt segment k) ≡ true) where
+    abbrev reached-by : state.State
+    reached-by = stateAfter segment (c .tables) numbers st (s .tables) n slot counter d k g
 
--- ---- the record put back
-among-listed : (q : PatSeen) (m : PmtSeen) (c : Counters) (n i : ℕ) → lookUp n (pidsIn (streamsIn q m c)) ≡ slots.At (suc (suc i))
-    → i < length (listed (c .listed))
-among-listed q m c n i e = go q m (slot-within n (streamsIn q m c) (suc (suc i)) e)
-  where
-    go : (q : PatSeen) (m : PmtSeen) → suc (suc i) < length (streamsIn q m c) → i < length (listed (c .listed))
-    go pat.None m h = absurd (omega arith)
-    go (pat.First f) pmt.None h = absurd (omega arith)
-    go (pat.First f) (pmt.First g) h = omega arith
+    one-counts : packetRules (editionSays edition) (roomsOf before) k (packetAt segment k) state.Listed st ≡ passed reached-by
+    one-counts =
+        other-listed (editionSays edition) (roomsOf before) k (packetAt segment k) st (fields (packetAt segment k))
+        (plain-passes n counter (packetAt segment k) g)
+        ∙ counted-so segment (c .tables) numbers st (s .tables) n slot counter d k g
 
-put-there : (c : Counters) (i : ℕ) (s : Stream) → i < length (listed (c .listed)) → recordAt (putBack (c .listed) i s) i ≡ s
-put-there c i s h =
-    ap (λ (l : List Stream). getD l i (namedStream 0)) (put-listed (c .listed) i s)
-    ∙ getD-set-same (listed (c .listed)) i s (namedStream 0) h
+    counts-kept : StateKept edition segment before now c (withLast numbers slot (last.Packet (nextCounter counter) k false)) reached-by
+    counts-kept =
+        record {
+          follows = s .follows;
+          tables = kept-so segment (c .tables) numbers st (s .tables) n slot counter d k g;
+          extraction = s .extraction;
+        }
 
-set-twice : (l : List Stream) (i : ℕ) (a b : Stream) → set (set l i a) i b ≡ set l i b
-set-twice [] i a b = refl
-set-twice (c ∷ l) zero a b = refl
-set-twice (c ∷ l) (suc i) a b = ap (λ (m : List Stream). c ∷ m) (set-twice l i a b)
+  -- so many packets are left from index k on
+  pub counts : (left k : ℕ) → k + left ≡ length segment / packetLength → (numbers : List ℕ) (st : state.State)
+      → StateKept edition segment before now c numbers st → (counter : ℕ) → kindOf (st .tables) n ≡ state.Listed
+      → Due (st .tables .records) n slot counter
+      → Gone edition segment before state.Listed slot (countingOn n counter (drop k (packets segment))) k numbers counter st c now
+  unfolding kindOf
+  counts zero k h numbers st s counter is d =
+      let none : countingOn n counter (drop k (packets segment)) ≡ 0 =
+      ap (countingOn n counter) (no-packet segment k (omega arith)) ∙ counting-none n counter in
+      subst (λ (m : ℕ). Gone edition segment before state.Listed slot m k numbers counter st c now) (sym none)
+      (none-gone edition segment before state.Listed slot k numbers counter st c now s)
+  counts (suc left) k h numbers st s counter is d =
+      let p = packetAt segment k in
+      let l = drop (suc k) (packets segment) in
+      let here = ap (countingOn n counter) (next-packet segment k (omega arith)) in
+      case (countsOn n counter p)
+      (λ g.
+      let many : countingOn n counter (drop k (packets segment))
+      ≡ suc (countingOn n (nextCounter counter) (drop (k + 1) (packets segment))) =
+      here ∙ counting-next n counter p l g
+      ∙ ap (λ (x : ℕ). suc (countingOn n (nextCounter counter) (drop x (packets segment)))) (sym (add-one k)) in
+      subst (λ (m : ℕ). Gone edition segment before state.Listed slot m k numbers counter st c now) (sym many)
+      (one-gone edition segment before state.Listed slot k numbers counter st c now _ (reached-by numbers st s counter d k g)
+      (ap (kindOf (st .tables)) (of-pid n counter p g) ∙ is) (one-counts numbers st s counter d k g) refl
+      (counts left (k + 1) (omega arith) _ (reached-by numbers st s counter d k g) (counts-kept numbers st s counter d k g)
+      (nextCounter counter) is (next-due segment (st .tables .records) n slot counter d k g))))
+      (λ g.
+      subst (λ (m : ℕ). Gone edition segment before state.Listed slot m k numbers counter st c now)
+      (sym (here ∙ counting-stop n counter p l g))
+      (none-gone edition segment before state.Listed slot k numbers counter st c now s))
 
--- the tables with these records of the listed PIDs
-abbrev with-listed : Tables → List Stream → Tables
-with-listed c l =
+-- ---- a packet of the AV1 PID
+-- what holds where one of PID n may go on
+pub record Ready (c : State) (st : state.State) (n slot counter : ℕ) (f : PesFound) : Type 0 where
+  pub kind : kindOf (st .tables) n ≡ state.Av1
+  pub due : Due (st .tables .records) n slot counter
+  pub clock : isPcr (st .tables .pcr) ≡ true
+  pub opened : c .extraction .pes ≡ seen.Open f
+
+-- the state with so many bytes more
+abbrev with-bytes : State → ℕ → State
+with-bytes c n =
     record {
-      edition = c .edition;
-      pat = c .pat;
-      pmt = c .pmt;
-      map = c .map;
-      counters =
-          record { pat = c .counters .pat; map = c .counters .map; listed = record { count = c .counters .listed .count; records = l } };
-      pcr = c .pcr;
+      tables = c .tables;
+      extraction = record { pes = c .extraction .pes; units = c .extraction .units; start = c .extraction .start; bytes = n };
     }
 
-abbrev packet-of : ℕ → ℕ → ℕ → Stream
-packet-of n counter at = record { pid = n; last = last.Packet counter at false }
+abbrev longer : State → ℕ → State
+longer c n = with-bytes c (c .extraction .bytes + n)
 
--- a second packet after the first
-last-twice : (c : Tables) (i counter at counter′ at′ : ℕ) → i < length (listed (c .counters .listed))
-    → withLast (withLast c i counter at) i counter′ at′ ≡ withLast c i counter′ at′
-last-twice c i counter at counter′ at′ h =
-    let first = lastAt c i counter at in
-    ap (λ (n : ℕ). with-listed c (set (set (c .counters .listed .records) i first) i (packet-of n counter′ at′)))
-    (ap (λ (x : Stream). x .pid) (put-there (c .counters) i first h))
-    ∙ ap (with-listed c) (set-twice (c .counters .listed .records) i first (packet-of (first .pid) counter′ at′))
-
--- ---- a run of them
--- the tables after so many packets, the first of which has this index
-abbrev pub gone : ℕ → ℕ → Tables → ℕ → ℕ → Tables
-gone i zero c last k = c
-gone i (suc m) c last k = withLast c i ((last + suc m) % 16) ((k + m) * packetLength)
-
-gone-one : (i m : ℕ) (c : Tables) (last k : ℕ) → i < length (listed (c .counters .listed))
-    → gone i m (withLast c i (nextCounter last) (k * packetLength)) (nextCounter last) (k + 1) ≡ gone i (suc m) c last k
-gone-one i zero c last k h =
-    let z : k ≡ k + 0 = omega arith in
-    let y : (last + 1) % 16 ≡ (last + suc 0) % 16 = omega arith in
-    ap₂ (λ (x w : ℕ). withLast c i x (w * packetLength)) y z
-gone-one i (suc m) c last k h =
-    let z : k + 1 + m ≡ k + suc m = omega arith in
-    let y : ((last + 1) % 16 + suc m) % 16 ≡ (last + suc (suc m)) % 16 = omega arith in
-    last-twice c i (nextCounter last) (k * packetLength) (((last + 1) % 16 + suc m) % 16) ((k + 1 + m) * packetLength) h
-    ∙ ap₂ (λ (x w : ℕ). withLast c i x (w * packetLength)) y z
-
--- ---- one packet
--- what holds where a packet of PID n may go on, of the code's state and the definitions'
-pub record Ready (c : Tables) (e : Extraction) (st : State) (n i counter : ℕ) (f : PesFound) : Type 0 where
-  pub kind : kindOf (st .tables) n ≡ state.Av1
-  pub slot : SlotOf c n (slot.Av1 i)
-  pub clock : isPcr (c .pcr) ≡ true
-  pub opened : e .pes ≡ seen.Open f
-  pub place : ℕ
-  pub repeat : Bool
-  pub last : recordAt (c .counters .listed) i .last ≡ last.Packet counter place repeat
-
--- the extraction with so many bytes more
-abbrev pub longer : Extraction → ℕ → Extraction
-longer e n = record { pes = e .pes; units = e .units; start = e .start; bytes = e .bytes + n }
+-- where the next payload is put
+abbrev pub place : State → ℕ
+place c = c .extraction .start + c .extraction .bytes
 
 -- where no unit has closed, the units are the same
 no-unit : (x x′ : state.Extraction) → Grows x x′ → length (x′ .units) ≡ length (x .units) → x′ .units ≡ x .units
 no-unit x x′ (same-units e) h = e
 no-unit x x′ (one-more o at e) h = absurd (omega (arith, h, ap length e, length-append (x .units) (unitOf o ∷ [])))
 
-module _ (edition : Edition) (segment : Bytes) (before : Outputs) (lens times : List ℕ) (n i : ℕ) (f : PesFound) where
-  module _ (out : List ℕ) (c : Tables) (e : Extraction) (st : State)
-      (s : StateRepresents edition segment before (outputsOf out lens times) c e st)
-      (last : ℕ) (r : Ready c e st n i last f) (k : ℕ) (g : goesOn n last (packetAt segment k) ≡ true) where
+module _ (edition : Edition) (segment : Bytes) (before : Outputs) (lens times : List ℕ) (n slot : ℕ) (f : PesFound) where
+  module _ (out : List ℕ) (c : State) (numbers : List ℕ) (st : state.State)
+      (s : StateKept edition segment before (outputsOf out lens times) c numbers st) (counter : ℕ) (r : Ready c st n slot counter f)
+      (k : ℕ) (g : goesOn n counter (packetAt segment k) ≡ true) where
     abbrev p : Bytes
     p = packetAt segment k
 
-    abbrev stream : Stream
-    stream = recordAt (c .counters .listed) i
+    counting : countsOn n counter p ≡ true
+    counting = counts-too n counter p g
 
-    abbrev next : Stream
-    next = lastAt c i (nextCounter last) (k * packetLength)
+    abbrev counted : state.State
+    counted = stateAfter segment (c .tables) numbers st (s .tables) n slot counter (r .due) k counting
 
-    abbrev streams : List Stream
-    streams = streamsIn (c .pat) (c .pmt) (c .counters)
+    abbrev after : List ℕ
+    after = withLast numbers slot (last.Packet (nextCounter counter) k false)
 
-    abbrev old : StreamRecord
-    old = getD (st .tables .records) (suc (suc i)) (counter.named 0)
-
-    named : lookUp (pid p) (pidsOf (st .tables .records)) ≡ slots.At (suc (suc i))
-    named =
-        ap₂ lookUp (of-pid n last p g) (sym (pids-stand segment streams (st .tables .records) (s .tables .records))) ∙ r .slot
-
-    inside : i < length (listed (c .counters .listed))
-    inside = among-listed (c .pat) (c .pmt) (c .counters) n i (r .slot)
-
-    stands : Represents segment stream old
-    stands =
-        subst (λ (x : Stream). Represents segment x old) (sym (listed-there (c .pat) (c .pmt) (c .counters) i
-        (slot-within n (streamsIn (c .pat) (c .pmt) (c .counters)) (suc (suc i)) (r .slot))))
-        (stands-at segment streams (st .tables .records) (suc (suc i)) (s .tables .records))
-
-    -- its counter is right, and it is no copy
-    before-it : (q : Bytes) × (old .last ≡ some q) × (continuityCounter q ≡ last)
-    before-it = last-seen segment stream old last (r .place) (r .repeat) stands (r .last)
-
-    abbrev new : StreamRecord
-    new = latest old p false
-
-    checked-so : check old p ≡ passed new
-    checked-so =
-        let right = right-after (before-it .0) p last (before-it .2) (with-payload n last p g) (counter-next n last p g) in
-        checks-right old (before-it .0) p (before-it .1) right
-        (not-equal (before-it .0) p right (with-payload n last p g) (no-break n last p g))
-
-    abbrev after-it : List StreamRecord
-    after-it = set (st .tables .records) (suc (suc i)) new
-
-    records : checkedIn (st .tables .records) p ≡ passed after-it
-    unfolding _>>=_
-    records =
-        found-at p (st .tables .records) (suc (suc i)) named
-        ∙ ap (λ (v : Verdict StreamRecord). v >>= λ x. passed (set (st .tables .records) (suc (suc i)) x)) checked-so
-
-    records-stand : RecordsRepresent segment (streamsIn (c .pat) (c .pmt) (withListedRecord (c .counters) i next)) after-it
-    records-stand =
-        subst (λ (l : List Stream). RecordsRepresent segment l after-it) (sym (listed-put (c .pat) (c .pmt) (c .counters) i next))
-        (stands-set segment streams (st .tables .records) (suc (suc i)) next new (s .tables .records)
-        (stands .0, (sym (counter-next n last p g), refl, refl)))
-
-    -- no PCR counts
-    unclocked : c .pcr ≡ clocked k p (st .tables) .pcr
-    unfolding countingPcr pick
-    unclocked = s .tables .pcr ∙ sym (ap (lastPcr (st .tables .pcr)) (none-counts (st .tables .pmt)))
-      where
-        either : (b : Bool) → pick b clock.None clock.None ≡ clock.None
-        either true = refl
-        either false = refl
-
-        none-counts : (m : Option FirstPmt) → countingPcr m p ≡ clock.None
-        none-counts none = refl
-        none-counts (some m) =
-            ap (λ (x : Clock). pick (eqb (pid p) (m .says .pcrPid)) x clock.None) (no-pcr n last p g)
-            ∙ either (eqb (pid p) (m .says .pcrPid))
-
-    abbrev counts : State
-    counts = withTables (withRecords after-it (clocked k p (st .tables))) st
-
-    counted-so : kinds.counted k p st ≡ passed counts
-    unfolding onTables checked atPlace _>>=_
-    counted-so = rw records
-
-    stand : TablesRepresent edition segment (withLast c i (nextCounter last) (k * packetLength)) (counts .tables)
-    stand =
-        record {
-          follows = s .tables .follows;
-          pat = s .tables .pat;
-          pmt = s .tables .pmt;
-          records = records-stand;
-          pcr = unclocked;
-        }
-
-    -- its PID is found where it was
-    still : SlotOf (withLast c i (nextCounter last) (k * packetLength)) n (slot.Av1 i)
-    still =
-        ap (lookUp n)
-        (pids-stand segment (streamsIn (c .pat) (c .pmt) (withListedRecord (c .counters) i next)) after-it records-stand
-        ∙ checked-pids p (st .tables .records) after-it records
-        ∙ sym (pids-stand segment streams (st .tables .records) (s .tables .records)))
-        ∙ r .slot
-
-    there : recordAt (putBack (c .counters .listed) i next) i ≡ next
-    there = put-there (c .counters) i next inside
-
-    no-repeat : isRepeat p counts ≡ false
-    no-repeat =
-        sym (kind-repeats segment (slot.Av1 i) (c .pat) (c .pmt) (withListedRecord (c .counters) i next) after-it records-stand (pid p)
-        (ap (λ (m : ℕ). lookUp m (pidsIn (streamsIn (c .pat) (c .pmt) (withListedRecord (c .counters) i next))))
-        (of-pid n last p g) ∙ still))
-        ∙ ap (λ (x : Stream). lastRepeated (x .last)) there
-
-    rules : packetRules edition (roomsOf before) k p state.Av1 st ≡ inSequence (pesRules edition (roomsOf before) k p state.Av1) counts
+    rules : packetRules (editionSays edition) (roomsOf before) k p state.Av1 st
+        ≡ inSequence (pesRules (editionSays edition) (roomsOf before) k p state.Av1) counted
     unfolding _>>=_
     rules =
-        av1-packet edition (roomsOf before) k p st (fields p) (plain-passes n last p g)
-        ∙ ap (λ (v : Verdict State). v >>= unlessRepeat p (inSequence (pesRules edition (roomsOf before) k p state.Av1))) counted-so
-        ∙ not-repeated p (inSequence (pesRules edition (roomsOf before) k p state.Av1)) counts no-repeat
+        let rest = inSequence (pesRules (editionSays edition) (roomsOf before) k p state.Av1) in
+        av1-packet (editionSays edition) (roomsOf before) k p st (fields p) (plain-passes n counter p counting)
+        ∙ ap (λ (v : Verdict state.State). v >>= unlessRepeat p rest)
+        (counted-so segment (c .tables) numbers st (s .tables) n slot counter (r .due) k counting)
+        ∙ not-repeated p rest counted (not-repeating segment (c .tables) numbers st (s .tables) n slot counter (r .due) k counting)
 
-    module _ (h : k < length segment / packetLength) (room : payloadLength ≤ length out - (e .start + e .bytes))
-        (fits : e .start + e .bytes ≤ length out) where
+    module _ (h : k < length segment / packetLength) (room : payloadLength ≤ length out - place c) (fits : place c ≤ length out) where
       long : length (payload p) ≡ payloadLength
-      long = ap length (payload-behind n last p g) ∙ length-drop 4 p ∙ ap (λ (m : ℕ). m - 4) (packet-length segment k h)
+      long = ap length (payload-behind n counter p counting) ∙ length-drop 4 p ∙ ap (λ (m : ℕ). m - 4) (packet-length segment k h)
 
-      abbrev after : Tables
-      after = withLast c i (nextCounter last) (k * packetLength)
-
-      one-goes : (st′ : State) × (packetRules edition (roomsOf before) k p state.Av1 st ≡ passed st′)
-          × StateRepresents edition segment before (outputsOf (placed out (e .start + e .bytes) (payload p)) lens times) after
-          (longer e payloadLength) st′
+      one-goes : (st′ : state.State) × (packetRules (editionSays edition) (roomsOf before) k p state.Av1 st ≡ passed st′)
+          × StateKept edition segment before (outputsOf (placed out (place c) (payload p)) lens times) (longer c payloadLength) after st′
           × (st′ .extraction .units ≡ st .extraction .units)
-          × Ready after (longer e payloadLength) st′ n i (nextCounter last) f
+          × Ready (longer c payloadLength) st′ n slot (nextCounter counter) f
       unfolding kindOf
       one-goes =
           let is : PayloadOf p false (payload p) =
-          record { carries = with-payload n last p g; starts = no-start n last p g; same = refl } in
-          let seen : isPcr (counts .tables .pcr) ≡ true = ap isPcr (sym unclocked) ∙ r .clock in
-          let d = adds-right edition k p (payload p) counts is (s .extraction) f (r .opened) seen (omega (arith, long, room)) refl in
+          record { carries = with-payload n counter p counting; starts = no-start n counter p g; same = refl } in
+          let out′ = outputsOf (placed out (place c) (payload p)) lens times in
+          let e = c .extraction in
+          let d = adds-right (editionSays edition) k p (payload p) counted is (s .extraction) f (r .opened) (r .clock)
+          (omega (arith, long, room)) refl in
           let rule = rules ∙ d .1 in
-          let units : UnitsRepresent before (outputsOf (placed out (e .start + e .bytes) (payload p)) lens times) (longer e payloadLength)
-          (d .0 .extraction) =
-          subst (λ (x : Extraction). UnitsRepresent before (outputsOf (placed out (e .start + e .bytes) (payload p)) lens times) x
-          (d .0 .extraction))
+          let units : UnitsRepresent before out′ (longer c payloadLength .extraction) (d .0 .extraction) =
+          subst (λ (x : Extraction). UnitsRepresent before out′ x (d .0 .extraction))
           (ap₂ (λ (x : PesSeen) (m : ℕ). record { pes = x; units = e .units; start = e .start; bytes = e .bytes + m })
           (sym (r .opened)) long)
-          (d .2 .1) in (
+          (d .2 .1) in
+          let back = sym (d .2 .0) in (
             d .0,
             rule,
-            record { tables = subst (TablesRepresent edition segment after) (sym (d .2 .0)) stand; extraction = units },
-            no-unit (st .extraction) (d .0 .extraction) (packet-grows edition (roomsOf before) k p state.Av1 st (d .0) rule)
+            record {
+              follows = s .follows;
+              tables =
+                  subst (Kept segment (c .tables) after) back
+                  (kept-so segment (c .tables) numbers st (s .tables) n slot counter (r .due) k counting);
+              extraction = units;
+            },
+            no-unit (st .extraction) (d .0 .extraction) (packet-grows (editionSays edition) (roomsOf before) k p state.Av1 st (d .0) rule)
                 (sym (units .units) ∙ s .extraction .units),
             record {
               kind = ap (λ (t : state.Tables). kindOf t n) (d .2 .0) ∙ r .kind;
-              slot = still;
-              clock = r .clock;
+              due =
+                  subst (λ (t : state.Tables). Due (t .records) n slot (nextCounter counter)) back
+                  (next-due segment (st .tables .records) n slot counter (r .due) k counting);
+              clock = ap (λ (t : state.Tables). isPcr (t .pcr)) (d .2 .0) ∙ r .clock;
               opened = r .opened;
-              place = k * packetLength;
-              repeat = false;
-              last = ap (λ (x : Stream). x .last) there;
             },
           )
 
-  pub record Gone (m k : ℕ) (out : List ℕ) (c : Tables) (e : Extraction) (st : State) (last : ℕ) (l : List Bytes) : Type 0 where
-    pub enough : k + m ≤ length segment / packetLength
-    pub reached : State
-    pub passes : Pass edition segment (roomsOf before) state.Av1 m k st reached
-    pub stands : StateRepresents edition segment before (outputsOf (placed out (e .start + e .bytes) (payloads m l)) lens times)
-        (gone i m c last k) (longer e (m * payloadLength)) reached
+  -- of so many packets from index k on, whose payloads are put into this output
+  abbrev pub Went : ℕ → ℕ → List ℕ → State → List ℕ → state.State → ℕ → Type 0
+  Went m k out c numbers st counter =
+      Gone edition segment before state.Av1 slot m k numbers counter st (longer c (m * payloadLength))
+      (outputsOf (placed out (place c) (payloads m (drop k (packets segment)))) lens times)
 
-  module _ (l : List Bytes) (k : ℕ) (out : List ℕ) (c : Tables) (e : Extraction) (st : State)
-      (s : StateRepresents edition segment before (outputsOf out lens times) c e st) (last : ℕ) where
-    none-gone : k ≤ length segment / packetLength → Gone 0 k out c e st last l
+  none-went : (k : ℕ) (out : List ℕ) (c : State) (numbers : List ℕ) (st : state.State)
+      → StateKept edition segment before (outputsOf out lens times) c numbers st → (counter : ℕ) → Went 0 k out c numbers st counter
+  unfolding flatten
+  none-went k out c numbers st s counter =
+      let z : c .extraction .bytes ≡ c .extraction .bytes + 0 * payloadLength = omega arith in
+      none-gone edition segment before state.Av1 slot k numbers counter st (longer c (0 * payloadLength))
+      (outputsOf (placed out (place c) []) lens times)
+      (subst (λ (w : List ℕ). StateKept edition segment before (outputsOf w lens times) (longer c (0 * payloadLength)) numbers st)
+      (sym (take-append-drop (place c) out))
+      (subst (λ (b : ℕ). StateKept edition segment before (outputsOf out lens times) (with-bytes c b) numbers st) z s))
+
+  -- one more in front of them
+  module _ (k : ℕ) (h : k < length segment / packetLength) (out : List ℕ) (c : State) (numbers : List ℕ) (st : state.State)
+      (s : StateKept edition segment before (outputsOf out lens times) c numbers st) (counter : ℕ) (r : Ready c st n slot counter f)
+      (g : goesOn n counter (packetAt segment k) ≡ true) (room : payloadLength ≤ length out - place c) (fits : place c ≤ length out) where
+    abbrev one : (st′ : state.State) × (packetRules (editionSays edition) (roomsOf before) k (packetAt segment k) state.Av1 st ≡ passed st′)
+        × StateKept edition segment before (outputsOf (placed out (place c) (payload (packetAt segment k))) lens times)
+        (longer c payloadLength) (withLast numbers slot (last.Packet (nextCounter counter) k false)) st′
+        × (st′ .extraction .units ≡ st .extraction .units)
+        × Ready (longer c payloadLength) st′ n slot (nextCounter counter) f
+    one = one-goes out c numbers st s counter r k g h room fits
+
+    abbrev out1 : List ℕ
+    out1 = placed out (place c) (payload (packetAt segment k))
+
+    kept-long : length out1 ≡ length out
+    kept-long =
+        let size = long out c numbers st s counter r k g h room fits in
+        placed-long out (place c) (omega (arith, size, room)) (payload (packetAt segment k)) (omega (arith, size, room))
+
+    one-went : (m : ℕ)
+        → Went m (k + 1) out1 (longer c payloadLength) (withLast numbers slot (last.Packet (nextCounter counter) k false)) (one .0)
+        (nextCounter counter)
+        → Went (suc m) k out c numbers st counter
     unfolding flatten
-    none-gone h =
-        let z : e .bytes ≡ e .bytes + 0 * payloadLength = omega arith in
-        record {
-          enough = omega arith;
-          reached = st;
-          passes = refl;
-          stands =
-              subst (λ (w : List ℕ). StateRepresents edition segment before (outputsOf w lens times) c (longer e (0 * payloadLength)) st)
-              (sym (take-append-drop (e .start + e .bytes) out))
-              (subst (λ (b : ℕ). StateRepresents edition segment before (outputsOf out lens times) c
-              (record { pes = e .pes; units = e .units; start = e .start; bytes = b }) st) z s);
-        }
-
-  -- what is to be shown of the packets from one index on
-  abbrev pub Goes : List Bytes → ℕ → Type 0
-  Goes l k =
-      (out : List ℕ) (c : Tables) (e : Extraction) (st : State)
-      → StateRepresents edition segment before (outputsOf out lens times) c e st → (last : ℕ) → Ready c e st n i last f
-      → drop k (packets segment) ≡ l → k ≤ length segment / packetLength → e .start + e .bytes ≤ length out
-      → Gone (goingOn (length out - (e .start + e .bytes)) n last l) k out c e st last l
-
-  module _ (l : List Bytes) (k : ℕ) (h : k < length segment / packetLength) (behind : drop (k + 1) (packets segment) ≡ l) where
-    one-gone : Goes l (k + 1) → (out : List ℕ) (c : Tables) (e : Extraction) (st : State)
-        (s : StateRepresents edition segment before (outputsOf out lens times) c e st) (last : ℕ) (r : Ready c e st n i last f)
-        → goesOn n last (packetAt segment k) ≡ true → payloadLength ≤ length out - (e .start + e .bytes) → e .start + e .bytes ≤ length out
-        → Gone (suc (goingOn (length out - (e .start + e .bytes) - payloadLength) n (nextCounter last) l)) k out c e st last
-        (packetAt segment k ∷ l)
-    unfolding flatten
-    one-gone later out c e st s last r g w fits =
+    one-went m rest =
         let p = packetAt segment k in
-        let at = e .start + e .bytes in
-        let q = one-goes out c e st s last r k g h w fits in
-        let size = long out c e st s last r k g h w fits in
-        let out1 = placed out at (payload p) in
-        let same : length out1 ≡ length out = placed-long out at (omega (arith, size, w)) (payload p) (omega (arith, size, w)) in
-        let left : length out1 - (e .start + (e .bytes + payloadLength)) ≡ length out - at - payloadLength = omega (arith, same) in
-        let m = goingOn (length out - at - payloadLength) n (nextCounter last) l in
-        let c1 = withLast c i (nextCounter last) (k * packetLength) in
-        let rest : Gone m (k + 1) out1 c1 (longer e payloadLength) (q .0) (nextCounter last) l =
-        subst (λ (x : ℕ). Gone (goingOn x n (nextCounter last) l) (k + 1) out1 c1 (longer e payloadLength) (q .0) (nextCounter last) l) left
-        (later out1 c1 (longer e payloadLength) (q .0) (q .2) (nextCounter last) (q .4) behind (omega (arith, h))
-        (omega (arith, same, w))) in
-        let seam : e .start + (e .bytes + payloadLength) ≡ at + length (payload p) = omega (arith, size) in
-        let bytes : e .bytes + payloadLength + m * payloadLength ≡ e .bytes + suc m * payloadLength = omega arith in
-        record {
-          enough = omega (arith, rest .enough);
-          reached = rest .reached;
-          passes = (q .0, ap (kindOf (st .tables)) (of-pid n last p g) ∙ r .kind, q .1, q .3, rest .passes);
-          stands =
-              subst (λ (x : ℕ). StateRepresents edition segment before (outputsOf (placed out at (payload p ++ payloads m l)) lens times)
-              (gone i (suc m) c last k) (record { pes = e .pes; units = e .units; start = e .start; bytes = x }) (rest .reached)) bytes
-              (subst (λ (x : List ℕ). StateRepresents edition segment before (outputsOf x lens times)
-              (gone i (suc m) c last k) (longer (longer e payloadLength) (m * payloadLength)) (rest .reached))
-              (ap (λ (x : ℕ). placed out1 x (payloads m l)) seam ∙ placed-twice out at fits (payload p) (payloads m l))
-              (subst (λ (x : Tables). StateRepresents edition segment before
-              (outputsOf (placed out1 (e .start + (e .bytes + payloadLength)) (payloads m l)) lens times) x
-              (longer (longer e payloadLength) (m * payloadLength)) (rest .reached))
-              (gone-one i m c last k (inside out c e st s last r k g)) (rest .stands)));
-        }
+        let size = long out c numbers st s counter r k g h room fits in
+        let l = drop (k + 1) (packets segment) in
+        let seam : c .extraction .start + (c .extraction .bytes + payloadLength) ≡ place c + length (payload p) = omega (arith, size) in
+        let bytes : c .extraction .bytes + payloadLength + m * payloadLength ≡ c .extraction .bytes + suc m * payloadLength = omega arith in
+        let listed : payload p ++ payloads m l ≡ payloads (suc m) (drop k (packets segment)) =
+        ap (λ (x : ℕ). payload p ++ payloads m (drop x (packets segment))) (add-one k)
+        ∙ ap (payloads (suc m)) (sym (next-packet segment k h)) in
+        let put : placed out1 (c .extraction .start + (c .extraction .bytes + payloadLength)) (payloads m l)
+        ≡ placed out (place c) (payloads (suc m) (drop k (packets segment))) =
+        ap (λ (x : ℕ). placed out1 x (payloads m l)) seam ∙ placed-twice out (place c) fits (payload p) (payloads m l)
+        ∙ ap (placed out (place c)) listed in
+        one-gone edition segment before state.Av1 slot k numbers counter st (longer c (suc m * payloadLength))
+        (outputsOf (placed out (place c) (payloads (suc m) (drop k (packets segment)))) lens times) m (one .0)
+        (ap (kindOf (st .tables)) (of-pid n counter p (counts-too n counter p g)) ∙ r .kind) (one .1) (one .3)
+        (subst (λ (x : List ℕ). Gone edition segment before state.Av1 slot m (k + 1)
+        (withLast numbers slot (last.Packet (nextCounter counter) k false)) (nextCounter counter) (one .0)
+        (longer c (suc m * payloadLength)) (outputsOf x lens times)) put
+        (subst (λ (x : ℕ). Gone edition segment before state.Av1 slot m (k + 1)
+        (withLast numbers slot (last.Packet (nextCounter counter) k false)) (nextCounter counter) (one .0) (with-bytes c x)
+        (outputsOf (placed out1 (c .extraction .start + (c .extraction .bytes + payloadLength)) (payloads m l)) lens times)) bytes rest))
 
-  pub goes : (l : List Bytes) (k : ℕ) → Goes l k
-  goes [] k out c e st s last r d h fits =
-      subst (λ (m : ℕ). Gone m k out c e st last []) (sym (going-none (length out - (e .start + e .bytes)) n last))
-      (none-gone [] k out c e st s last h)
-  goes (p ∷ l) k out c e st s last r d h fits =
-      case (ltb k (length segment / packetLength))
+  -- so many packets are left from index k on
+  pub goes : (left k : ℕ) → k + left ≡ length segment / packetLength → (out : List ℕ) (c : State) (numbers : List ℕ) (st : state.State)
+      → StateKept edition segment before (outputsOf out lens times) c numbers st → (counter : ℕ) → Ready c st n slot counter f
+      → place c ≤ length out
+      → Went (goingOn (length out - place c) n counter (drop k (packets segment))) k out c numbers st counter
+  goes zero k h out c numbers st s counter r fits =
+      let none : goingOn (length out - place c) n counter (drop k (packets segment)) ≡ 0 =
+      ap (goingOn (length out - place c) n counter) (no-packet segment k (omega arith)) ∙ going-none (length out - place c) n counter in
+      subst (λ (m : ℕ). Went m k out c numbers st counter) (sym none) (none-went k out c numbers st s counter)
+  goes (suc left) k h out c numbers st s counter r fits =
+      let p = packetAt segment k in
+      let l = drop (suc k) (packets segment) in
+      let free = length out - place c in
+      let within : k < length segment / packetLength = omega arith in
+      let here = ap (goingOn free n counter) (next-packet segment k within) in
+      case (ltb free payloadLength)
       (λ t.
-      let within = ltb-true k (length segment / packetLength) t in
-      let here = sym d ∙ next-packet segment k within in
-      let others : drop (k + 1) (packets segment) ≡ l =
-      ap (λ (m : ℕ). drop m (packets segment)) (add-one k) ∙ sym (cons-rest here) in
-      subst (λ (x : Bytes). Gone (goingOn (length out - (e .start + e .bytes)) n last (x ∷ l)) k out c e st last (x ∷ l))
-      (sym (cons-first here))
-      (go within others (goes l (k + 1))))
-      (λ t. absurd (not-empty (sym (no-packet segment k (ltb-false k (length segment / packetLength) t)) ∙ d)))
-    where
-      not-empty : [] ≡ p ∷ l → ⊥
-      not-empty z = let y : _≡_ {A = ℕ} 0 1 = cc in absurd (omega arith)
-
-      none : goingOn (length out - (e .start + e .bytes)) n last (packetAt segment k ∷ l) ≡ 0
-          → Gone (goingOn (length out - (e .start + e .bytes)) n last (packetAt segment k ∷ l)) k out c e st last (packetAt segment k ∷ l)
-      none z = subst (λ (m : ℕ). Gone m k out c e st last (packetAt segment k ∷ l)) (sym z) (none-gone _ k out c e st s last h)
-
-      go : k < length segment / packetLength → drop (k + 1) (packets segment) ≡ l → Goes l (k + 1)
-          → Gone (goingOn (length out - (e .start + e .bytes)) n last (packetAt segment k ∷ l)) k out c e st last (packetAt segment k ∷ l)
-      go within others later =
-          case (ltb (length out - (e .start + e .bytes)) payloadLength)
-          (λ t. none (going-full _ n last (packetAt segment k) l (ltb-true _ _ t)))
-          (λ t. case (goesOn n last (packetAt segment k))
-          (λ g.
-          let w = ltb-false (length out - (e .start + e .bytes)) payloadLength t in
-          subst (λ (m : ℕ). Gone m k out c e st last (packetAt segment k ∷ l)) (sym (going-next _ n last (packetAt segment k) l w g))
-          (one-gone l k within others later out c e st s last r g w fits))
-          (λ g. none (going-stop _ n last (packetAt segment k) l g)))
+      subst (λ (m : ℕ). Went m k out c numbers st counter) (sym (here ∙ going-full free n counter p l (ltb-true free payloadLength t)))
+      (none-went k out c numbers st s counter))
+      (λ t. case (goesOn n counter p)
+      (λ g.
+      let room = ltb-false free payloadLength t in
+      let next = one k within out c numbers st s counter r g room fits in
+      let put = out1 k within out c numbers st s counter r g room fits in
+      let same = kept-long k within out c numbers st s counter r g room fits in
+      let less : length put - place (longer c payloadLength) ≡ free - payloadLength = omega (arith, same) in
+      let many : goingOn free n counter (drop k (packets segment))
+      ≡ suc (goingOn (length put - place (longer c payloadLength)) n (nextCounter counter) (drop (k + 1) (packets segment))) =
+      here ∙ going-next free n counter p l room g
+      ∙ ap₂ (λ (x y : ℕ). suc (goingOn x n (nextCounter counter) (drop y (packets segment)))) (sym less) (sym (add-one k)) in
+      subst (λ (m : ℕ). Went m k out c numbers st counter) (sym many)
+      (one-went k within out c numbers st s counter r g room fits _
+      (goes left (k + 1) (omega arith) put (longer c payloadLength) _ (next .0) (next .2) (nextCounter counter) (next .4)
+      (omega (arith, same, room)))))
+      (λ g.
+      subst (λ (m : ℕ). Went m k out c numbers st counter) (sym (here ∙ going-stop free n counter p l g))
+      (none-went k out c numbers st s counter)))
 
 -- ---- the code
--- the record of a slot put back
-pub put-last : (c : Tables) (i counter at : ℕ) (s : Stream) (l : Streams) →
-    l ≡ putBack (c .counters .listed) i (packet-of (s .pid) counter at)
-    → s ≡ recordAt (c .counters .listed) i
-    → record {
-      edition = c .edition;
-      pat = c .pat;
-      pmt = c .pmt;
-      map = c .map;
-      counters = record { pat = c .counters .pat; map = c .counters .map; listed = l };
-      pcr = c .pcr;
-    }
-    ≡ withLast c i counter at
-put-last c i counter at s l e f =
-    ap with-streams (e ∙ ap (λ (x : Stream). putBack (c .counters .listed) i (packet-of (x .pid) counter at)) f)
+-- a PES is open, and a PCR has counted
+pub opened-so : (c : State) → isOpened c ≡ true → MayGoOn c
+opened-so c e = go (c .extraction .pes) refl e
   where
-    with-streams : Streams → Tables
-    with-streams x =
-        record {
-          edition = c .edition;
-          pat = c .pat;
-          pmt = c .pmt;
-          map = c .map;
-          counters = record { pat = c .counters .pat; map = c .counters .map; listed = x };
-          pcr = c .pcr;
-        }
+    go : (o : PesSeen) → c .extraction .pes ≡ o → opens o (isPcr (c .tables .pcr)) ≡ true → MayGoOn c
+    go seen.Closed at k = clash k refl
+    go (seen.Open f) at k = record { opened = (f, at); clocked = k }
+
+-- what the PID is, and the counter of its last packet, from the answers to both
+pub follows-so : (c : State) (numbers : List ℕ) (n slot counter : ℕ) (kind k : Kind) (s : Seen) → KindRefines (c .tables) numbers n k
+    → k ≡ kind → CounterSeen numbers slot s → s ≡ found.Counter counter → Follows c numbers n slot counter kind
+follows-so c numbers n slot counter kind k s is e last f =
+    record {
+      kind = subst (KindRefines (c .tables) numbers n) e is;
+      seen = subst (CounterSeen numbers slot) f last;
+    }
+
+-- the last of some packets
+pub went-some : (numbers : List ℕ) (slot counter k m : ℕ) → (m ≡ 0 → ⊥)
+    → withLast numbers slot (last.Packet ((counter + m % 16) % 16) (k + m - 1) false) ≡ lastWent numbers slot counter k m
+went-some numbers slot counter k zero h = absurd (h refl)
+went-some numbers slot counter k (suc m) h =
+    let z : k + suc m - 1 ≡ k + m = omega arith in
+    let y : (counter + suc m % 16) % 16 ≡ (counter + suc m) % 16 = omega arith in
+    ap₂ (λ (x w : ℕ). withLast numbers slot (last.Packet x w false)) y z
 
 -- how many, of the output as it is lent
 pub lent-many : (n last : ℕ) (l : List Bytes) (out : List ℕ) (at m : ℕ) → at ≤ length out
@@ -504,74 +377,108 @@ pub lent-many : (n last : ℕ) (l : List Bytes) (out : List ℕ) (at m : ℕ) �
 lent-many n last l out at m h e = e ∙ ap (λ (x : ℕ). goingOn x n last l) (ap length (tail-lent at out h) ∙ length-drop at out)
 
 -- no packet goes on
-none-kept : (out : List ℕ) (at : ℕ) (l : List Bytes) (m : ℕ) → m ≡ 0 → placed out at (payloads m l) ≡ out
+none-put : (out : List ℕ) (at : ℕ) (l : List Bytes) (m : ℕ) → m ≡ 0 → placed out at (payloads m l) ≡ out
 unfolding flatten
-none-kept out at l m z = ap (λ (x : ℕ). placed out at (payloads x l)) z ∙ take-append-drop at out
+none-put out at l m z = ap (λ (x : ℕ). placed out at (payloads x l)) z ∙ take-append-drop at out
 
--- some do
-gone-some : (i m : ℕ) (c : Tables) (last k : ℕ) → (m ≡ 0 → ⊥)
-    → gone i m c last k ≡ withLast c i ((last + m) % 16) ((k + m - 1) * packetLength)
-gone-some i zero c last k h = absurd (h refl)
-gone-some i (suc m) c last k h =
-    let z : k + m ≡ k + suc m - 1 = omega arith in
-    ap (λ (x : ℕ). withLast c i ((last + suc m) % 16) (x * packetLength)) z
+-- so many packets are left from an index on
+left-from : (segment : Bytes) (k : ℕ) → length (drop k (packets segment)) ≡ length segment / packetLength - k
+left-from segment k =
+    length-drop k (packets segment) ∙ ap (λ (x : ℕ). x - k) (length-packets (length segment / packetLength) segment)
 
--- what is known once they are counted, and copied behind what is there of the unit
-pub record Followed (segment : Bytes) (k : ℕ) (c : Tables) (e : Extraction) (n i last : ℕ) (out : List ℕ) (m : ℕ) : Type 0 where
-  pub may : MayGoOn c e n i last
+module _ (segment : Bytes) (c : State) (numbers : List ℕ) (n slot counter : ℕ) (kind : Kind)
+    (f : Follows c numbers n slot counter kind) (at : slotIn kind ≡ slots.At slot) where
+  -- the packet before is the last in its slot
+  due-then : (t : state.Tables) → Kept segment (c .tables) numbers t → Due (t .records) n slot counter
+  due-then t kept =
+      due-kept segment (c .tables) numbers t kept n slot counter (f .seen .0) (f .seen .1) (f .kind segment t kept .1 ∙ at) (f .seen .2)
+
+-- what is known once they are counted: on the AV1 PID
+pub record Followed (segment : Bytes) (k : ℕ) (c : State) (numbers : List ℕ) (n slot counter : ℕ) (out : List ℕ) (m : ℕ) : Type 0 where
+  pub follows : Follows c numbers n slot counter (kinds.Av1 slot)
+  pub may : MayGoOn c
   pub within : k ≤ length segment / packetLength
-  pub fits : e .start + e .bytes ≤ length out
-  pub many : m ≡ goingOn (length out - (e .start + e .bytes)) n last (drop k (packets segment))
+  pub fits : place c ≤ length out
+  pub many : m ≡ goingOn (length out - place c) n counter (drop k (packets segment))
 
-module _ {segment : Bytes} {k : ℕ} {c : Tables} {e : Extraction} {n i last : ℕ} {out : List ℕ} {m : ℕ}
-    (f : Followed segment k c e n i last out m) where
-  -- they lie within the segment, and their payloads within the output
-  pub bounded : (k + m ≤ length segment / packetLength) × (e .start + e .bytes + m * payloadLength ≤ length out)
-  bounded =
-      let b = going-bounded (length out - (e .start + e .bytes)) n last (drop k (packets segment)) in
-      let size = length-drop k (packets segment) ∙ ap (λ (x : ℕ). x - k) (length-packets (length segment / packetLength) segment) in
-      (omega (arith, b .0, size, f .many, f .within), omega (arith, b .1, f .many, f .fits))
+module _ {segment : Bytes} {k : ℕ} {c : State} {numbers : List ℕ} {n slot counter : ℕ} {out : List ℕ} {m : ℕ}
+    (f : Followed segment k c numbers n slot counter out m) where
+  -- they lie within the segment
+  pub followed-within : k + m ≤ length segment / packetLength
+  followed-within =
+      omega (arith, going-bounded (length out - place c) n counter (drop k (packets segment)) .0, left-from segment k, f .many, f .within)
 
-  -- each passes by its rules
-  module _ (some : m ≡ 0 → ⊥) (edition : Edition) (lens times : List ℕ) (before : Outputs) (st : State) (named : Named (st .tables))
-      (s : StateRepresents edition segment before (outputsOf out lens times) c e st) where
-    abbrev l : List Bytes
-    l = drop k (packets segment)
-
-    went : (out′ : List ℕ) → out′ ≡ placed out (e .start + e .bytes) (payloads m l)
-        → (st′ : State) × Pass edition segment (roomsOf before) state.Av1 m k st st′
-        × StateRepresents edition segment before (outputsOf out′ lens times) (withLast c i ((last + m) % 16) ((k + m - 1) * packetLength))
-        (longer e (m * payloadLength)) st′
-    went out′ put =
-        let may = f .may in
-        let kind = may .kind edition segment (st .tables) named (s .tables) in
-        let r : Ready c e st n i last (may .opened .0) =
-        record {
-          kind = sym (kind .0);
-          slot = kind .1;
-          clock = may .clocked;
-          opened = may .opened .1;
-          place = may .seen .0;
-          repeat = may .seen .1;
-          last = may .seen .2;
-        } in
-        let w = goes edition segment before lens times n i (may .opened .0) l k out c e st s last r refl (f .within) (f .fits) in
-        let x = subst (λ (y : ℕ). Gone edition segment before lens times n i (may .opened .0) y k out c e st last l) (sym (f .many)) w in (
-          x .reached,
-          x .passes,
-          subst (λ (y : List ℕ). StateRepresents edition segment before (outputsOf y lens times)
-              (withLast c i ((last + m) % 16) ((k + m - 1) * packetLength)) (longer e (m * payloadLength)) (x .reached))
-              (sym put)
-              (subst (λ (y : Tables). StateRepresents edition segment before
-              (outputsOf (placed out (e .start + e .bytes) (payloads m l)) lens times) y (longer e (m * payloadLength)) (x .reached))
-              (gone-some i m c last k some) (x .stands)),
-        )
-
-  pub all-went : (out′ : List ℕ) → out′ ≡ placed out (e .start + e .bytes) (payloads m (drop k (packets segment)))
-      → GoesOn segment k c e out (record { packets = m; slot = i; counter = (last + m) % 16 }) out′
-  all-went out′ put =
+  -- and are copied behind what is there of the unit
+  pub all-went : (numbers′ : List ℕ) → numbers′ ≡ lastWent numbers slot counter k m → (out′ : List ℕ)
+      → out′ ≡ placed out (place c) (payloads m (drop k (packets segment)))
+      → GoesOn segment k c numbers out (record { packets = m; av1 = true }) numbers′ out′
+  unfolding pick
+  all-went numbers′ last out′ put =
       record {
-        passes = λ edition lens times some before st named s. went some edition lens times before st named s out′ put;
-        within = bounded .0;
-        unmoved = λ z. put ∙ none-kept out (e .start + e .bytes) (drop k (packets segment)) m z;
+        passes = λ edition lens times some before st s. went edition lens times before st s;
+        within = followed-within;
+        unmoved =
+            λ z. (last ∙ ap (lastWent numbers slot counter k) z, put ∙ none-put out (place c) (drop k (packets segment)) m z);
       }
+    where
+      went : (edition : Edition) (lens times : List ℕ) (before : Outputs) (st : state.State)
+          → StateKept edition segment before (outputsOf out lens times) c numbers st
+          → (st′ : state.State) × Pass (editionSays edition) segment (roomsOf before) state.Av1 m k st st′
+          × StateKept edition segment before (outputsOf out′ lens times) (longer c (m * payloadLength)) numbers′ st′
+      went edition lens times before st s =
+          let r : Ready c st n slot counter (f .may .opened .0) =
+          record {
+            kind = sym (f .follows .kind segment (st .tables) (s .tables) .0);
+            due = due-then segment c numbers n slot counter (kinds.Av1 slot) (f .follows) refl (st .tables) (s .tables);
+            clock = ap (λ (t : Tables). isPcr (t .pcr)) (sym (s .tables .tables)) ∙ f .may .clocked;
+            opened = f .may .opened .1;
+          } in
+          let all = goes edition segment before lens times n slot (f .may .opened .0) (length segment / packetLength - k) k
+          (omega (arith, f .within)) out c numbers st s counter r (f .fits) in
+          let x = subst (λ (y : ℕ). Went edition segment before lens times n slot (f .may .opened .0) y k out c numbers st counter)
+          (sym (f .many)) all in (
+            x .reached,
+            x .passes,
+            subst (λ (y : List ℕ). StateKept edition segment before (outputsOf out′ lens times) (longer c (m * payloadLength)) y
+                (x .reached)) (sym last)
+                (subst (λ (y : List ℕ). StateKept edition segment before (outputsOf y lens times) (longer c (m * payloadLength))
+                (lastWent numbers slot counter k m) (x .reached)) (sym put) (x .kept)),
+          )
+
+-- on another listed PID
+pub record Counted (segment : Bytes) (k : ℕ) (c : State) (numbers : List ℕ) (n slot counter m : ℕ) : Type 0 where
+  pub follows : Follows c numbers n slot counter (kinds.Listed slot)
+  pub within : k ≤ length segment / packetLength
+  pub many : m ≡ countingOn n counter (drop k (packets segment))
+
+module _ {segment : Bytes} {k : ℕ} {c : State} {numbers : List ℕ} {n slot counter m : ℕ}
+    (f : Counted segment k c numbers n slot counter m) where
+  pub counted-within : k + m ≤ length segment / packetLength
+  counted-within = omega (arith, counting-bounded n counter (drop k (packets segment)), left-from segment k, f .many, f .within)
+
+  pub all-counted : (numbers′ : List ℕ) → numbers′ ≡ lastWent numbers slot counter k m → (out : List ℕ)
+      → GoesOn segment k c numbers out (record { packets = m; av1 = false }) numbers′ out
+  unfolding pick
+  all-counted numbers′ last out =
+      record {
+        passes = λ edition lens times some before st s. went edition lens times before st s;
+        within = counted-within;
+        unmoved = λ z. (last ∙ ap (lastWent numbers slot counter k) z, refl);
+      }
+    where
+      went : (edition : Edition) (lens times : List ℕ) (before : Outputs) (st : state.State)
+          → StateKept edition segment before (outputsOf out lens times) c numbers st
+          → (st′ : state.State) × Pass (editionSays edition) segment (roomsOf before) state.Listed m k st st′
+          × StateKept edition segment before (outputsOf out lens times) (longer c 0) numbers′ st′
+      went edition lens times before st s =
+          let now = outputsOf out lens times in
+          let z : c .extraction .bytes ≡ c .extraction .bytes + 0 = omega arith in
+          let all = counts edition segment before now c n slot (length segment / packetLength - k) k (omega (arith, f .within)) numbers st s
+          counter (sym (f .follows .kind segment (st .tables) (s .tables) .0))
+          (due-then segment c numbers n slot counter (kinds.Listed slot) (f .follows) refl (st .tables) (s .tables)) in
+          let x = subst (λ (y : ℕ). Gone edition segment before state.Listed slot y k numbers counter st c now) (sym (f .many)) all in (
+            x .reached,
+            x .passes,
+            subst (λ (b : ℕ). StateKept edition segment before now (with-bytes c b) numbers′ (x .reached)) z
+                (subst (λ (y : List ℕ). StateKept edition segment before now c y (x .reached)) (sym last) (x .kept)),
+          )

@@ -1,4 +1,5 @@
 pub mod Clearing
 pub mod Continuing
+pub mod Counting
 pub mod Looping
 pub mod Passing

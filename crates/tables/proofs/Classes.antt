@@ -1,46 +1,44 @@
 -- What a packet's PID is, from the tables as the code keeps them, and the last PCR that counted. Assumes nothing.
-use Prim.Native.Nat.{ℕ}
+use Prim.Native.Nat.{ℕ, suc}
 use mathlib.Core.Path.{_≡_, refl, sym, ap, _∙_}
 use mathlib.Core.List.{List, [], _∷_}
 use mathlib.Core.Option.{Option, none, some}
 use native.Mathlib.Omega.{arith}
 use borrow.Author.Tests.{eq-eqb, ne-eqb}
 use lib.Dec.{eqb}
-use lib.ListN.{getD, length-map}
-use Rattle.lists.specs.Lists.{Bytes, pick}
+use lib.ListN.{length, length-map}
+use Rattle.lists.specs.Lists.{Bytes, pick, any}
 use Rattle.lists.proofs.Picks.{by-eq, by-ne, by-true, by-false}
 use Rattle.ticks.specs.declared.Ticks27.{Ticks27}
-use Rattle.descriptor.specs.Edition.{Edition}
+use Rattle.descriptor.specs.Naming.{editionSays}
 use Rattle.packet.specs.declared.header.Clock.{Clock}
 use Rattle.packet.specs.declared.header.Clock.the-variants as clock
 use Rattle.packet.specs.declared.header.Header.{Header}
 use Rattle.packet.specs.declared.streams.Slot.{Slot}
 use Rattle.packet.specs.declared.streams.Slot.the-variants as slots
 use Rattle.packet.specs.Header.{pid, nullPid, pcr, fields}
-use Rattle.packet.specs.Counter.{recordOf}
-use Rattle.packet.specs.Streams.{listed, lookUp, pidsIn}
+use Rattle.packet.specs.Counter.{StreamRecord, pidsOf, recordOf}
+use Rattle.packet.specs.Streams.{lookUp, lookUpFrom, listedPids, numbersOf}
 use Rattle.packet.proofs.Slots.{look-up-none}
 use Rattle.packet.proofs.Recorded.{nextSlot, look-first, look-past, look-nowhere, any-at, any-none, unrecorded-none}
-use Rattle.pmt.specs.declared.section.ProgramMap.{ProgramMap}
 use Rattle.pmt.specs.Pmt.{MapEntry, isAv1, pids}
-use Rattle.pmt.specs.Answer.{noEntry, firstOf}
+use Rattle.pmt.specs.Answer.{firstOf}
 use Rattle.pmt.proofs.Passed.{slot-within, av1-pid}
 use Rattle.segment_rules.specs.State as state
 use Rattle.segment_rules.specs.State.{FirstPat, FirstPmt, isMapPid, listedAs, kindOf}
 use Rattle.segment_rules.specs.Rules.{countingPcr, lastPcr}
-use Rattle.segment_rules.specs.Named.{namedPids, Named}
+use Rattle.segment_rules.specs.Named.{namedPids}
 use Rattle.tables.specs.declared.state.Kind.{Kind}
 use Rattle.tables.specs.declared.state.Kind.the-variants as slot
 use Rattle.tables.specs.declared.state.PatFound.{PatFound}
-use Rattle.tables.specs.declared.state.PatSeen.{PatSeen}
 use Rattle.tables.specs.declared.state.PatSeen.the-variants as pat
 use Rattle.tables.specs.declared.state.PmtFound.{PmtFound}
-use Rattle.tables.specs.declared.state.PmtSeen.{PmtSeen}
 use Rattle.tables.specs.declared.state.PmtSeen.the-variants as pmt
 use Rattle.tables.specs.declared.tables.Tables.{Tables}
-use Rattle.tables.specs.Tables.{streamsIn, sectionAt, patOf, TablesRepresent, kindSays, SlotOf}
-use Rattle.tables.proofs.Standing.{pids-stand, no-pat-yet, pat-yet, no-pmt-yet, pmt-yet, neither, named-stand}
-use Rattle.tables.proofs.Mapping.{av1-slot}
+use Rattle.tables.specs.Tables.{tablesKept, Kept, kindSays, slotIn}
+use Rattle.tables.proofs.Seeing.{no-pat-yet, pat-yet, no-pmt-yet, pmt-yet, no-pat-pids, no-pmt-pids, all-pids, all-records}
+use Rattle.tables.proofs.Seeing.{pat-before, pmt-says, few-entries}
+use Rattle.packet.proofs.Keeping.{listed-kept, look-behind-two}
 
 -- ---- the lookup among the PIDs that are named
 zero-first : (n : ℕ) (q : Option FirstPat) (m : Option FirstPmt) → n ≡ 0 → lookUp n (namedPids q m) ≡ slots.At 0
@@ -53,163 +51,177 @@ map-second : (n : ℕ) (q : FirstPat) (m : Option FirstPmt) → (n ≡ 0 → ⊥
 map-second n q none z e = look-past n 0 _ z ∙ ap nextSlot (look-first n (q .says .«map_pid») _ e)
 map-second n q (some m) z e = look-past n 0 _ z ∙ ap nextSlot (look-first n (q .says .«map_pid») _ e)
 
-module _ {edition : Edition} {segment : Bytes} {c : Tables} {t : state.Tables} (h : Named t) (s : TablesRepresent edition segment c t)
-    (n : ℕ)
-  where
-    abbrev Is : Kind → Type 0
-    Is k = (kindSays k ≡ kindOf t n) × SlotOf c n k
+-- a PID that is neither of the first two is among the others, or is not
+behind-two : (n a b : ℕ) (l : List ℕ) → (n ≡ a → ⊥) → (n ≡ b → ⊥) → any (eqb n) (a ∷ b ∷ l) ≡ any (eqb n) l
+unfolding any
+behind-two n a b l z y = rw (ne-eqb n a z, ne-eqb n b y)
 
-    pub kind-null : n ≡ nullPid → Is slot.Null
+module _ {segment : Bytes} {c : Tables} {numbers : List ℕ} {t : state.Tables} (k : Kept segment c numbers t) (n : ℕ) where
+  abbrev Is : Kind → Type 0
+  Is j = (kindSays j ≡ kindOf t n) × (lookUp n (pidsOf (t .records)) ≡ slotIn j)
+
+  pub kind-null : n ≡ nullPid → Is slot.Null
+  unfolding kindOf
+  kind-null e =
+      (by-eq _ e refl, unrecorded-none n (t .records) (ap (λ (m : ℕ). recordOf m (t .records)) e ∙ k .valid .named .null))
+
+  module _ (a : n ≡ nullPid → ⊥) where
+    pub kind-pat : n ≡ 0 → Is slot.Pat
     unfolding kindOf
-    kind-null e = (
-      by-eq _ e refl,
-      ap (lookUp n) (pids-stand segment (streamsIn (c .pat) (c .pmt) (c .counters)) (t .records) (s .records))
-          ∙ unrecorded-none n (t .records) (ap (λ (m : ℕ). recordOf m (t .records)) e ∙ h .null),
-    )
+    kind-pat e = (by-ne _ a (by-eq _ e refl), ap (lookUp n) (k .valid .named .pids) ∙ zero-first n (t .pat) (t .pmt) e)
 
-    module _ (a : n ≡ nullPid → ⊥) where
-      pub kind-pat : n ≡ 0 → Is slot.Pat
+    module _ (b : n ≡ 0 → ⊥) where
+      neither-of : {j : state.Kind} → j ≡ pick (isMapPid (t .pat) n) state.Map (listedAs (t .pmt) n) → j ≡ kindOf t n
       unfolding kindOf
-      kind-pat e = (by-ne _ a (by-eq _ e refl), ap (lookUp n) (named-stand s h) ∙ zero-first n (t .pat) (t .pmt) e)
+      neither-of e = by-ne _ a (by-ne _ b e)
 
-      module _ (b : n ≡ 0 → ⊥) where
-        neither-of : {k : state.Kind} → k ≡ pick (isMapPid (t .pat) n) state.Map (listedAs (t .pmt) n) → k ≡ kindOf t n
-        unfolding kindOf
-        neither-of e = by-ne _ a (by-ne _ b e)
+      pub no-pat : c .pat ≡ pat.None → Is slot.Unlisted
+      unfolding isMapPid listedAs pick
+      no-pat e =
+          let q = no-pat-yet t (k .tables) e in
+          let m = pat-before (t .pat) (t .pmt) q (k .valid .named .patFirst) in (
+            neither-of (rw (q, m)),
+            ap (lookUp n) (no-pat-pids (k .valid) q) ∙ look-past n 0 [] b ∙ ap nextSlot (look-nowhere n),
+          )
 
-        pub no-pat : c .pat ≡ pat.None → Is slot.Unlisted
-        unfolding isMapPid listedAs pick
-        no-pat e =
-            let q = no-pat-yet s e in
-            let m = neither s h e .0 in (
-              neither-of (rw (q, m)),
-              ap (lookUp n) (named-stand s h ∙ ap (λ (x : Option FirstPat). namedPids x (t .pmt)) q) ∙ look-past n 0 [] b ∙ ap nextSlot
-                  (look-nowhere n),
+      module _ (f : PatFound) (e : c .pat ≡ pat.First f) where
+        same-pid : f .says .«map_pid» ≡ pat-yet t (k .tables) f e .0 .says .«map_pid»
+        same-pid = ap (λ (x : PatFound). x .says .«map_pid») (pat-yet t (k .tables) f e .2)
+
+        pub kind-map : n ≡ f .says .«map_pid» → Is slot.Map
+        unfolding isMapPid
+        kind-map h =
+            let first = pat-yet t (k .tables) f e in (
+              neither-of (by-true _ (ap (λ (x : Option FirstPat). isMapPid x n) (first .1) ∙ eq-eqb _ _ (h ∙ same-pid)) refl),
+              ap (lookUp n) (k .valid .named .pids ∙ ap (λ (x : Option FirstPat). namedPids x (t .pmt)) (first .1))
+                  ∙ map-second n (first .0) (t .pmt) b (h ∙ same-pid),
             )
 
-        module _ (f : PatFound) (e : c .pat ≡ pat.First f) where
-          pub kind-map : n ≡ f .says .«map_pid» → Is slot.Map
-          unfolding isMapPid
-          kind-map k = (
-            neither-of (by-true _ (ap (λ (x : Option FirstPat). isMapPid x n) (pat-yet s f e) ∙ eq-eqb n (f .says .«map_pid») k) refl),
-            ap (lookUp n) (named-stand s h ∙ ap (λ (x : Option FirstPat). namedPids x (t .pmt)) (pat-yet s f e)) ∙ map-second n
-                (record { section = sectionAt segment (f .at) (f .size); says = f .says }) (t .pmt) b k,
-          )
+        pub kind-listed : (j : Kind) → (n ≡ f .says .«map_pid» → ⊥)
+            → (kindSays j ≡ listedAs (t .pmt) n) × (lookUp n (pidsOf (t .records)) ≡ slotIn j) → Is j
+        unfolding isMapPid
+        kind-listed j d l =
+            let first = pat-yet t (k .tables) f e in (
+              neither-of (by-false _ (ap (λ (x : Option FirstPat). isMapPid x n) (first .1) ∙ ne-eqb _ _ (λ z. d (z ∙ sym same-pid)))
+                  (l .0)),
+              l .1,
+            )
 
-          pub kind-listed : (k : Kind) → (n ≡ f .says .«map_pid» → ⊥) → (kindSays k ≡ listedAs (t .pmt) n) × SlotOf c n k → Is k
-          unfolding isMapPid
-          kind-listed k d l = (
-            neither-of (by-false _ (ap (λ (x : Option FirstPat). isMapPid x n) (pat-yet s f e) ∙ ne-eqb n (f .says .«map_pid») d)
-                (l .0)),
-            l .1,
-          )
+  -- ---- among the listed PIDs
+  module _ (f : PatFound) (e : c .pat ≡ pat.First f) (b : n ≡ 0 → ⊥) (d : n ≡ f .says .«map_pid» → ⊥) where
+    abbrev ListedIs : Kind → Type 0
+    ListedIs j = (kindSays j ≡ listedAs (t .pmt) n) × (lookUp n (pidsOf (t .records)) ≡ slotIn j)
 
-    -- ---- among the listed PIDs
-    module _ (f : PatFound) (e : c .pat ≡ pat.First f) (b : n ≡ 0 → ⊥) (d : n ≡ f .says .«map_pid» → ⊥) where
-      pub no-map : c .pmt ≡ pmt.None → (kindSays slot.Unlisted ≡ listedAs (t .pmt) n) × SlotOf c n slot.Unlisted
-      unfolding listedAs
-      no-map k =
-          let m = no-pmt-yet s k in (
-            ap (λ (x : Option FirstPmt). listedAs x n) (sym m),
-            ap (lookUp n) (named-stand s h ∙ ap (λ (x : Option FirstPat). namedPids x (t .pmt)) (pat-yet s f e) ∙ ap
-                (namedPids (patOf segment (pat.First f))) m)
-                ∙ look-past n 0 _ b ∙ ap nextSlot (look-past n (f .says .«map_pid») [] d ∙ ap nextSlot (look-nowhere n)),
-          )
+    abbrev the-pat : FirstPat
+    the-pat = pat-yet t (k .tables) f e .0
 
-      module _ (g : PmtFound) (k : c .pmt ≡ pmt.First g) where
-        abbrev the-map : FirstPmt
-        the-map = pmt-yet s g k .0
+    abbrev pat-there : t .pat ≡ some the-pat
+    pat-there = pat-yet t (k .tables) f e .1
 
-        abbrev entries : List MapEntry
-        entries = the-map .says .entries
+    other : n ≡ the-pat .says .«map_pid» → ⊥
+    other z = d (z ∙ sym (ap (λ (x : PatFound). x .says .«map_pid») (pat-yet t (k .tables) f e .2)))
 
-        all-named : pidsIn (streamsIn (c .pat) (c .pmt) (c .counters)) ≡ 0 ∷ f .says .«map_pid» ∷ pids entries
-        all-named =
-            named-stand s h ∙ ap (λ (x : Option FirstPat). namedPids x (t .pmt)) (pat-yet s f e)
-            ∙ ap (namedPids (patOf segment (pat.First f))) (pmt-yet s g k .1)
+    pub no-map : c .pmt ≡ pmt.None → ListedIs slot.Unlisted
+    unfolding listedAs
+    no-map h =
+        let m = no-pmt-yet t (k .tables) h in (
+          ap (λ (x : Option FirstPmt). listedAs x n) (sym m),
+          ap (lookUp n) (no-pmt-pids (k .valid) the-pat pat-there m) ∙ look-past n 0 _ b
+              ∙ ap nextSlot (look-past n _ [] other ∙ ap nextSlot (look-nowhere n)),
+        )
 
-        listed-pids : pidsIn (listed (c .counters .listed)) ≡ pids entries
-        listed-pids = behind (sym (ap (λ (x : List ℕ). x) (go (c .pat) (c .pmt) e k)) ∙ all-named)
-          where
-            behind : {a b x y : ℕ} {l m : List ℕ} → _≡_ {A = List ℕ} (a ∷ b ∷ l) (x ∷ y ∷ m) → l ≡ m
-            behind z = cc
+    module _ (g : PmtFound) (h : c .pmt ≡ pmt.First g) where
+      abbrev the-map : FirstPmt
+      the-map = pmt-yet t (k .tables) g h .0
 
-            go : (q : PatSeen) (m : PmtSeen) → q ≡ pat.First f → m ≡ pmt.First g
-                → pidsIn (streamsIn q m (c .counters)) ≡ c .counters .pat .pid ∷ c .counters .map .pid ∷ pidsIn
-                (listed (c .counters .listed))
-            go pat.None m x y = let z : _≡_ {A = ℕ} 0 1 = cc in absurd (omega arith)
-            go (pat.First _) pmt.None x y = let z : _≡_ {A = ℕ} 0 1 = cc in absurd (omega arith)
-            go (pat.First _) (pmt.First _) x y = refl
+      abbrev map-there : t .pmt ≡ some the-map
+      map-there = pmt-yet t (k .tables) g h .1
 
-        module _ (l : Slot) (looked : l ≡ lookUp n (pidsIn (listed (c .counters .listed)))) where
-          in-entries : lookUp n (pids entries) ≡ l
-          in-entries = sym (looked ∙ ap (lookUp n) listed-pids)
+      abbrev entries : List MapEntry
+      entries = the-map .says .entries
 
-          in-all : lookUp n (pidsIn (streamsIn (c .pat) (c .pmt) (c .counters))) ≡ nextSlot (nextSlot l)
-          in-all =
-              ap (lookUp n) all-named ∙ look-past n 0 _ b ∙ ap nextSlot (look-past n (f .says .«map_pid») (pids entries) d)
-              ∙ ap (λ (x : Slot). nextSlot (nextSlot x)) in-entries
+      abbrev named : pidsOf (t .records) ≡ 0 ∷ the-pat .says .«map_pid» ∷ pids entries
+      named = all-pids (k .valid) the-pat pat-there the-map map-there
 
-          seen-as : {x : state.Kind} → x ≡ listedAs (some the-map) n → x ≡ listedAs (t .pmt) n
-          seen-as z = z ∙ ap (λ (m : Option FirstPmt). listedAs m n) (sym (pmt-yet s g k .1))
+      -- the code looks among the listed PIDs alone
+      module _ (l : Slot) (looked : l ≡ lookUpFrom 2 n (listedPids (g .listed) numbers)) where
+        in-all : lookUp n (pidsOf (t .records)) ≡ l
+        in-all =
+            let all = all-records (k .valid) the-pat pat-there the-map map-there in
+            let rest = all .2 in
+            let few = few-entries (k .valid) the-pat pat-there the-map map-there in
+            let count = ap (λ (x : PmtFound). x .listed) (pmt-yet t (k .tables) g h .2) in
+            let many : g .listed ≡ length rest =
+            count ∙ sym (length-map entries (λ (x : MapEntry). x .pid)) ∙ sym (ap length (all .4))
+            ∙ length-map rest (λ (x : StreamRecord). x .pid) in
+            ap (lookUp n) named ∙ look-behind-two n 0 _ (pids entries) b other
+            ∙ ap (lookUpFrom 2 n) (sym (all .4) ∙ sym (listed-kept (all .0) (all .1) rest (omega (arith, few, count, many)))
+            ∙ ap (λ (x : List StreamRecord). listedPids (length rest) (numbersOf x)) (sym (all .3))
+            ∙ ap (listedPids (length rest)) (sym (k .records)) ∙ ap (λ (x : ℕ). listedPids x numbers) (sym many))
+            ∙ sym looked
 
-          pub in-no-slot : l ≡ slots.None → (kindSays slot.Unlisted ≡ listedAs (t .pmt) n) × SlotOf c n slot.Unlisted
+        seen-as : {x : state.Kind} → x ≡ listedAs (some the-map) n → x ≡ listedAs (t .pmt) n
+        seen-as z = z ∙ ap (λ (m : Option FirstPmt). listedAs m n) (sym map-there)
+
+        found : lookUp n (0 ∷ the-pat .says .«map_pid» ∷ pids entries) ≡ l
+        found = ap (lookUp n) (sym named) ∙ in-all
+
+        among : any (eqb n) (0 ∷ the-pat .says .«map_pid» ∷ pids entries) ≡ any (eqb n) (pids entries)
+        among = behind-two n 0 (the-pat .says .«map_pid») (pids entries) b other
+
+        pub in-no-slot : l ≡ slots.None → ListedIs slot.Unlisted
+        unfolding listedAs
+        in-no-slot z =
+            let one = pmt-says (k .valid) the-pat pat-there the-map map-there .one in
+            let rules = editionSays (c .edition) in
+            let within = slot-within rules entries (the-map .says .av1) one in
+            let not-av1 : n ≡ the-map .says .av1 .pid → ⊥ =
+            λ y. look-up-none n (0 ∷ the-pat .says .«map_pid» ∷ pids entries) (found ∙ z) (suc (suc (firstOf (isAv1 rules) entries)))
+            (omega (arith, within, length-map entries (λ (x : MapEntry). x .pid)))
+            (av1-pid rules entries (the-map .says .av1) one ∙ sym y) in (
+              seen-as (by-ne _ not-av1 (by-false _ (sym among ∙ any-none n _ (found ∙ z)) refl)),
+              in-all ∙ z,
+            )
+
+        module _ (i : ℕ) (z : l ≡ slots.At i) where
+          av1-there : g .«av1_pid» ≡ the-map .says .av1 .pid
+          av1-there = ap (λ (x : PmtFound). x .«av1_pid») (pmt-yet t (k .tables) g h .2)
+
+          pub as-av1 : n ≡ g .«av1_pid» → ListedIs (slot.Av1 i)
           unfolding listedAs
-          in-no-slot z =
-              let nowhere = in-entries ∙ z in
-              let one = pmt-yet s g k .2 .one in
-              let within = slot-within edition entries (the-map .says .av1) one in
-              let other : n ≡ the-map .says .av1 .pid → ⊥ =
-              λ y. look-up-none n (pids entries) nowhere (firstOf (isAv1 edition) entries)
-              (omega (arith, within, length-map entries (λ (x : MapEntry). x .pid)))
-              (av1-pid edition entries (the-map .says .av1) one ∙ sym y) in (
-                seen-as (by-ne _ other (by-false _ (any-none n (pids entries) nowhere) refl)),
-                in-all ∙ ap
-                    (λ (x : Slot). nextSlot (nextSlot x)) z,
-              )
+          as-av1 y = (seen-as (by-eq _ (y ∙ av1-there) refl), in-all ∙ z)
 
-          module _ (i : ℕ) (z : l ≡ slots.At i) (r : ℕ) (pidThere : r ≡ getD (c .map .entries) (c .map .av1) noEntry .pid) where
-            av1-there : r ≡ the-map .says .av1 .pid
-            av1-there =
-                pidThere ∙ ap (λ (x : ProgramMap). getD (x .entries) (x .av1) noEntry .pid) (pmt-yet s g k .2 .says)
-                ∙ av1-slot edition entries (the-map .says .av1) (pmt-yet s g k .2 .one)
-
-            pub as-av1 : n ≡ r → (kindSays (slot.Av1 i) ≡ listedAs (t .pmt) n) × SlotOf c n (slot.Av1 i)
-            unfolding listedAs
-            as-av1 y = (seen-as (by-eq _ (y ∙ av1-there) refl), in-all ∙ ap (λ (x : Slot). nextSlot (nextSlot x)) z)
-
-            pub as-other : (n ≡ r → ⊥) → (kindSays (slot.Listed i) ≡ listedAs (t .pmt) n) × SlotOf c n (slot.Listed i)
-            unfolding listedAs
-            as-other y = (
-              seen-as (by-ne _ (λ w. y (w ∙ sym av1-there)) (by-true _ (any-at n (pids entries) i (in-entries ∙ z)) refl)),
-              in-all ∙ ap (λ (x : Slot). nextSlot (nextSlot x)) z,
-            )
+          pub as-other : (n ≡ g .«av1_pid» → ⊥) → ListedIs (slot.Listed i)
+          unfolding listedAs
+          as-other y = (
+            seen-as (by-ne _ (λ w. y (w ∙ sym av1-there)) (by-true _ (sym among ∙ any-at n _ i (found ∙ z)) refl)),
+            in-all ∙ z,
+          )
 
 -- ---- the last PCR that counted
-module _ {edition : Edition} {segment : Bytes} {c : Tables} {t : state.Tables} (p : Bytes) (h : Header) (e : h ≡ fields p)
-    (s : TablesRepresent edition segment c t) where
+module _ {c : Tables} (t : state.Tables) (kept : c ≡ tablesKept (c .edition) t) (p : Bytes) (h : Header) (e : h ≡ fields p) where
   abbrev last : Clock
   last = lastPcr (t .pcr) (countingPcr (t .pmt) p)
 
   as-before : countingPcr (t .pmt) p ≡ clock.None → c .pcr ≡ last
-  as-before k = s .pcr ∙ ap (lastPcr (t .pcr)) (sym k)
+  as-before k = ap (λ (x : Tables). x .pcr) kept ∙ ap (lastPcr (t .pcr)) (sym k)
 
   pub no-map-yet : c .pmt ≡ pmt.None → c .pcr ≡ last
   unfolding countingPcr
-  no-map-yet k = as-before (ap (λ (m : Option FirstPmt). countingPcr m p) (no-pmt-yet s k))
+  no-map-yet k = as-before (ap (λ (m : Option FirstPmt). countingPcr m p) (no-pmt-yet t kept k))
 
   module _ (g : PmtFound) (k : c .pmt ≡ pmt.First g) where
-    pcr-pid : c .map .«pcr_pid» ≡ pmt-yet s g k .0 .says .pcrPid
-    pcr-pid = ap (λ (x : ProgramMap). x .«pcr_pid») (pmt-yet s g k .2 .says)
+    pcr-pid : g .«pcr_pid» ≡ pmt-yet t kept g k .0 .says .pcrPid
+    pcr-pid = ap (λ (x : PmtFound). x .«pcr_pid») (pmt-yet t kept g k .2)
 
-    counts-by : countingPcr (t .pmt) p ≡ pick (eqb (pid p) (pmt-yet s g k .0 .says .pcrPid)) (pcr p) clock.None
+    counts-by : countingPcr (t .pmt) p ≡ pick (eqb (pid p) (pmt-yet t kept g k .0 .says .pcrPid)) (pcr p) clock.None
     unfolding countingPcr
-    counts-by = ap (λ (m : Option FirstPmt). countingPcr m p) (pmt-yet s g k .1)
+    counts-by = ap (λ (m : Option FirstPmt). countingPcr m p) (pmt-yet t kept g k .1)
 
-    pub another-pid : (h .pid ≡ c .map .«pcr_pid» → ⊥) → c .pcr ≡ last
+    pub another-pid : (h .pid ≡ g .«pcr_pid» → ⊥) → c .pcr ≡ last
     another-pid n = as-before (counts-by ∙ sym (by-ne _ (λ z. n (ap (λ (x : Header). x .pid) e ∙ z ∙ sym pcr-pid)) refl))
 
-    module _ (q : h .pid ≡ c .map .«pcr_pid») where
+    module _ (q : h .pid ≡ g .«pcr_pid») where
       here : countingPcr (t .pmt) p ≡ h .pcr
       here = counts-by ∙ sym (by-eq _ (sym (ap (λ (x : Header). x .pid) e) ∙ q ∙ pcr-pid) (ap (λ (x : Header). x .pcr) e))
 

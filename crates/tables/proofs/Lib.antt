@@ -1,6 +1,6 @@
+pub mod Refining
+pub mod Seeing
 pub mod Classes
 pub mod Counting
-pub mod Mapping
 pub mod Reading
-pub mod Standing
-pub mod Refining
+pub mod Mapping

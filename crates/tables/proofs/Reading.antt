@@ -1,21 +1,21 @@
--- Sections: where one lies in the segment, and the rules of the first and of a later PAT or PMT, from what the code found. Assumes nothing.
-use Prim.Native.Nat.{ℕ, _+_, _-_, _≤_}
+-- Sections: the rules of the first and of a later PAT or PMT, from what the code found, and what is kept after them. Assumes nothing.
+use Prim.Native.Nat.{ℕ}
 use mathlib.Core.Bool.{Bool, true, false, not}
 use mathlib.Core.Path.{_≡_, refl, sym, ap, ap₂, subst, _∙_}
-use mathlib.Core.List.{[], _∷_, _++_}
-use mathlib.Core.Option.{Option, none, some}
+use mathlib.Core.List.{List, [], _∷_}
+use mathlib.Core.Option.{Option, none}
 use native.Mathlib.Omega.{arith}
-use lib.ListN.{length, take, drop, drop-of-length-le}
-use lib.Seq.{take-take, drop-drop}
+use lib.ListN.{length, take, drop}
 use Rattle.lists.specs.Lists.{Bytes, same}
-use Rattle.lists.proofs.Parts.{drop-take}
 use Rattle.refusal.specs.Verdict.{Verdict, passed, refused}
 use Rattle.refusal.specs.Number.{refusedBy}
 use Rattle.refusal.specs.declared.Refused.{Refused}
 use Rattle.refusal.proofs.Verdicts.{refuse, pass-on, go-on, stop}
 use Rattle.descriptor.specs.Edition.{Edition}
-use Rattle.packet.specs.declared.counter.Stream.{Stream}
-use Rattle.packet.specs.Counter.{named, Represents}
+use Rattle.descriptor.specs.Naming.{editionSays}
+use Rattle.packet.specs.declared.header.Clock.{Clock}
+use Rattle.packet.specs.Counter.{named}
+use Rattle.packet.specs.Streams.{numbersOf, withPid}
 use Rattle.psi.specs.Section.{foundIn}
 use Rattle.psi.specs.Pat.{readPat, patSays}
 use Rattle.psi.specs.declared.pat.Program.{Program}
@@ -26,10 +26,9 @@ use Rattle.psi.proofs.Sections.{found-lies, found-misplaced}
 use Rattle.segment_rules.specs.State as state
 use Rattle.segment_rules.specs.State.{FirstPat, FirstPmt, withPat}
 use Rattle.segment_rules.specs.Rules.{laterSection, patSection, pmtSection, sectionRead}
-use Rattle.segment_rules.specs.Named.{Named}
+use Rattle.segment_rules.specs.Lying.{sectionIn}
 use Rattle.tables.specs.declared.state.Kind.{Kind}
 use Rattle.tables.specs.declared.state.PatFound.{PatFound}
-use Rattle.tables.specs.declared.state.PatSeen.{PatSeen}
 use Rattle.tables.specs.declared.state.PatSeen.the-variants as pat
 use Rattle.tables.specs.declared.state.PmtFound.{PmtFound}
 use Rattle.tables.specs.declared.state.PmtSeen.{PmtSeen}
@@ -38,34 +37,14 @@ use Rattle.tables.specs.declared.state.Outcome.{Outcome}
 use Rattle.tables.specs.declared.state.Outcome.the-variants as outcome
 use Rattle.tables.specs.declared.tables.Tables.{Tables}
 use Rattle.tables.specs.declared.tables.TablesResult.{TablesResult}
-use Rattle.tables.specs.Tables.{Refines, streamsIn, RecordsRepresent, sectionAt, LiesAt, TablesRepresent, kindSays, CarriesOut}
+use Rattle.tables.specs.Tables.{Refines, tablesKept, Kept, kindSays}
 use Rattle.tables.proofs.Refining.{refines-also, refines-as}
-use Rattle.tables.proofs.Standing.{stands-append, no-pat-yet, pat-yet, pmt-yet, neither}
+use Rattle.tables.proofs.Seeing.{no-pat-yet, pat-yet, pmt-yet, one-record, pat-lies, pmt-lies}
+use Rattle.packet.proofs.Keeping.{pid-kept}
 
--- ---- places of the segment
--- from beyond its last byte on there is nothing
-pub beyond : (segment : Bytes) (m n : ℕ) → length segment ≤ m → length segment ≤ n → drop m segment ≡ drop n segment
-beyond segment m n h k = drop-of-length-le segment {i = m} h ∙ sym (drop-of-length-le segment {i = n} k)
-
--- the same bytes lie where the segment goes on in the same way
-pub lies-also : (segment : Bytes) (m n : ℕ) (s : Bytes) → drop m segment ≡ drop n segment → LiesAt segment n s → LiesAt segment m s
-lies-also segment m n s e l = l ∙ ap (take (length s)) (sym e)
-
--- where a section lies: n bytes behind the pointer of a payload that lies in the segment
-part-lies : (segment payload : Bytes) (at n : ℕ) → LiesAt segment at payload → 1 + n ≤ length payload → sectionAt segment (at + 1) n ≡ take
-    n (drop 1 payload)
-part-lies segment payload at n e h =
-    ap (take n) (sym (drop-drop 1 at segment))
-    ∙ sym (take-take n (length payload - 1) (drop 1 (drop at segment)) (omega arith))
-    ∙ ap (take n) (sym (drop-take 1 (length payload) (drop at segment) (omega arith)) ∙ ap (drop 1) (sym e))
-
-pub section-lies : (segment payload : Bytes) (at n : ℕ) (start : Bool) (section : Bytes) → LiesAt segment at payload → foundIn start payload
-    ≡ Section n
-    → section ≡ take n (drop 1 payload) → LiesAt segment (at + 1) section
-section-lies segment payload at n start section e f g =
-    let l = found-lies start payload n f in
-    let long : n ≡ length section = sym (ap length (g ∙ l .part) ∙ l .long) in
-    g ∙ sym (part-lies segment payload at n e (l .within)) ∙ ap (sectionAt segment (at + 1)) long
+-- the code's tables and numbers after a turn are what is kept of the tables that the rule gives
+abbrev pub After : Tables → Tables → List ℕ → state.Tables → Type 0
+After c d numbers t = (d ≡ tablesKept (c .edition) t) × (numbers ≡ numbersOf (t .records))
 
 -- ---- a later section
 module _ (number : ℕ) (first section : Bytes) (t : state.Tables) where
@@ -77,129 +56,132 @@ module _ (number : ℕ) (first section : Bytes) (t : state.Tables) where
   unfolding laterSection
   later-other e = sym (refuse number (passed t) (ap not e))
 
--- ---- the PAT
-module _ {edition : Edition} {segment : Bytes} {c : Tables} {t : state.Tables} (h : Named t) (s : TablesRepresent edition segment c t)
-    (section : Bytes) where
-  abbrev rule : Verdict state.Tables
-  rule = patSection (t .pat) section t
+module _ {segment : Bytes} {c : Tables} {numbers : List ℕ} {t : state.Tables} (k : Kept segment c numbers t) where
+  -- it leaves all as it was
+  later : (number : ℕ) (first section : Bytes) (o : Outcome) (v : Verdict state.Tables) → laterSection number first section t ≡ v
+      → Refines o (laterSection number first section t) (λ u. u ≡ t) → Refines o v (After c c numbers)
+  later number first section o v e l =
+      refines-as _ (After c c numbers) v o e
+      (refines-also _ (λ u. u ≡ t) (After c c numbers) o l (λ u _ z. subst (After c c numbers) (sym z) (k .tables, k .records)))
 
-  -- the first
-  module _ (e : c .pat ≡ pat.None) where
-    first : {v : Verdict state.Tables} → v ≡ patSection none section t → v ≡ rule
-    first k = k ∙ ap (λ (x : Option FirstPat). patSection x section t) (sym (no-pat-yet s e))
+  module _ (i : ℕ) (section : Bytes) where
+    abbrev patRule : Verdict state.Tables
+    patRule = patSection i (t .pat) section t
 
-    pub pat-refused : (a : PatRead) (r : Refused) → a ≡ answer.Refused r → patSays a ≡ readPat section → rule ≡ refusedBy r
+    -- ---- the first PAT
+    module _ (e : c .pat ≡ pat.None) where
+      first : {v : Verdict state.Tables} → v ≡ patSection i none section t → v ≡ patRule
+      first h = h ∙ ap (λ (x : Option FirstPat). patSection i x section t) (sym (no-pat-yet t (k .tables) e))
+
+      pub pat-refused : (a : PatRead) (r : Refused) → a ≡ answer.Refused r → patSays a ≡ readPat section → patRule ≡ refusedBy r
+      unfolding patSection
+      pat-refused a r f g = sym (first (stop _ _ _ (sym g ∙ ap patSays f)))
+
+      pub pat-read : (a : PatRead) (p : Program) (after : List ℕ) → a ≡ answer.Program p → patSays a ≡ readPat section
+          → after ≡ withPid numbers 1 (p .«map_pid»)
+          → Refines outcome.Passed patRule
+          (After c
+          (record {
+            edition = c .edition;
+            pat = pat.First (record { packet = i; says = p });
+            pmt = c .pmt;
+            pcr = c .pcr;
+          }) after)
+      unfolding patSection
+      pat-read a p after f g put =
+          let one : length (t .records) ≡ 1 = ap length (one-record (k .valid) (no-pat-yet t (k .tables) e) .1) in (
+            withPat (record { packet = i; section = section; says = p }) (named (p .«map_pid») ∷ []) t,
+            sym (first (go-on p _ (sym g ∙ ap patSays f) refl)),
+            (
+              ap₂ (λ (m : PmtSeen) (x : Clock). record {
+                edition = c .edition;
+                pat = pat.First (record { packet = i; says = p });
+                pmt = m;
+                pcr = x;
+              })
+                  (ap (λ (x : Tables). x .pmt) (k .tables)) (ap (λ (x : Tables). x .pcr) (k .tables)),
+              put ∙ ap₂ (λ (x : List ℕ) (n : ℕ). withPid x n (p .«map_pid»)) (k .records) (sym one)
+                  ∙ pid-kept (t .records) (p .«map_pid») (omega (arith, one)),
+            ),
+          )
+
+    -- a later one
+    pub pat-later : (f : PatFound) (earlier : Bytes) (o : Outcome) → c .pat ≡ pat.First f → earlier ≡ sectionIn segment (f .packet)
+        → Refines o (laterSection 25 earlier section t) (λ u. u ≡ t) → Refines o patRule (After c c numbers)
     unfolding patSection
-    pat-refused a r f g = sym (first (stop _ _ _ (sym g ∙ ap patSays f)))
+    pat-later f earlier o e h l =
+        let q = pat-yet t (k .tables) f e in
+        later 25 earlier section o patRule
+        (ap (λ (x : Bytes). laterSection 25 x section t)
+        (h ∙ ap (λ (x : PatFound). sectionIn segment (x .packet)) (q .2) ∙ sym (pat-lies (k .valid) (q .0) (q .1)))
+        ∙ ap (λ (x : Option FirstPat). patSection i x section t) (sym (q .1))) l
 
-    pub pat-read : (at : ℕ) (a : PatRead) (p : Program) (m : Stream) → LiesAt segment at section → a ≡ answer.Program p → patSays a ≡
-        readPat section
-        → Represents segment m (named (p .«map_pid»))
-        → Refines outcome.Passed rule
-        (TablesRepresent edition segment
-        (record {
-          edition = c .edition;
-          pat = pat.First (record { says = p; at = at; size = length section });
-          pmt = c .pmt;
-          map = c .map;
-          counters = record { pat = c .counters .pat; map = m; listed = c .counters .listed };
-          pcr = c .pcr;
-        }))
-    unfolding patSection
-    pat-read at a p m lies f g st =
-        let none-yet = neither s h e .1 in
-        let one : RecordsRepresent segment (c .counters .pat ∷ []) (t .records) =
-        subst (λ (x : PatSeen). RecordsRepresent segment (streamsIn x (c .pmt) (c .counters)) (t .records)) e (s .records) in (
-          withPat (record { section = section; says = p }) (named (p .«map_pid») ∷ []) t,
-          sym (first (go-on p _ (sym g ∙ ap patSays f) refl)),
-          record {
-            follows = s .follows;
-            pat = ap (λ (x : Bytes). some (record { section = x; says = p })) lies;
-            pmt = s .pmt;
-            records =
-                subst (λ (x : PmtSeen). RecordsRepresent segment (streamsIn (pat.First
-                (record { says = p; at = at; size = length section })) x
-                (record { pat = c .counters .pat; map = m; listed = c .counters .listed })) (t .records ++ (named (p .«map_pid») ∷ [])))
-                (sym none-yet)
-                (stands-append segment (c .counters .pat ∷ []) (m ∷ []) (t .records) (named (p .«map_pid») ∷ []) one (st, tt));
-            pcr = s .pcr;
-          },
-        )
+    -- ---- the PMT
+    abbrev pmtRule : Verdict state.Tables
+    pmtRule = pmtSection (editionSays (c .edition)) i (t .pat) (t .pmt) section t
 
-  -- a later one
-  pub pat-later : (f : PatFound) (earlier : Bytes) (o : Outcome) → c .pat ≡ pat.First f → earlier ≡ sectionAt segment (f .at) (f .size)
-      → Refines o (laterSection 25 earlier section t) (λ u. u ≡ t) → Refines o rule (TablesRepresent edition segment c)
-  unfolding patSection
-  pat-later f earlier o e k l =
-      refines-as _ (TablesRepresent edition segment c) rule o
-      (ap (λ (x : Bytes). laterSection 25 x section t) k ∙ ap (λ (x : Option FirstPat). patSection x section t) (sym (pat-yet s f e)))
-      (refines-also _ (λ u. u ≡ t) (TablesRepresent edition segment c) o l (λ u _ z. subst (TablesRepresent edition segment c) (sym z) s))
+    -- before the PAT
+    pub pmt-skipped : c .pat ≡ pat.None → pmtRule ≡ passed t
+    unfolding pmtSection
+    pmt-skipped e =
+        ap (λ (x : Option FirstPat). pmtSection (editionSays (c .edition)) i x (t .pmt) section t) (no-pat-yet t (k .tables) e)
 
--- ---- the PMT
-module _ {edition : Edition} {segment : Bytes} {c : Tables} {t : state.Tables} (s : TablesRepresent edition segment c t)
-    (section : Bytes) where
-  -- before the PAT
-  pub pmt-skipped : c .pat ≡ pat.None → pmtSection edition (t .pat) (t .pmt) section t ≡ passed t
-  unfolding pmtSection
-  pmt-skipped e = ap (λ (x : Option FirstPat). pmtSection edition x (t .pmt) section t) (no-pat-yet s e)
+    -- a later one
+    pub pmt-later : (f : PatFound) (g : PmtFound) (earlier : Bytes) (o : Outcome) → c .pat ≡ pat.First f → c .pmt ≡ pmt.First g
+        → earlier ≡ sectionIn segment (g .packet) → Refines o (laterSection 26 earlier section t) (λ u. u ≡ t)
+        → Refines o pmtRule (After c c numbers)
+    unfolding pmtSection
+    pmt-later f g earlier o e d h l =
+        let q = pat-yet t (k .tables) f e in
+        let m = pmt-yet t (k .tables) g d in
+        later 26 earlier section o pmtRule
+        (ap (λ (x : Bytes). laterSection 26 x section t)
+        (h ∙ ap (λ (x : PmtFound). sectionIn segment (x .packet)) (m .2) ∙ sym (pmt-lies (k .valid) (q .0) (q .1) (m .0) (m .1)))
+        ∙ ap₂ (λ (x : Option FirstPat) (y : Option FirstPmt). pmtSection (editionSays (c .edition)) i x y section t) (sym (q .1)) (sym
+        (m .1))) l
 
-  -- a later one
-  pub pmt-later : (f : PatFound) (g : PmtFound) (earlier : Bytes) (o : Outcome) → c .pat ≡ pat.First f → c .pmt ≡ pmt.First g
-      → earlier ≡ sectionAt segment (g .at) (g .size) → Refines o (laterSection 26 earlier section t) (λ u. u ≡ t)
-      → Refines o (pmtSection edition (t .pat) (t .pmt) section t) (TablesRepresent edition segment c)
-  unfolding pmtSection
-  pmt-later f g earlier o e k i l =
-      let m = pmt-yet s g k in
-      refines-as _ (TablesRepresent edition segment c) _ o
-      (ap (λ (x : Bytes). laterSection 26 x section t) (i ∙ sym (m .2 .section))
-      ∙ ap₂ (λ (x : Option FirstPat) (y : Option FirstPmt). pmtSection edition x y section t) (sym (pat-yet s f e)) (sym (m .1)))
-      (refines-also _ (λ u. u ≡ t) (TablesRepresent edition segment c) o l (λ u _ z. subst (TablesRepresent edition segment c) (sym z) s))
+  -- ---- a turn that passes, or refuses, at once
+  module _ (v : Verdict state.Tables) (r : TablesResult) where
+    pub passes : r ≡ record { tables = c; outcome = outcome.Passed } → v ≡ passed t → Refines (r .outcome) v (After c (r .tables) numbers)
+    passes e f =
+        subst (λ (x : TablesResult). Refines (x .outcome) v (After c (x .tables) numbers)) (sym e) (t, f, (k .tables, k .records))
+
+    pub refuses : (q : Refused) → r ≡ record { tables = c; outcome = outcome.Refused q } → v ≡ refusedBy q
+        → Refines (r .outcome) v (After c (r .tables) numbers)
+    refuses q e f = subst (λ (x : TablesResult). Refines (x .outcome) v (After c (x .tables) numbers)) (sym e) f
+
+-- one that passes with other tables
+pub gives : (c : Tables) (v : Verdict state.Tables) (r : TablesResult) (d : Tables) (after : List ℕ)
+    → r ≡ record { tables = d; outcome = outcome.Passed } → Refines outcome.Passed v (After c d after)
+    → Refines (r .outcome) v (After c (r .tables) after)
+gives c v r d after e f = subst (λ (x : TablesResult). Refines (x .outcome) v (After c (x .tables) after)) (sym e) f
 
 -- ---- the payload of a packet
-module _ (edition : Edition) (start : Bool) (payload : Bytes) (t : state.Tables) where
-  pub pat-misplaced : foundIn start payload ≡ Misplaced → sectionRead edition state.Pat start payload t ≡ refused 25 0
+module _ (edition : Edition) (i : ℕ) (start : Bool) (payload : Bytes) (t : state.Tables) where
+  pub pat-misplaced : foundIn start payload ≡ Misplaced → sectionRead edition state.Pat i start payload t ≡ refused 25 0
   unfolding sectionRead
   pat-misplaced e = sym (refuse 25 _ (found-misplaced start payload e))
 
   pub pat-placed : (n : ℕ) (section : Bytes) → foundIn start payload ≡ Section n → section ≡ take n (drop 1 payload)
-      → patSection (t .pat) section t ≡ sectionRead edition state.Pat start payload t
+      → patSection i (t .pat) section t ≡ sectionRead edition state.Pat i start payload t
   unfolding sectionRead
   pat-placed n section e g =
       let l = found-lies start payload n e in
-      pass-on 25 (l .placed) (ap (λ (x : Bytes). patSection (t .pat) x t) (g ∙ l .part))
+      pass-on 25 (l .placed) (ap (λ (x : Bytes). patSection i (t .pat) x t) (g ∙ l .part))
 
-  pub pmt-misplaced : foundIn start payload ≡ Misplaced → sectionRead edition state.Map start payload t ≡ refused 26 0
+  pub pmt-misplaced : foundIn start payload ≡ Misplaced → sectionRead edition state.Map i start payload t ≡ refused 26 0
   unfolding sectionRead
   pmt-misplaced e = sym (refuse 26 _ (found-misplaced start payload e))
 
   pub pmt-placed : (n : ℕ) (section : Bytes) → foundIn start payload ≡ Section n → section ≡ take n (drop 1 payload)
-      → pmtSection edition (t .pat) (t .pmt) section t ≡ sectionRead edition state.Map start payload t
+      → pmtSection edition i (t .pat) (t .pmt) section t ≡ sectionRead edition state.Map i start payload t
   unfolding sectionRead
   pmt-placed n section e g =
       let l = found-lies start payload n e in
-      pass-on 26 (l .placed) (ap (λ (x : Bytes). pmtSection edition (t .pat) (t .pmt) x t) (g ∙ l .part))
+      pass-on 26 (l .placed) (ap (λ (x : Bytes). pmtSection edition i (t .pat) (t .pmt) x t) (g ∙ l .part))
 
--- ---- a turn that passes, or refuses, at once
-module _ {edition : Edition} {segment : Bytes} {c : Tables} (step : state.Tables → Verdict state.Tables) (r : TablesResult) where
-  pub passes : r ≡ record { tables = c; outcome = outcome.Passed }
-      → ((t : state.Tables) → TablesRepresent edition segment c t → step t ≡ passed t) → CarriesOut edition segment c r step
-  passes e f t h s =
-      subst (λ (x : TablesResult). Refines (x .outcome) (step t) (TablesRepresent edition segment (x .tables))) (sym e) (t, f t s, s)
-
-  pub refuses : (q : Refused) → r ≡ record { tables = c; outcome = outcome.Refused q }
-      → ((t : state.Tables) → TablesRepresent edition segment c t → step t ≡ refusedBy q)
-      → CarriesOut edition segment c r step
-  refuses q e f t h s =
-      subst (λ (x : TablesResult). Refines (x .outcome) (step t) (TablesRepresent edition segment (x .tables))) (sym e) (f t s)
-
-  -- the same of another step that says the same
-  pub carries-as : (other : state.Tables → Verdict state.Tables) → ((t : state.Tables) → other t ≡ step t) → CarriesOut edition segment c r
-      other → CarriesOut edition segment c r step
-  carries-as other e k t h s = refines-as (other t) (TablesRepresent edition segment (r .tables)) (step t) (r .outcome) (e t) (k t h s)
-
--- the payload of a packet, by the kind of its PID
-pub by-kind : {edition : Edition} {segment : Bytes} {c : Tables} (k j : Kind) (start : Bool) (payload : Bytes) (r : TablesResult) → k ≡ j
-    → CarriesOut edition segment c r (sectionRead edition (kindSays j) start payload) → CarriesOut edition segment c r
-    (sectionRead edition (kindSays k) start payload)
-by-kind {edition} {segment} {c} k j start payload r e h =
-    subst (λ (x : Kind). CarriesOut edition segment c r (sectionRead edition (kindSays x) start payload)) (sym e) h
+  -- by the kind of its PID
+  pub by-kind : (k j : Kind) → k ≡ j → (o : Outcome) (S : state.Tables → Type 0)
+      → Refines o (sectionRead edition (kindSays j) i start payload t) S
+      → Refines o (sectionRead edition (kindSays k) i start payload t) S
+  by-kind k j e o S h = subst (λ (x : Kind). Refines o (sectionRead edition (kindSays x) i start payload t) S) (sym e) h

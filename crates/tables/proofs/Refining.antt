@@ -1,20 +1,17 @@
 -- Laws of `Refines`: from an outcome and the verdict to a step that is carried out, and back. Assumes nothing.
 use Prim.Native.Nat.{ℕ}
-use mathlib.Core.Path.{_≡_, refl, sym, ap, ap₂, subst, _∙_}
+use mathlib.Core.Bool.{Bool, false}
+use mathlib.Core.Path.{_≡_, sym, ap, subst, _∙_}
+use mathlib.Core.List.{List}
 use native.Mathlib.Omega.{arith}
-use Rattle.lists.specs.Lists.{Bytes}
 use Rattle.refusal.specs.Verdict.{Verdict, passed, _>>=_, atPlace}
 use Rattle.refusal.specs.Number.{refusedBy}
 use Rattle.refusal.specs.declared.Refused.{Refused}
-use Rattle.descriptor.specs.Edition.{Edition}
-use Rattle.descriptor.specs.declared.edition.Edition.{Edition as EditionName}
-use Rattle.segment_rules.specs.State as state
 use Rattle.tables.specs.declared.state.Outcome.{Outcome}
 use Rattle.tables.specs.declared.state.Outcome.the-variants as outcome
 use Rattle.tables.specs.declared.tables.Tables.{Tables}
 use Rattle.tables.specs.declared.tables.TablesResult.{TablesResult}
-use Rattle.tables.specs.Tables.{Refines, placedAt, TablesRepresent, freshTables, SectionRefused}
-use Rattle.tables.specs.Parts.{handedBack}
+use Rattle.tables.specs.Tables.{Refines, placedAt, CounterRefused, SectionRefused}
 
 -- it did not pass
 pub never-passed : {P : Type 0} {o : Outcome} (q : Refused) → o ≡ outcome.Refused q → o ≡ outcome.Passed → P
@@ -55,41 +52,22 @@ module _ {A : Type 0} (v : Verdict A) (S : A → Type 0) where
   refines-then {B} T f outcome.Passed t k = (f (t .0), ap (λ (w : Verdict A). w >>= λ a. passed (f a)) (t .1), k (t .0) (t .1) (t .2))
   refines-then {B} T f (outcome.Refused q) t k = ap (λ (w : Verdict A). w >>= λ a. passed (f a)) t
 
--- ---- what a turn hands back
--- where it refuses
-pub fresh-back : (edition : EditionName) (o : Outcome) (c : Tables) (q : Refused) → o ≡ outcome.Refused q → (fresh : Tables)
-    → fresh ≡ freshTables edition → record { tables = fresh; outcome = o } ≡ handedBack edition o c
-fresh-back edition o c q e fresh f =
-    ap₂ (λ (t : Tables) (x : Outcome). record { tables = t; outcome = x }) f e
-    ∙ sym (ap (λ (x : Outcome). handedBack edition x c) e)
+-- ---- where a turn refuses, nothing has changed
+-- the tables and the numbers as they were, beside a verdict; and a turn that passed, whatever they then are
+module _ (r : TablesResult) (c : Tables) (numbers numbers′ : List ℕ) where
+  pub section-kept : (o : Outcome) → r ≡ record { tables = c; outcome = o } → numbers′ ≡ numbers → SectionRefused c numbers r numbers′
+  section-kept o k same q e = (
+    k ∙ ap (λ (x : Outcome). record { tables = c; outcome = x }) (sym (ap (λ (x : TablesResult). x .outcome) k) ∙ e),
+    same,
+  )
 
-module _ (r : TablesResult) (edition : EditionName) (o : Outcome) (c : Tables) (back : r ≡ handedBack edition o c) where
-  -- it carries out the step that the turn carried out
-  pub hands-back : (rules : Edition) (segment : Bytes) (v : Verdict state.Tables) → Refines o v (TablesRepresent rules segment c)
-      → Refines (r .outcome) v (TablesRepresent rules segment (r .tables))
-  hands-back rules segment v t =
-      subst (λ (x : TablesResult). Refines (x .outcome) v (TablesRepresent rules segment (x .tables))) (sym back) (either o t)
-    where
-      either : (x : Outcome) → Refines x v (TablesRepresent rules segment c)
-          → Refines (handedBack edition x c .outcome) v (TablesRepresent rules segment (handedBack edition x c .tables))
-      either outcome.Passed u = u
-      either (outcome.Refused q) u = u
-
-  -- and where it refuses, the tables are fresh
-  pub hands-fresh : (q : Refused) → r .outcome ≡ outcome.Refused q
-      → r ≡ record { tables = freshTables edition; outcome = outcome.Refused q }
-  hands-fresh q e = back ∙ either o (sym (ap (λ (x : TablesResult). x .outcome) back) ∙ e)
-    where
-      either : (x : Outcome) → handedBack edition x c .outcome ≡ outcome.Refused q
-          → handedBack edition x c ≡ record { tables = freshTables edition; outcome = outcome.Refused q }
-      either outcome.Passed u = never-passed q u refl
-      either (outcome.Refused p) u = ap (λ (x : Outcome). record { tables = freshTables edition; outcome = x }) u
-
--- the tables as they were, beside a verdict; and a turn that passed, whatever the tables then are
-module _ (r : TablesResult) (c : Tables) where
-  pub section-kept : (o : Outcome) → r ≡ record { tables = c; outcome = o } → SectionRefused c r
-  section-kept o k q e =
-      k ∙ ap (λ (x : Outcome). record { tables = c; outcome = x }) (sym (ap (λ (x : TablesResult). x .outcome) k) ∙ e)
-
-  pub section-passed : (d : Tables) → r ≡ record { tables = d; outcome = outcome.Passed } → SectionRefused c r
+  pub section-passed : (d : Tables) → r ≡ record { tables = d; outcome = outcome.Passed } → SectionRefused c numbers r numbers′
   section-passed d k q e = never-passed q e (ap (λ (x : TablesResult). x .outcome) k)
+
+-- the same of a counter
+module _ (numbers numbers′ : List ℕ) where
+  pub counter-kept : (o : Outcome) → numbers′ ≡ numbers → CounterRefused numbers (record { repeat = false; outcome = o }) numbers′
+  counter-kept o same q e = (ap (λ (x : Outcome). record { repeat = false; outcome = x }) e, same)
+
+  pub counter-passed : (b : Bool) → CounterRefused numbers (record { repeat = b; outcome = outcome.Passed }) numbers′
+  counter-passed b q e = let z : _≡_ {A = ℕ} 0 1 = cc in absurd (omega arith)

@@ -1,87 +1,95 @@
 -- What the promises of private functions cite; no public promise does. Assumes nothing.
-use Prim.Native.Nat.{ℕ}
+use Prim.Native.Nat.{ℕ, suc}
+use mathlib.Core.Bool.{Bool, false}
 use mathlib.Core.Path.{_≡_}
+use mathlib.Core.List.{List, [], _∷_}
 use Rattle.lists.specs.Lists.{Bytes}
-use Rattle.descriptor.specs.Edition.{Edition}
-use Rattle.descriptor.specs.declared.edition.Edition.{Edition as EditionName}
-use Rattle.packet.specs.Header.{fields}
-use Rattle.packet.specs.declared.header.Header.{Header}
-use Rattle.packet.specs.declared.header.Clock.{Clock}
-use Rattle.packet.specs.declared.counter.Stream.{Stream}
-use Rattle.packet.specs.declared.counter.Counted.{Counted}
-use Rattle.packet.specs.declared.counter.Counter.{Counter}
+use Rattle.descriptor.specs.Naming.{editionSays}
+use Rattle.packet.specs.Header.{packetAt, pid, fields}
 use Rattle.packet.specs.declared.counter.Counter.the-variants as counter
-use Rattle.packet.specs.Counter.{StreamRecord, check, Represents, CountedAs}
-use Rattle.packet.specs.Streams.{recordAt, putBack}
+use Rattle.packet.specs.declared.counter.Last.{Last}
+use Rattle.packet.specs.declared.counter.Last.the-variants as last
+use Rattle.packet.specs.declared.counter.Checked.{Checked}
+use Rattle.packet.specs.Counter.{StreamRecord, equalsLast, lastOf, Checks, pidsOf}
+use Rattle.packet.specs.Streams.{mostRecords, lookUp, withPid}
+use Rattle.pmt.specs.declared.entries.Entry.{Entry}
 use Rattle.segment_rules.specs.State as state
 use Rattle.segment_rules.specs.State.{listedAs}
-use Rattle.segment_rules.specs.Rules.{lastPcr, countingPcr}
-use Rattle.segment_rules.specs.Named.{Named}
+use Rattle.segment_rules.specs.Rules.{patSection, pmtSection}
+use Rattle.segment_rules.specs.Lying.{RecordLies}
 use Rattle.tables.specs.declared.state.Kind.{Kind}
 use Rattle.tables.specs.declared.state.Kind.the-variants as slot
 use Rattle.tables.specs.declared.state.Packet.{Packet}
 use Rattle.tables.specs.declared.state.PatFound.{PatFound}
 use Rattle.tables.specs.declared.state.PatSeen.the-variants as pat
-use Rattle.tables.specs.declared.state.Outcome.{Outcome}
-use Rattle.tables.specs.declared.state.Outcome.the-variants.{Passed, Refused}
-use Rattle.tables.specs.declared.counters.Counters.{Counters}
-use Rattle.tables.specs.declared.counters.CountersResult.{CountersResult}
+use Rattle.tables.specs.declared.state.PmtSeen.the-variants as pmt
 use Rattle.tables.specs.declared.tables.Tables.{Tables}
 use Rattle.tables.specs.declared.tables.TablesResult.{TablesResult}
-use Rattle.tables.specs.Tables.{Refines, recordIn, packetAt, TablesRepresent, freshTables, kindSays, SlotOf}
+use Rattle.tables.specs.Tables.{Refines, kindSays, slotIn, Kept, Gives}
 
--- ---- the records of the counters
--- the outcome of a counter's check
-abbrev pub outcomeOf : Counter → Outcome
-outcomeOf counter.Right = Passed
-outcomeOf (counter.Refused r) = Refused r
+-- ---- the counters
+-- the slot of a kind's record; of a kind that has none, a number that no slot has
+abbrev pub slotNumber : Kind → ℕ
+slotNumber slot.Null = mostRecords
+slotNumber slot.Pat = 0
+slotNumber slot.Map = 1
+slotNumber (slot.Av1 i) = i
+slotNumber (slot.Listed i) = i
+slotNumber slot.Unlisted = mostRecords
 
--- one record set anew
-abbrev pub withPatRecord : Counters → Stream → Counters
-withPatRecord c s = record { pat = s; map = c .map; listed = c .listed }
+-- the last packet was a repeat
+abbrev pub lastRepeated : Last → Bool
+lastRepeated last.Unseen = false
+lastRepeated (last.Packet counter i repeat) = repeat
 
-abbrev pub withMapRecord : Counters → Stream → Counters
-withMapRecord c s = record { pat = c .pat; map = s; listed = c .listed }
+-- a packet equals the last one of its record, which lies in the segment
+abbrev pub EqualRefines : Bytes → Last → Bytes → Bool → Type 0
+EqualRefines segment l p r =
+    (s : StreamRecord) → l ≡ lastOf s → RecordLies segment s → r ≡ equalsLast (s .last) p
 
-abbrev pub withListedRecord : Counters → ℕ → Stream → Counters
-withListedRecord c i s = record { pat = c .pat; map = c .map; listed = putBack (c .listed) i s }
+-- the check of a packet of the segment by the record of its PID
+abbrev pub StreamRefines : Bytes → Packet → Last → Checked → Type 0
+StreamRefines segment k l r =
+    (s : StreamRecord) (p : Bytes) → p ≡ packetAt segment (k .index) → k .header ≡ fields p → l ≡ lastOf s
+    → s .pid ≡ pid p → RecordLies segment s → Checks (k .index) s p r
 
--- a turn is the check of a packet by this record, which is put back
-abbrev pub RecordChecked : Stream → (Stream → Counters) → Counted → CountersResult → Type 0
-RecordChecked s put packet t =
-    (segment : Bytes) (r : StreamRecord) (p : Bytes) → Represents segment s r → CountedAs segment r p packet
-    → Refines (t .outcome) (check r p) (λ r′. (s′ : Stream) × (t .counters ≡ put s′) × Represents segment s′ r′)
+-- ---- what a PID is that is none of 0x1FFF, 0 and the map PID
+abbrev pub ListedRefines : Tables → List ℕ → ℕ → Kind → Type 0
+ListedRefines c numbers n k =
+    (segment : Bytes) (t : state.Tables) (f : PatFound) → c .pat ≡ pat.First f → Kept segment c numbers t
+    → (n ≡ 0 → ⊥) → (n ≡ f .says .«map_pid» → ⊥)
+    → (kindSays k ≡ listedAs (t .pmt) n) × (lookUp n (pidsOf (t .records)) ≡ slotIn k)
 
--- by the record of the kind's slot, if it has one
-abbrev pub CountersChecked : Kind → Counters → Counted → CountersResult → Type 0
-CountersChecked slot.Null c packet t = t ≡ record { counters = c; outcome = Passed }
-CountersChecked slot.Pat c packet t = RecordChecked (c .pat) (withPatRecord c) packet t
-CountersChecked slot.Map c packet t = RecordChecked (c .map) (withMapRecord c) packet t
-CountersChecked (slot.Av1 i) c packet t = RecordChecked (recordAt (c .listed) i) (withListedRecord c i) packet t
-CountersChecked (slot.Listed i) c packet t = RecordChecked (recordAt (c .listed) i) (withListedRecord c i) packet t
-CountersChecked slot.Unlisted c packet t = t ≡ record { counters = c; outcome = Passed }
+-- ---- sections
+-- the PIDs of these entries in slots one behind the other, of which this is the first
+unfoldable pub withPids : ℕ → List Entry → List ℕ → List ℕ
+withPids slot [] numbers = numbers
+withPids slot (e ∷ entries) numbers = withPids (suc slot) entries (withPid numbers slot (e .pid))
 
--- what the rule of the counter looks at in a packet of the segment, whose PID has this record
-abbrev pub CountedRefines : Bytes → Packet → Counters → Counted → Type 0
-CountedRefines segment k c r =
-    (p : Bytes) (t : StreamRecord) → p ≡ packetAt segment (k .index) → k .header ≡ fields p
-    → Represents segment (recordIn (k .kind) c) t → CountedAs segment t p r
+-- a section that the packet with this index brought: the first PAT
+abbrev pub FirstPatRefines : ℕ → Bytes → Tables → List ℕ → TablesResult → List ℕ → Type 0
+FirstPatRefines i section c numbers r numbers′ =
+    (segment : Bytes) (t : state.Tables) → c .pat ≡ pat.None → Kept segment c numbers t
+    → Refines (r .outcome) (patSection i (t .pat) section t)
+    (Gives (c .edition) r numbers′)
 
--- ---- the tables
--- after a turn with this outcome, in this edition
-abbrev pub handedBack : EditionName → Outcome → Tables → TablesResult
-handedBack edition Passed c = record { tables = c; outcome = Passed }
-handedBack edition (Refused q) c = record { tables = freshTables edition; outcome = Refused q }
+-- a PAT
+abbrev pub PatRefines : Bytes → ℕ → Bytes → Tables → List ℕ → TablesResult → List ℕ → Type 0
+PatRefines segment i section c numbers r numbers′ =
+    (t : state.Tables) → Kept segment c numbers t
+    → Refines (r .outcome) (patSection i (t .pat) section t)
+    (Gives (c .edition) r numbers′)
 
--- what a PID is that is none of 0x1FFF, 0 and the map PID
-abbrev pub ListedRefines : Edition → Tables → ℕ → Kind → Type 0
-ListedRefines edition c n k =
-    (segment : Bytes) (t : state.Tables) (f : PatFound) → c .pat ≡ pat.First f → Named t
-    → TablesRepresent edition segment c t → (n ≡ 0 → ⊥) → (n ≡ f .says .«map_pid» → ⊥)
-    → (kindSays k ≡ listedAs (t .pmt) n) × SlotOf c n k
+-- the first PMT, of the PAT's program
+abbrev pub FirstPmtRefines : ℕ → Bytes → PatFound → Tables → List ℕ → TablesResult → List ℕ → Type 0
+FirstPmtRefines i section f c numbers r numbers′ =
+    (segment : Bytes) (t : state.Tables) → c .pmt ≡ pmt.None → c .pat ≡ pat.First f → Kept segment c numbers t
+    → Refines (r .outcome) (pmtSection (editionSays (c .edition)) i (t .pat) (t .pmt) section t)
+    (Gives (c .edition) r numbers′)
 
--- the last PCR that counted up to a packet with this header
-abbrev pub PcrRefines : Edition → Tables → Header → Clock → Type 0
-PcrRefines edition c h r =
-    (segment p : Bytes) (t : state.Tables) → h ≡ fields p → TablesRepresent edition segment c t
-    → r ≡ lastPcr (t .pcr) (countingPcr (t .pmt) p)
+-- a PMT
+abbrev pub PmtRefines : Bytes → ℕ → Bytes → Tables → List ℕ → TablesResult → List ℕ → Type 0
+PmtRefines segment i section c numbers r numbers′ =
+    (t : state.Tables) → Kept segment c numbers t
+    → Refines (r .outcome) (pmtSection (editionSays (c .edition)) i (t .pat) (t .pmt) section t)
+    (Gives (c .edition) r numbers′)

@@ -1,15 +1,17 @@
 // PAT and PMT: the first of each is read, a later one compared with it.
 ghost use mathlib.Core.Path.{_≡_};
-ghost use mathlib.Core.List.{map};
-ghost use Prim.Native.Nat.{_≤_};
-ghost use lib.ListN.{length, drop};
-ghost use Rattle.lists.specs.Lists.{Bytes};
 ghost use Rattle.refusal.specs.Number.{numberOf};
-ghost use Rattle.descriptor.specs.Edition.{Edition};
 ghost use Rattle.segment_rules.specs.State as state;
-ghost use Rattle.segment_rules.specs.Rules.{laterSection, patSection, pmtSection, sectionRead};
-ghost use Rattle.tables.specs.Tables.{Refines, LiesAt, CarriesOut, SectionRefused, kindSays};
-use crate::counters::Counters;
+ghost use Rattle.segment_rules.specs.Rules.{laterSection};
+ghost use Rattle.segment_rules.specs.Lying.{sectionIn};
+ghost use Rattle.tables.specs.Tables.{Refines, SectionRefines, SectionRefused};
+ghost use Rattle.tables.specs.Parts.{
+  withPids,
+  FirstPatRefines,
+  PatRefines,
+  FirstPmtRefines,
+  PmtRefines,
+};
 use crate::state::Kind;
 use crate::state::Outcome;
 use crate::state::PatFound;
@@ -18,9 +20,12 @@ use crate::state::PmtFound;
 use crate::state::PmtSeen;
 use crate::tables::Tables;
 use crate::tables::TablesResult;
+use crate::tables::pid_in;
 use lists::part;
-use packet::Stream;
-use packet::Streams;
+use packet::FIRST_LISTED;
+use packet::packet_at;
+use packet::payload as payload_of;
+use packet::put_pid;
 use pmt::Entry;
 use pmt::PmtAnswer;
 use pmt::read_pmt;
@@ -28,8 +33,12 @@ use psi::Found;
 use psi::PatRead;
 use psi::find_section;
 use psi::read_pat;
+use psi::section_of;
 use refusal::Refusal;
 use refusal::Refused;
+
+// The slot of the map PID's record.
+const MAP_SLOT: usize = 1;
 
 // The tables as they were.
 fn pass(tables: Tables) -> TablesResult
@@ -41,13 +50,21 @@ fn pass(tables: Tables) -> TablesResult
     }
 }
 
-fn refuse(why: Refusal, tables: Tables) -> TablesResult
-    ensures { λ r. ⌜ r ≡ record { tables = tables; outcome = Outcome.Refused (record { why = why; place = 0 }) } ⌝ }
+// The tables as they were, and a refusal.
+fn refuse(refused: Refused, tables: Tables) -> TablesResult
+    ensures { λ r. ⌜ r ≡ record { tables = tables; outcome = Outcome.Refused refused } ⌝ }
 {
     TablesResult {
         tables,
-        outcome: Outcome::Refused(Refused { why, place: 0 }),
+        outcome: Outcome::Refused(refused),
     }
+}
+
+// The section that the packet with this index brought.
+pub fn section_at(segment: &[u8], index: usize) -> &[u8]
+    ensures { λ r. ⌜ now r ≡ sectionIn (now (segment .entry)) index ⌝ }
+{
+    section_of(payload_of(packet_at(segment, index)))
 }
 
 // A later section is equal to the first, or the refusal.
@@ -61,79 +78,77 @@ fn later_section(section: &[u8], first: &[u8], why: Refusal) -> Outcome
     Outcome::Refused(Refused { why, place: 0 })
 }
 
-// The first PAT, whose section lies at this place of the segment; 25.
-fn first_pat(section: &[u8], at: usize, tables: Tables) -> TablesResult
-    ensures { λ r. ⌜ ((segment : Bytes) → LiesAt segment at (now (section .entry)) → tables .pat ≡ PatSeen.None →
-        (edition : Edition) →
-        CarriesOut edition segment tables r (λ t. patSection (t .pat) (now (section .entry)) t)) ⌝ }
-    ensures { λ r. ⌜ SectionRefused tables r ⌝ }
+// The first PAT, whose section the packet with this index brought; 25.
+fn first_pat(section: &[u8], index: usize, tables: Tables, records: &mut [u64; 42]) -> TablesResult
+    ensures { λ r. ⌜ FirstPatRefines index (now (section .entry)) tables (now (records .entry)) r
+        (now (records .exit)) ⌝ }
+    ensures { λ r. ⌜ SectionRefused tables (now (records .entry)) r (now (records .exit)) ⌝ }
 {
     let read = read_pat(section);
     match read {
-        PatRead::Refused(refused) => TablesResult {
-            tables,
-            outcome: Outcome::Refused(refused),
-        },
+        PatRead::Refused(refused) => refuse(refused, tables),
         PatRead::Program(says) => {
-            let old = tables.counters;
-            let pat = old.pat;
-            let map = Stream::named(says.map_pid);
-            let listed = old.listed;
-            let counters = Counters { pat, map, listed };
+            put_pid(records, MAP_SLOT, says.map_pid);
             let edition = tables.edition;
             let pmt = tables.pmt;
-            let program_map = tables.map;
             let pcr = tables.pcr;
-            let size = section.len();
-            let named = Tables {
+            pass(Tables {
                 edition,
-                pat: PatSeen::First(PatFound { says, at, size }),
+                pat: PatSeen::First(PatFound {
+                    packet: index,
+                    says,
+                }),
                 pmt,
-                map: program_map,
-                counters,
                 pcr,
-            };
-            pass(named)
+            })
         }
     }
 }
 
-// The PAT section, which lies at this place of the segment; 25.
-fn pat_section(segment: &[u8], at: usize, section: &[u8], tables: Tables) -> TablesResult
-    ensures { λ r. ⌜ (LiesAt (now (segment .entry)) at (now (section .entry)) → (edition : Edition) →
-        CarriesOut edition (now (segment .entry)) tables r (λ t. patSection (t .pat) (now (section .entry)) t)) ⌝ }
-    ensures { λ r. ⌜ SectionRefused tables r ⌝ }
+// The PAT section that the packet with this index brought; 25.
+fn pat_section(
+    segment: &[u8],
+    index: usize,
+    section: &[u8],
+    tables: Tables,
+    records: &mut [u64; 42],
+) -> TablesResult
+    ensures { λ r. ⌜ PatRefines (now (segment .entry)) index (now (section .entry)) tables (now (records .entry)) r
+        (now (records .exit)) ⌝ }
+    ensures { λ r. ⌜ SectionRefused tables (now (records .entry)) r (now (records .exit)) ⌝ }
 {
     let pat = tables.pat;
     match pat {
-        PatSeen::None => first_pat(section, at, tables),
+        PatSeen::None => first_pat(section, index, tables, records),
         PatSeen::First(first) => {
-            let earlier = part(segment, first.at, first.size);
-            let outcome = later_section(section, earlier, Refusal::PAT);
+            let outcome = later_section(section, section_at(segment, first.packet), Refusal::PAT);
             TablesResult { tables, outcome }
         }
     }
 }
 
-// The PIDs of the entries.
-fn pids_of(entries: [Entry; 12]) -> [u16; 12]
-    ensures { λ r. ⌜ r ≡ map (λ e. e .pid) entries ⌝ }
+// The PIDs of the entries in the slots of the listed streams.
+fn put_pids(entries: [Entry; 12], records: &mut [u64; 42])
+    ensures { λ _. ⌜ now (records .exit) ≡ withPids 2 entries (now (records .entry)) ⌝ }
 {
-    let mut pids = [0u16; 12];
     let mut i: usize = 0;
     while i < 12 {
-        pids[i] = entries[i].pid;
+        put_pid(records, FIRST_LISTED + i, entries[i].pid);
         i += 1;
     }
-    pids
 }
 
-// The first PMT of the PAT's program, whose section lies at this place of the segment; 26, 27, 28.
-fn first_pmt(section: &[u8], at: usize, pat: PatFound, tables: Tables) -> TablesResult
-    ensures { λ r. ⌜ ((segment : Bytes) → LiesAt segment at (now (section .entry)) → tables .pmt ≡ PmtSeen.None →
-        tables .pat ≡ PatSeen.First pat → (edition : Edition) →
-        CarriesOut edition segment tables r (λ t. pmtSection edition (t .pat) (t .pmt) (now (section .entry)) t)) ⌝ }
-    ensures { λ r. ⌜ SectionRefused tables r ⌝ }
+// The first PMT of the PAT's program, whose section the packet with this index brought; 26, 27, 28.
+fn first_pmt(
+    section: &[u8],
+    index: usize,
+    pat: PatFound,
+    tables: Tables,
+    records: &mut [u64; 42],
+) -> TablesResult
+    ensures { λ r. ⌜ FirstPmtRefines index (now (section .entry)) pat tables (now (records .entry)) r
+        (now (records .exit)) ⌝ }
+    ensures { λ r. ⌜ SectionRefused tables (now (records .entry)) r (now (records .exit)) ⌝ }
 {
     let edition = tables.edition;
     let program = pat.says;
@@ -141,44 +156,38 @@ fn first_pmt(section: &[u8], at: usize, pat: PatFound, tables: Tables) -> Tables
     let map = read.map;
     let answer = read.answer;
     match answer {
-        PmtAnswer::Refused(refused) => TablesResult {
-            tables,
-            outcome: Outcome::Refused(refused),
-        },
+        PmtAnswer::Refused(refused) => refuse(refused, tables),
         PmtAnswer::Map => {
-            let old = tables.counters;
-            let pat_counter = old.pat;
-            let map_counter = old.map;
             let entries = map.entries;
-            let pids = pids_of(entries);
-            let listed = Streams::of(pids, map.count);
-            let counters = Counters {
-                pat: pat_counter,
-                map: map_counter,
-                listed,
-            };
-            let size = section.len();
+            put_pids(entries, records);
             let pat_seen = tables.pat;
             let pcr = tables.pcr;
-            let named = Tables {
+            pass(Tables {
                 edition,
                 pat: pat_seen,
-                pmt: PmtSeen::First(PmtFound { at, size }),
-                map,
-                counters,
+                pmt: PmtSeen::First(PmtFound {
+                    packet: index,
+                    pcr_pid: map.pcr_pid,
+                    av1_pid: pid_in(entries, map.av1),
+                    listed: map.count,
+                }),
                 pcr,
-            };
-            pass(named)
+            })
         }
     }
 }
 
-// The PMT section, which lies at this place of the segment; 26, 27, 28. Before the PAT it is passed over.
-fn pmt_section(segment: &[u8], at: usize, section: &[u8], tables: Tables) -> TablesResult
-    ensures { λ r. ⌜ (LiesAt (now (segment .entry)) at (now (section .entry)) → (edition : Edition) →
-        CarriesOut edition (now (segment .entry)) tables r
-        (λ t. pmtSection edition (t .pat) (t .pmt) (now (section .entry)) t)) ⌝ }
-    ensures { λ r. ⌜ SectionRefused tables r ⌝ }
+// The PMT section that the packet with this index brought; 26, 27, 28. Before the PAT it is passed over.
+fn pmt_section(
+    segment: &[u8],
+    index: usize,
+    section: &[u8],
+    tables: Tables,
+    records: &mut [u64; 42],
+) -> TablesResult
+    ensures { λ r. ⌜ PmtRefines (now (segment .entry)) index (now (section .entry)) tables (now (records .entry)) r
+        (now (records .exit)) ⌝ }
+    ensures { λ r. ⌜ SectionRefused tables (now (records .entry)) r (now (records .exit)) ⌝ }
 {
     let pat = tables.pat;
     let PatSeen::First(found) = pat else {
@@ -186,88 +195,77 @@ fn pmt_section(segment: &[u8], at: usize, section: &[u8], tables: Tables) -> Tab
     };
     let pmt = tables.pmt;
     match pmt {
-        PmtSeen::None => first_pmt(section, at, found, tables),
+        PmtSeen::None => first_pmt(section, index, found, tables, records),
         PmtSeen::First(first) => {
-            let earlier = part(segment, first.at, first.size);
-            let outcome = later_section(section, earlier, Refusal::PMT);
+            let outcome = later_section(section, section_at(segment, first.packet), Refusal::PMT);
             TablesResult { tables, outcome }
         }
     }
 }
 
-// The payload on PID 0 that lies at this place of the segment; 25.
+// The payload of the packet with this index, which is on PID 0; 25.
 fn pat_payload(
     segment: &[u8],
-    at: usize,
+    index: usize,
     payload: &[u8],
     start: bool,
     tables: Tables,
+    records: &mut [u64; 42],
 ) -> TablesResult
-    requires { ⌜ at ≤ length (now segment) ⌝ }
-    ensures { λ r. ⌜ (LiesAt (now (segment .entry)) at (now (payload .entry)) → (edition : Edition) →
-        CarriesOut edition (now (segment .entry)) tables r
-        (sectionRead edition state.Pat start (now (payload .entry)))) ⌝ }
-    ensures { λ r. ⌜ SectionRefused tables r ⌝ }
+    ensures { λ r. ⌜ SectionRefines (now (segment .entry)) index (now (payload .entry)) start Kind.Pat tables
+        (now (records .entry)) r (now (records .exit)) ⌝ }
+    ensures { λ r. ⌜ SectionRefused tables (now (records .entry)) r (now (records .exit)) ⌝ }
 {
     let found = find_section(payload, start);
     match found {
-        Found::Misplaced => refuse(Refusal::PAT, tables),
-        Found::Section(size) => pat_section(segment, at + 1, part(payload, 1, size), tables),
+        Found::Misplaced => refuse(Refusal::PAT.at(0), tables),
+        Found::Section(size) => {
+            pat_section(segment, index, part(payload, 1, size), tables, records)
+        }
     }
 }
 
-// The payload on the map PID that lies at this place of the segment; 26, 27, 28.
+// The payload of the packet with this index, which is on the map PID; 26, 27, 28.
 fn pmt_payload(
     segment: &[u8],
-    at: usize,
+    index: usize,
     payload: &[u8],
     start: bool,
     tables: Tables,
+    records: &mut [u64; 42],
 ) -> TablesResult
-    requires { ⌜ at ≤ length (now segment) ⌝ }
-    ensures { λ r. ⌜ (LiesAt (now (segment .entry)) at (now (payload .entry)) → (edition : Edition) →
-        CarriesOut edition (now (segment .entry)) tables r
-        (sectionRead edition state.Map start (now (payload .entry)))) ⌝ }
-    ensures { λ r. ⌜ SectionRefused tables r ⌝ }
+    ensures { λ r. ⌜ SectionRefines (now (segment .entry)) index (now (payload .entry)) start Kind.Map tables
+        (now (records .entry)) r (now (records .exit)) ⌝ }
+    ensures { λ r. ⌜ SectionRefused tables (now (records .entry)) r (now (records .exit)) ⌝ }
 {
     let found = find_section(payload, start);
     match found {
-        Found::Misplaced => refuse(Refusal::PMT, tables),
-        Found::Section(size) => pmt_section(segment, at + 1, part(payload, 1, size), tables),
+        Found::Misplaced => refuse(Refusal::PMT.at(0), tables),
+        Found::Section(size) => {
+            pmt_section(segment, index, part(payload, 1, size), tables, records)
+        }
     }
 }
 
-// This place of the segment; beyond its last byte, its end.
-fn within(segment: &[u8], at: usize) -> usize
-    ensures { λ r. ⌜ r ≤ length (now (segment .entry)) ⌝ }
-    ensures { λ r. ⌜ drop r (now (segment .entry)) ≡ drop at (now (segment .entry)) ⌝ }
-{
-    if segment.len() < at {
-        return segment.len();
-    }
-    at
-}
-
-// The payload of a packet whose PID is of this kind, which lies at this place of the segment; 25 to 28. Where it
-// refuses, the tables stay as they were.
+// The payload of the packet with this index, whose PID is of this kind; 25 to 28. Where it refuses, the tables and the
+// records stay as they were.
 pub fn read_section(
     segment: &[u8],
-    at: usize,
+    index: usize,
     payload: &[u8],
     start: bool,
     kind: Kind,
     tables: Tables,
+    records: &mut [u64; 42],
 ) -> TablesResult
-    ensures { λ r. ⌜ (LiesAt (now (segment .entry)) at (now (payload .entry)) → (edition : Edition) →
-        CarriesOut edition (now (segment .entry)) tables r
-        (sectionRead edition (kindSays kind) start (now (payload .entry)))) ⌝ }
-    ensures { λ r. ⌜ SectionRefused tables r ⌝ }
+    ensures { λ r. ⌜ SectionRefines (now (segment .entry)) index (now (payload .entry)) start kind tables
+        (now (records .entry)) r (now (records .exit)) ⌝ }
+    ensures { λ r. ⌜ SectionRefused tables (now (records .entry)) r (now (records .exit)) ⌝ }
 {
-    let place = within(segment, at);
     match kind {
         Kind::Null => pass(tables),
-        Kind::Pat => pat_payload(segment, place, payload, start, tables),
-        Kind::Map => pmt_payload(segment, place, payload, start, tables),
+        Kind::Pat => pat_payload(segment, index, payload, start, tables, records),
+        Kind::Map => pmt_payload(segment, index, payload, start, tables, records),
         Kind::Av1(_) => pass(tables),
         Kind::Listed(_) => pass(tables),
         Kind::Unlisted => pass(tables),

@@ -1,11 +1,11 @@
-// What the packets of a segment have said so far, as the code keeps it: a section by where it lies in the segment.
+// What the packets of a segment have said so far, as the code keeps it: a section by the packet that brought it.
 ghost use mathlib.Core.Path.{_≡_};
 ghost use Rattle.tables.specs.Tables.{placedAt};
 use packet::Header;
 use psi::Program;
 use refusal::Refused;
 
-// What a packet's PID is at that moment; of a listed one, its slot among the listed streams.
+// What a packet's PID is at that moment; of a listed one, the slot of its record.
 pub enum Kind {
     Null,
     Pat,
@@ -22,11 +22,10 @@ pub struct Packet {
     pub kind: Kind,
 }
 
-// The first PAT: what it says, and where its section lies in the segment.
+// The first PAT: the packet that brought it, and what it says.
 pub struct PatFound {
+    pub packet: usize,
     pub says: Program,
-    pub at: usize,
-    pub size: usize,
 }
 
 pub enum PatSeen {
@@ -34,10 +33,12 @@ pub enum PatSeen {
     First(PatFound),
 }
 
-// The first PMT: where its section lies in the segment.
+// The first PMT: the packet that brought it, its PCR PID, the PID of its AV1 entry, and how many streams it lists.
 pub struct PmtFound {
-    pub at: usize,
-    pub size: usize,
+    pub packet: usize,
+    pub pcr_pid: u16,
+    pub av1_pid: u16,
+    pub listed: usize,
 }
 
 pub enum PmtSeen {

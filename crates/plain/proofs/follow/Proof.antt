@@ -1,22 +1,17 @@
 -- As many packets as n says have gone on, and their payloads are written (`Followed`).
 use borrow.Author.Needs.{needs}
 use native.Mathlib.Omega.{arith}
-use Prim.Native.Nat.{ℕ, _+_, _-_, _*_, _/_, _≤_, _<_}
+use Prim.Native.Nat.{_+_, _-_, _*_, _/_, _≤_, _<_}
 use lib.ListN.{length, take, drop, length-drop}
-use mathlib.Core.Path.{_≡_, sym, ap, _∙_}
+use mathlib.Core.Path.{sym, ap, _∙_}
 use borrow.Author.Tests.{not-true, not-false}
-use Rattle.lists.specs.Lists.{Bytes}
 use Rattle.lists.proofs.Parts.{tail-lent, tail-placed}
 use Rattle.packet.specs.Header.{packets}
 use Rattle.plain.proofs.Following.{Followed, none-put, none-goes, follows-none, kept, at-end, no-room, another, payload-long}
 use Rattle.plain.proofs.Following.{follows-one}
-use Rattle.plain.proofs.Places.{packetAt, packet-length}
+use Rattle.plain.proofs.Places.{packet-length, lent-packet}
 use Rattle.plain.proofs.follow.Statement.{statement}
 use Rattle.plain.proofs.follow.Tie as tie
-
--- what is lent of the segment is a packet of it
-lent-packet : (s : Bytes) (k : ℕ) → take (k * 188 + 188 - k * 188) (drop (k * 188) s) ≡ packetAt s k
-lent-packet s k = let e : k * 188 + 188 - k * 188 ≡ 188 = omega arith in ap (λ (m : ℕ). take m (drop (k * 188) s)) e
 
 abbrev Inv-loop : tie.InvT-loop
 Inv-loop segment from pid last out₀ count n₀ counter₀ written₀ out n counter written =

@@ -2,7 +2,9 @@
 use borrow.Author.Needs.{needs}
 use mathlib.Core.Path.{sym, ap, _∙_}
 use Rattle.segment_rules.specs.Check.{outputsOf}
+use Rattle.tables.specs.declared.state.Outcome.{Outcome}
 use Rattle.extraction.specs.declared.packets.Stepped.{Stepped}
+use Rattle.extraction.specs.Parts.{numbersBack}
 use Rattle.extraction.proofs.Stepping.{back-outcome, back-passed, back-refines, back-refused}
 use Rattle.extraction.proofs.packets.step.Statement.{statement}
 use Rattle.extraction.proofs.packets.step.Tie as tie
@@ -24,31 +26,32 @@ same-length-3 c = search needs
 
 returns : tie.Need-returns
 returns c =
-    let call = c .before .before .before .before .before .before .before in
+    let call = c .before .before .before .before .before .before .before .before in
     let done = call .step-at in
-    let a = call .before .before .before .before .before .before .before .before .args in
+    let a = call .before .before .before .before .before .before .before .before .before .before .args in
     let back = c .handed-back in
+    let numbers = done .last .1 .1 .1 .0 in
     let after = outputsOf (done .last .1 .1 .1 .1 .0) (done .last .1 .1 .1 .1 .1 .0) (done .last .1 .1 .1 .1 .1 .1 .0) in
-    let edition = a .tables .edition in
-    let same = back-outcome (back .result) edition (done .result) (back .ensures) in (
-      (λ there rules before st n s.
-          back-refines (back .result) edition (done .result) (back .ensures) rules (a .segment .now) before after _ _
-          (done .ensures .0 there rules before st n s)),
-      (
-        (λ k. same ∙ done .ensures .1 .0 k),
+    let edition = a .state .tables .edition in
+    let same = back-outcome (back .result) edition (done .result) (back .ensures .0) in
+    record {
+      rules = λ there before st s.
+          back-refines (back .result) edition (done .result) (back .ensures .0) numbers _ (back .ensures .1) (a .segment .now) before after
+          _ _ (done .ensures .0 there edition before st s);
+      outside = λ k. same ∙ done .ensures .1 .0 k;
+      beyond = λ k p.
+          let u = done .ensures .1 .1 .0 k (sym same ∙ p) in (
+            ap (λ (x : Stepped). x .state .extraction) (back-passed (back .result) edition (done .result) (back .ensures .0) p) ∙ u .0,
+            u .1,
+          );
+      refused = λ q k. (
+        back-refused (back .result) edition (done .result) (back .ensures .0) q k,
         (
-          (λ k p.
-              let u = done .ensures .1 .1 .0 k (sym same ∙ p) in (
-                ap (λ (x : Stepped). x .extraction) (back-passed (back .result) edition (done .result) (back .ensures) p) ∙ u .0,
-                u .1,
-              )),
-          (λ q k. (
-            back-refused (back .result) edition (done .result) (back .ensures) q k,
-            done .ensures .1 .1 .1 q (sym same ∙ k),
-          )),
+          back .ensures .1 ∙ ap (λ (o : Outcome). numbersBack o numbers) (sym same ∙ k),
+          done .ensures .1 .1 .1 q (sym same ∙ k),
         ),
-      ),
-    )
+      );
+    }
 
 pub step-spec : {M : Type 1} → statement M
 step-spec =

@@ -1,16 +1,16 @@
--- The header is read; a packet that passed 21, 22 and 23 goes on with its counter and content. Of a state that stands, the packet is
--- there.
+-- The header is read; a packet that passed 21, 22 and 23 goes on with its counter and content.
 use borrow.Author.Needs.{needs}
 use native.Mathlib.Omega.{arith}
 use mathlib.Core.Bool.{false}
 use mathlib.Core.Path.{_≡_, refl, ap}
 use lib.ListN.{length}
 use Rattle.lists.proofs.Tests.{clash}
+use Rattle.descriptor.specs.Naming.{editionSays}
+use Rattle.packet.specs.Header.{packetAt}
 use Rattle.segment_rules.specs.Check.{roomsOf}
 use Rattle.tables.specs.declared.state.Outcome.the-variants as outcome
-use Rattle.tables.specs.Tables.{packetAt}
 use Rattle.extraction.specs.Packets.{noPacket}
-use Rattle.extraction.proofs.Stepping.{header-refused, header-right, packet-kind, packet-within, packet-there}
+use Rattle.extraction.proofs.Stepping.{header-refused, header-right, packet-kind, packet-there}
 use Rattle.extraction.proofs.packets.step_at.Statement.{statement}
 use Rattle.extraction.proofs.packets.step_at.Tie as tie
 
@@ -24,12 +24,12 @@ at-requires c κs = search needs
 
 returns : tie.Need-returns
 returns c = (
-  (λ there edition before st n s. absurd (omega (arith, there, c .before .if1 .taken))),
+  (λ there edition before st s. absurd (omega (arith, there, c .before .if1 .taken))),
   ((λ k. ap outcome.Refused (c .at .ensures)), ((λ k p. (refl, refl)), (λ q k. refl))),
 )
 
 packet-at-requires : tie.Need-packet-at-requires
-packet-at-requires c κs = packet-within _ _ (c .if1 .left)
+packet-at-requires c κs = search needs
 
 read-requires : tie.Need-read-requires
 read-requires c κs = search needs
@@ -47,7 +47,7 @@ kind-of-requires : tie.Need-kind-of-requires
 kind-of-requires c κs = search needs
 
 step-read-requires : tie.Need-step-read-requires
-step-read-requires c κs = packet-within _ _ (c .before .before .before .before .before .before .before .before .before .if1 .left)
+step-read-requires c κs = search needs
 
 returns-2 : tie.Need-returns-2
 returns-2 c =
@@ -55,9 +55,9 @@ returns-2 c =
     let a = test .before .before .before .before .before .args in
     let lent = c .before .before .before .before .before .packet-at in
     let read = c .before .before .before .before .read in (
-      (λ there edition before st n s.
-          header-refused edition (roomsOf before) (a .segment .now) (a .index) st (read .result) (lent .result .now) (lent .ensures)
-          (read .ensures) _ _ (c .before .before .read2 .given .1) (c .at-place .result) (c .at-place .ensures) _),
+      (λ there edition before st s.
+          header-refused (editionSays edition) (roomsOf before) (a .segment .now) (a .index) st (read .result) (lent .result .now)
+          (lent .ensures) (read .ensures) _ _ (c .before .before .read2 .given .1) (c .at-place .result) (c .at-place .ensures) _),
       ((λ k. clash k (inside test)), ((λ k p. (refl, refl)), (λ q k. refl))),
     )
 
@@ -73,21 +73,21 @@ same-length-3 c = search needs
 returns-3 : tie.Need-returns-3
 returns-3 c =
     let call = c .before .before .before .before .before .before in
-    let named-at = call .before .before .before .before in
-    let known = named-at .before .before in
+    let named = call .before .before .before .before .before in
+    let known = named .before .before .before .before in
     let test = known .before .before .before .before in
     let a = test .before .before .before .before .before .args in
     let p = packetAt (a .segment .now) (a .index) in
     let lent = known .before .before .before .packet-at in
     let read = known .before .before .read in
-    let named = named-at .kind-of in
+    let kind = named .kind-of in
     let done = call .step-read in (
-      (λ there edition before st n s.
-          let right = header-right edition (roomsOf before) (a .segment .now) (a .index) st (read .result) (lent .result .now)
-          (lent .ensures) (read .ensures) _ (known .read3 .given .1) in
-          let kind = named .ensures edition (a .segment .now) (st .tables) n (s .tables) in
-          packet-kind edition (roomsOf before) p (a .index) st _ (named .result) (done .result) _ right (kind .0) (done .ensures .1 .0)
-          (done .ensures .0 edition before p refl right (kind .1) st n s)),
+      (λ there edition before st s.
+          let right = header-right (editionSays edition) (roomsOf before) (a .segment .now) (a .index) st (read .result)
+          (lent .result .now) (lent .ensures) (read .ensures) _ (known .read3 .given .1) in
+          let says = kind .ensures (a .segment .now) (st .tables) (s .tables) in
+          packet-kind (editionSays edition) (roomsOf before) p (a .index) st _ (kind .result) (done .result) _ right (says .0)
+          (done .ensures .1 .0) (done .ensures .0 edition before p st refl right (says .1) s)),
       ((λ k. clash k (inside test)), done .ensures .1 .1),
     )
 

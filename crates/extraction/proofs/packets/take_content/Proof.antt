@@ -1,19 +1,19 @@
 -- An AV1 payload goes to the PES, another to the sections.
 use borrow.Author.Needs.{needs}
-use native.Mathlib.Omega.{arith}
 use mathlib.Core.Path.{refl, sym, ap, subst, _∙_}
 use Rattle.packet.specs.declared.header.Header.{Header}
-use Rattle.descriptor.specs.Edition.{Edition}
+use Rattle.descriptor.specs.Naming.{editionSays}
+use Rattle.descriptor.specs.declared.edition.Edition.{Edition}
 use Rattle.segment_rules.specs.Rules.{isPcr}
 use Rattle.segment_rules.specs.Check.{outputsOf}
 use Rattle.tables.proofs.Refining.{never-passed}
 use Rattle.units.specs.Extraction.{PayloadRefines}
-use Rattle.extraction.proofs.Stepping.{payload-length, payload-lies, payload-same, content-taken, content-read}
+use Rattle.extraction.proofs.Stepping.{payload-same, pcr-here, content-taken, content-read}
 use Rattle.extraction.proofs.packets.take_content.Statement.{statement}
 use Rattle.extraction.proofs.packets.take_content.Tie as tie
 
 packet-at-requires : tie.Need-packet-at-requires
-packet-at-requires c κs = c .before .before .before .before .before .pre
+packet-at-requires c κs = search needs
 
 rest-requires : tie.Need-rest-requires
 rest-requires c κs = search needs
@@ -41,52 +41,26 @@ returns c =
     let call = c .before .before .before .before .before .before .before in
     let test = call .before .before .before .before .before in
     let part = test .before .before in
-    let a = part .before .before .before .before .before .before .before .args in
+    let a = part .before .before .before .before .before .before .before .before .before .args in
     let taken = call .take-payload in
     let lent = part .before .packet-at in
     let w = part .rest in
     let pcr = call .before .before .before .before .is-pcr in
     let k = a .packet in
     let after = outputsOf (taken .last .1 .1 .1 .1 .0) (taken .last .1 .1 .1 .1 .1 .0) (taken .last .1 .1 .1 .1 .1 .1 .0) in (
-      (λ edition before p same e h st n s.
+      (λ edition before p st same e h s.
           content-taken s (k .index) p h (k .kind) (taken .result) after
           (sym (test .before .is-av1 .ensures) ∙ test .if1 .taken)
-          (subst (λ (x : Edition). PayloadRefines x (k .header .start) (k .index) (w .result .now) (pcr .result) (a .extraction)
-          (outputsOf (a .out .now) (a .lens .now) (a .times .now)) (taken .result) after) (s .tables .follows) (taken .ensures .0) before
-          p st
+          (subst (λ (x : Edition). PayloadRefines (editionSays x) (k .header .start) (k .index) (w .result .now) (pcr .result)
+          (a .state .extraction) (outputsOf (a .out .now) (a .lens .now) (a .times .now)) (taken .result) after) (s .follows)
+          (taken .ensures .0) before p st
           (record {
             carries = h;
             starts = sym (ap (λ (x : Header). x .start) e);
             same = payload-same p (k .header) (lent .result .now) (w .result .now) e (lent .ensures ∙ sym same) (w .ensures) h;
           })
-          (ap isPcr (sym (s .tables .pcr)) ∙ sym (pcr .ensures)) (s .extraction))),
+          (ap isPcr (pcr-here s) ∙ sym (pcr .ensures)) (s .extraction))),
       (refl, ((λ k p. never-passed _ (taken .ensures .1 .0 k) p), (λ q k. taken .ensures .1 .1 q k .1))),
-    )
-
-mul-at : tie.Need-mul-at
-mul-at c =
-    let test = c .before in
-    let begin = test .before .before .before .before .before .before .before .before .before in
-    omega (arith, begin .pre, begin .good .0 .0)
-
-add-at : tie.Need-add-at
-add-at c =
-    let test = c .before in
-    let begin = test .before .before .before .before .before .before .before .before .before in
-    omega (arith, begin .pre, begin .good .0 .0)
-
-sub-at : tie.Need-sub-at
-sub-at c =
-    let test = c .before in
-    let part = test .before .before in
-    let begin = part .before .before .before .before .before .before .before in
-    let a = begin .args in
-    let lent = part .before .packet-at in
-    let w = part .rest in
-    omega (
-      arith,
-      payload-length (a .segment .now) (lent .result .now) (w .result .now) (a .packet .index) (a .packet .header .payload)
-          (begin .pre) (lent .ensures) (w .ensures),
     )
 
 read-section-requires : tie.Need-read-section-requires
@@ -100,19 +74,16 @@ returns-2 c =
     let read = c .before .before .read-section in
     let test = c .before .before .before .before in
     let part = test .before .before in
-    let begin = part .before .before .before .before .before .before .before in
-    let a = begin .args in
+    let a = part .before .before .before .before .before .before .before .before .before .args in
     let k = a .packet in
     let lent = part .before .packet-at in
     let w = part .rest in (
-      (λ edition before p same e h st n s.
-          content-read s (k .index) p h (k .kind) n (read .result) (k .header .start) (w .result .now) (c .at-place .result)
-          (sym (test .before .is-av1 .ensures) ∙ test .if1 .left)
-          (ap (λ (x : Header). x .start) e) (payload-same p (k .header) (lent .result .now) (w .result .now) e (lent .ensures ∙ sym same)
-          (w .ensures) h) (c .at-place .ensures)
-          (read .ensures .0 (payload-lies (a .segment .now) (lent .result .now) (w .result .now) (k .index) (k .header .payload)
-          (begin .pre)
-          (lent .ensures) (w .ensures)) edition)),
+      (λ edition before p st same e h s.
+          content-read s (k .index) p h (k .kind) (read .result) _ (k .header .start) (w .result .now) (c .at-place .result)
+          (sym (test .before .is-av1 .ensures) ∙ test .if1 .left) same
+          (ap (λ (x : Header). x .start) e)
+          (payload-same p (k .header) (lent .result .now) (w .result .now) e (lent .ensures ∙ sym same) (w .ensures) h)
+          (c .at-place .ensures) (read .ensures .0)),
       (refl, ((λ k p. (refl, refl)), (λ q k. refl))),
     )
 
@@ -129,9 +100,6 @@ take-content-spec =
     same-length-2
     same-length-3
     returns
-    mul-at
-    add-at
-    sub-at
     read-section-requires
     at-place-requires
     returns-2)

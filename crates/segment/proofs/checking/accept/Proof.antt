@@ -1,11 +1,11 @@
--- By what was seen of the PAT and of the PMT.
+-- By what was seen of the PAT and of the PMT; where both were, the section of the packet that brought the PMT is the one that was read.
 use borrow.Author.Needs.{needs}
 use mathlib.Core.Path.{ap, _∙_}
 use Rattle.refusal.specs.Number.{refusedBy}
 use Rattle.refusal.specs.declared.Refused.{Refused}
 use Rattle.segment.specs.Answer.{checkSays}
 use Rattle.segment.specs.declared.checking.Checked.{Checked}
-use Rattle.segment.proofs.Ending.{without-pat, without-pmt, with-both, map-without-pat, map-without-pmt, map-with-both}
+use Rattle.segment.proofs.Ending.{without-pat, without-pmt, with-both}
 use Rattle.segment.proofs.checking.accept.Statement.{statement}
 use Rattle.segment.proofs.checking.accept.Tie as tie
 
@@ -22,41 +22,45 @@ refuse-requires : tie.Need-refuse-requires
 refuse-requires c κs = search needs
 
 returns : tie.Need-returns
-returns c edition segment t us u s = (
-  ap (λ (x : Checked). checkSays (x .answer)) (c .refuse .ensures)
-      ∙ ap (λ (q : Refused). refusedBy q) (c .before .before .before .at .ensures)
-      ∙ without-pat s _ us _ (c .before .enum-told .given .1),
-  ap (λ (x : Checked). x .map) (c .refuse .ensures) ∙ map-without-pat s _ us _ (c .before .enum-told .given .1),
-)
+returns c edition t us u k v =
+    let none = without-pat edition t _ us _ _ k (c .before .enum-told .given .1) in (
+      ap (λ (x : Checked). checkSays (x .answer)) (c .refuse .ensures)
+          ∙ ap (λ (q : Refused). refusedBy q) (c .before .before .before .at .ensures) ∙ none .0,
+      ap (λ (x : Checked). x .map) (c .refuse .ensures) ∙ none .1,
+    )
+
+enum-known-pmt : tie.Need-enum-known-pmt
+enum-known-pmt c = search needs
 
 enum-told-2 : tie.Need-enum-told-2
 enum-told-2 c = search needs
-
-enum-told-3 : tie.Need-enum-told-3
-enum-told-3 c = search needs
 
 refuse-requires-2 : tie.Need-refuse-requires-2
 refuse-requires-2 c κs = search needs
 
 returns-2 : tie.Need-returns-2
-returns-2 c edition segment t us u s = (
-  ap (λ (x : Checked). checkSays (x .answer)) (c .refuse2 .ensures)
-      ∙ ap (λ (q : Refused). refusedBy q) (c .before .before .before .before .before .before .at .ensures)
-      ∙ without-pmt s _ us _ _ (c .before .before .before .before .pat .given .1) (c .before .enum-told3 .given .1),
-  ap (λ (x : Checked). x .map) (c .refuse2 .ensures)
-      ∙ map-without-pmt s _ us _ _ (c .before .before .before .before .pat .given .1) (c .before .enum-told3 .given .1),
-)
+returns-2 c edition t us u k v =
+    let none = without-pmt edition t _ us _ _ k (c .before .enum-told2 .given .1) in (
+      ap (λ (x : Checked). checkSays (x .answer)) (c .refuse2 .ensures)
+          ∙ ap (λ (q : Refused). refusedBy q) (c .before .before .before .before .before .before .at .ensures) ∙ none .0,
+      ap (λ (x : Checked). x .map) (c .refuse2 .ensures) ∙ none .1,
+    )
 
-pid-in-requires : tie.Need-pid-in-requires
-pid-in-requires c κs = search needs
+section-at-requires : tie.Need-section-at-requires
+section-at-requires c κs = search needs
+
+read-pmt-requires : tie.Need-read-pmt-requires
+read-pmt-requires c κs = search needs
 
 returns-3 : tie.Need-returns-3
-returns-3 c edition segment t us u s = (
-  with-both s _ us _ _ (c .before .before .before .before .before .before .before .pat .given .1) _
-      (c .before .before .before .before .enum-told2 .given .1) _ _ (c .pid-in .ensures) u,
-  map-with-both s _ us _ _ (c .before .before .before .before .before .before .before .pat .given .1) _
-      (c .before .before .before .before .enum-told2 .given .1),
-)
+returns-3 c edition t us u k v =
+    let read = c .before in
+    let section = read .before in
+    let found = section .before .before .before in
+    let first = found .before .before .before in
+    let start = first .before .before .before .before in
+    with-both edition t _ us _ (start .args .tables) k (start .args .segment .now) v _ (first .pat .given .1) _ (found .pmt .given .1)
+    _ (section .section-at .ensures) (read .read-pmt .result) (read .read-pmt .ensures .0) (read .read-pmt .ensures .1) _ u
 
 pub accept-spec : {M : Type 1} → statement M
 accept-spec =
@@ -67,9 +71,10 @@ accept-spec =
     enum-told
     refuse-requires
     returns
+    enum-known-pmt
     enum-told-2
-    enum-told-3
     refuse-requires-2
     returns-2
-    pid-in-requires
+    section-at-requires
+    read-pmt-requires
     returns-3)

@@ -1,6 +1,7 @@
 -- An answer that accepts has left the units in the outputs; where it refuses, they are cleared, and are as long as they were lent.
 use borrow.Author.Needs.{needs}
 use mathlib.Core.Path.{_∙_}
+use Rattle.descriptor.specs.Naming.{editionSays}
 use Rattle.segment_rules.specs.Check.{ending}
 use Rattle.units.proofs.Holding.{same-bytes, same-lens, same-times}
 use Rattle.units.proofs.Firsts.{firsts-length}
@@ -34,9 +35,9 @@ same-length-4 : tie.Need-same-length-4
 same-length-4 c = search needs
 
 returns : tie.Need-returns
-returns c edition segment before old g at =
+returns c edition before old g at =
     let done = c .before .before .before .before .before .before .before .before in
-    accepted-checks edition before old (ending g) (done .finish .result) _ _ (done .finish .ensures edition segment before old g at) _
+    accepted-checks (editionSays edition) before old (ending g) (done .finish .result) _ _ (done .finish .ensures edition before old g at) _
     (c .enum-told .given .1)
 
 same-length-5 : tie.Need-same-length-5
@@ -52,16 +53,16 @@ same-length-8 : tie.Need-same-length-8
 same-length-8 c = search needs
 
 returns-2 : tie.Need-returns-2
-returns-2 c edition segment before old g at =
+returns-2 c edition before old g at =
     let cleared = c .before .before .before .before .before .before .before .before in
     let told = cleared .before .before .before .before .before in
     let done = told .before .before .before .before .before .before .before .before in
-    let a = done .before .before .before .before .before .before .before .before .before .args in
+    let a = done .before .before .before .before .before .before .before .before .before .before .args in
     let last = done .finish .last .1 .1 .1 in
     let kept = done .finish .kept .1 .1 .1 in
     let zero = cleared .clear .ensures in
-    let units = at .stands .extraction in
-    refused-checks edition before old (ending g) (done .finish .result) _ _ (done .finish .ensures edition segment before old g at) _
+    let units = at .reached .extraction in
+    refused-checks (editionSays edition) before old (ending g) (done .finish .result) _ _ (done .finish .ensures edition before old g at) _
     (told .enum-told2 .given .1) _
     (cleared-as before (a .out .now) (last .0) (last .1 .0) (zero .0) (zero .1 .0) (zero .1 .1 .0) (same-bytes units)
     (kept .0 ∙ same-lens units) (kept .1 .0 ∙ same-times units)) _

@@ -8,7 +8,8 @@ use Rattle.segment.proofs.checking.finish.Tie as tie
 -- the outputs where the PES has closed
 abbrev outputs-then : tie.After-close → Outputs
 outputs-then c =
-    let begun = c .before .before .before .before .before .before .before .before in
+    let bound = c .before .before .before .before in
+    let begun = bound .before .before .before .before .before .before in
     outputsOf (begun .args .out .now) (c .close .last .1 .1 .0) (c .close .last .1 .1 .1 .0)
 
 close-requires : tie.Need-close-requires
@@ -36,10 +37,10 @@ same-length-2 : tie.Need-same-length-2
 same-length-2 c = search needs
 
 returns : tie.Need-returns
-returns c edition segment before old g at =
+returns c edition before old g at =
     let done = c .before .before .before .before .before .before .before .before in
     end-refused at (outputs-then done) (done .close .result)
-    (done .close .ensures .0 before (g .state .extraction) (at .stands .extraction)) _
+    (done .close .ensures .0 before (g .state .extraction) (at .reached .extraction)) _
     (c .before .before .outcome .given .1) (c .refuse .result) (c .refuse .ensures) _
 
 same-length-3 : tie.Need-same-length-3
@@ -52,12 +53,12 @@ same-length-5 : tie.Need-same-length-5
 same-length-5 c = search needs
 
 returns-2 : tie.Need-returns-2
-returns-2 c edition segment before old g at =
+returns-2 c edition before old g at =
     let told = c .before .before .before .before .before .before .before .before in
     let done = told .before .before .before .before .before .before in
     end-closed at (outputs-then done) (done .close .result)
-    (done .close .ensures .0 before (g .state .extraction) (at .stands .extraction))
-    (told .enum-told .given .1) (done .close .ensures .1 .0 (told .enum-told .given .1)) (c .accept .result) (c .accept .ensures edition) _
+    (done .close .ensures .0 before (g .state .extraction) (at .reached .extraction))
+    (told .enum-told .given .1) (done .close .ensures .1 .0 (told .enum-told .given .1)) (c .accept .result) (c .accept .ensures) _
     (c .before .before .before .before .before .note-first .ensures)
 
 pub finish-spec : {M : Type 1} → statement M

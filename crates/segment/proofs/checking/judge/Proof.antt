@@ -77,7 +77,7 @@ returns-2 c =
     let done = met .before .before .before .before .before .before .before .before .before in
     let a = begun done .args in
     run-ended (a .edition) (a .segment .now) (lent done) (a .firsts .now) (done .run .result) (outputs-then done) (firsts-then done)
-    (done .run .ensures) (told .enum-told .given .1) (ended .conclude .result) _ _ (ended .conclude .ensures _)
+    (done .run .ensures) (told .enum-told .given .1) (ended .conclude .result) _ _ (ended .conclude .ensures)
 
 pub judge-spec : {M : Type 1} → statement M
 judge-spec =

@@ -1,4 +1,4 @@
--- By what the record knows of the last packet: there was none (`equals-none`), or its bytes are compared (`equals-packet`).
+-- By what is known of the last packet: there was none (`equals-none`), or its bytes are compared (`equals-packet`).
 use borrow.Author.Needs.{needs}
 use Rattle.tables.proofs.Counting.{equals-none, equals-packet}
 use Rattle.tables.proofs.counters.equals_last.Statement.{statement}
@@ -11,21 +11,21 @@ enum-told : tie.Need-enum-told
 enum-told c = search needs
 
 returns : tie.Need-returns
-returns c t s =
+returns c s kept lies =
     let a = c .before .before .before .before .args in
-    equals-none (a .segment .now) (a .stream) t s (a .packet .now) (c .enum-told .given .1)
+    equals-none (a .segment .now) s lies (a .last) kept (a .packet .now) (c .enum-told .given .1)
 
-part-requires : tie.Need-part-requires
-part-requires c κs = search needs
+packet-at-requires : tie.Need-packet-at-requires
+packet-at-requires c κs = search needs
 
 same-bytes-requires : tie.Need-same-bytes-requires
 same-bytes-requires c κs = search needs
 
 returns-2 : tie.Need-returns-2
-returns-2 c t s =
+returns-2 c s kept lies =
     let a = c .before .before .before .before .before .before .before .args in
-    equals-packet (a .segment .now) (a .stream) t s (a .packet .now) _ _ _ (c .before .before .before .last .given .1)
-    (c .before .part .result .now) (c .before .part .ensures) (c .same-bytes .result) (c .same-bytes .ensures)
+    equals-packet (a .segment .now) s lies (a .last) kept (a .packet .now) _ _ _ (c .before .before .before .last .given .1)
+    (c .before .packet-at .result .now) (c .before .packet-at .ensures) (c .same-bytes .result) (c .same-bytes .ensures)
 
 pub equals-last-spec : {M : Type 1} → statement M
-equals-last-spec = tie.close (tie.spec enum-known-last enum-told returns part-requires same-bytes-requires returns-2)
+equals-last-spec = tie.close (tie.spec enum-known-last enum-told returns packet-at-requires same-bytes-requires returns-2)

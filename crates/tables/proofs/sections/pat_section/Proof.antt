@@ -1,6 +1,6 @@
--- The first PAT is read; a later one is compared with the bytes at the place of the first.
-use mathlib.Core.Path.{refl}
+-- The first PAT is read; a later one is compared with the section that the first one's packet brought.
 use borrow.Author.Needs.{needs}
+use mathlib.Core.Path.{refl}
 use Rattle.tables.proofs.Reading.{pat-later}
 use Rattle.tables.proofs.Refining.{section-kept}
 use Rattle.tables.proofs.sections.pat_section.Statement.{statement}
@@ -15,26 +15,26 @@ first-pat-requires c κs = search needs
 enum-known-pat : tie.Need-enum-known-pat
 enum-known-pat c = search needs
 
-part-requires : tie.Need-part-requires
-part-requires c κs = search needs
+section-at-requires : tie.Need-section-at-requires
+section-at-requires c κs = search needs
 
 later-section-requires : tie.Need-later-section-requires
 later-section-requires c κs = search needs
 
 returns : tie.Need-returns
 returns c = (
-  (λ lies.
-      c .first-pat .ensures .0 _ lies (c .before .enum-told .given .1)),
+  (λ t k. c .first-pat .ensures .0 _ t (c .before .before .enum-told .given .1) k),
   c .first-pat .ensures .1,
 )
 
 returns-2 : tie.Need-returns-2
-returns-2 c = (
-  (λ lies edition t h s.
-      pat-later h s (c .before .before .before .before .before .before .before .args .section .now) _ _ (c .later-section .result)
-      (c .before .before .before .pat .given .1) (c .before .part .ensures) (c .later-section .ensures t)),
-  section-kept _ _ _ refl,
-)
+returns-2 c =
+    let a = c .before .before .before .before .before .before .before .args in (
+      (λ t k.
+          pat-later k (a .index) (a .section .now) _ _ (c .later-section .result)
+          (c .before .before .before .pat .given .1) (c .before .section-at .ensures) (c .later-section .ensures t)),
+      section-kept _ _ _ _ _ refl refl,
+    )
 
 pub pat-section-spec : {M : Type 1} → statement M
 pat-section-spec =
@@ -43,7 +43,7 @@ pat-section-spec =
     enum-told
     first-pat-requires
     enum-known-pat
-    part-requires
+    section-at-requires
     later-section-requires
     returns
     returns-2)

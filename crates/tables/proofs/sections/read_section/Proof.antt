@@ -1,15 +1,12 @@
 -- Case by case of the kind: PID 0 and the map PID have sections, the others are passed over.
 use borrow.Author.Needs.{needs}
 use mathlib.Core.Path.{refl}
+use Rattle.descriptor.specs.Naming.{editionSays}
 use Rattle.segment_rules.specs.Rules.{sectionRead}
-use Rattle.tables.proofs.Reading.{lies-also, passes, by-kind}
-use Rattle.segment_rules.specs.State as state
+use Rattle.tables.proofs.Reading.{passes, by-kind}
 use Rattle.tables.proofs.Refining.{section-kept}
 use Rattle.tables.proofs.sections.read_section.Statement.{statement}
 use Rattle.tables.proofs.sections.read_section.Tie as tie
-
-within-requires : tie.Need-within-requires
-within-requires c κs = search needs
 
 enum-told : tie.Need-enum-told
 enum-told c = search needs
@@ -49,69 +46,66 @@ pass-requires-4 c κs = search needs
 
 returns : tie.Need-returns
 unfolding sectionRead
-returns c = (
-  (λ lies edition.
-      let a = c .before .before .before .before .before .before .args in
-      by-kind _ _ (a .start) (a .payload .now) (c .pass .result) (c .before .enum-told .given .1)
-      (passes (sectionRead edition state.Null (a .start) (a .payload .now)) (c .pass .result) (c .pass .ensures) (λ t s. refl))),
-  section-kept _ _ _ (c .pass .ensures),
-)
+returns c =
+    let a = c .before .before .before .before .before .args in (
+      (λ t own k.
+          by-kind (editionSays (a .tables .edition)) (a .index) (a .start) (a .payload .now) t _ _ (c .before .enum-told .given .1)
+          (c .pass .result .outcome) _ (passes k _ (c .pass .result) (c .pass .ensures) refl)),
+      section-kept _ _ _ _ _ (c .pass .ensures) refl,
+    )
 
 returns-2 : tie.Need-returns-2
-returns-2 c = (
-  (λ lies edition.
-      let begin = c .before .before .before in
-      let a = begin .before .before .before .args in
-      by-kind _ _ (a .start) (a .payload .now) (c .pat-payload .result) (c .before .enum-told2 .given .1) (c .pat-payload .ensures .0
-      (lies-also (a .segment .now) (begin .within .result) (a .at) (a .payload .now) (begin .within .ensures .1) lies) edition)),
-  c .pat-payload .ensures .1,
-)
+returns-2 c =
+    let a = c .before .before .before .before .before .before .args in (
+      (λ t own k.
+          by-kind (editionSays (a .tables .edition)) (a .index) (a .start) (a .payload .now) t _ _ (c .before .before .enum-told2 .given .1)
+          (c .pat-payload .result .outcome) _ (c .pat-payload .ensures .0 t own k)),
+      c .pat-payload .ensures .1,
+    )
 
 returns-3 : tie.Need-returns-3
-returns-3 c = (
-  (λ lies edition.
-      let begin = c .before .before .before in
-      let a = begin .before .before .before .args in
-      by-kind _ _ (a .start) (a .payload .now) (c .pmt-payload .result) (c .before .enum-told3 .given .1) (c .pmt-payload .ensures .0
-      (lies-also (a .segment .now) (begin .within .result) (a .at) (a .payload .now) (begin .within .ensures .1) lies) edition)),
-  c .pmt-payload .ensures .1,
-)
+returns-3 c =
+    let a = c .before .before .before .before .before .before .args in (
+      (λ t own k.
+          by-kind (editionSays (a .tables .edition)) (a .index) (a .start) (a .payload .now) t _ _ (c .before .before .enum-told3 .given .1)
+          (c .pmt-payload .result .outcome) _ (c .pmt-payload .ensures .0 t own k)),
+      c .pmt-payload .ensures .1,
+    )
 
 returns-4 : tie.Need-returns-4
 unfolding sectionRead
-returns-4 c = (
-  (λ lies edition.
-      let a = c .before .before .before .before .before .before .args in
-      by-kind _ _ (a .start) (a .payload .now) (c .pass2 .result) (c .before .enum-told4 .given .1)
-      (passes (sectionRead edition state.Av1 (a .start) (a .payload .now)) (c .pass2 .result) (c .pass2 .ensures) (λ t s. refl))),
-  section-kept _ _ _ (c .pass2 .ensures),
-)
+returns-4 c =
+    let a = c .before .before .before .before .before .args in (
+      (λ t own k.
+          by-kind (editionSays (a .tables .edition)) (a .index) (a .start) (a .payload .now) t _ _ (c .before .enum-told4 .given .1)
+          (c .pass2 .result .outcome) _ (passes k _ (c .pass2 .result) (c .pass2 .ensures) refl)),
+      section-kept _ _ _ _ _ (c .pass2 .ensures) refl,
+    )
 
 returns-5 : tie.Need-returns-5
 unfolding sectionRead
-returns-5 c = (
-  (λ lies edition.
-      let a = c .before .before .before .before .before .before .args in
-      by-kind _ _ (a .start) (a .payload .now) (c .pass3 .result) (c .before .enum-told5 .given .1)
-      (passes (sectionRead edition state.Listed (a .start) (a .payload .now)) (c .pass3 .result) (c .pass3 .ensures) (λ t s. refl))),
-  section-kept _ _ _ (c .pass3 .ensures),
-)
+returns-5 c =
+    let a = c .before .before .before .before .before .args in (
+      (λ t own k.
+          by-kind (editionSays (a .tables .edition)) (a .index) (a .start) (a .payload .now) t _ _ (c .before .enum-told5 .given .1)
+          (c .pass3 .result .outcome) _ (passes k _ (c .pass3 .result) (c .pass3 .ensures) refl)),
+      section-kept _ _ _ _ _ (c .pass3 .ensures) refl,
+    )
 
 returns-6 : tie.Need-returns-6
 unfolding sectionRead
-returns-6 c = (
-  (λ lies edition.
-      let a = c .before .before .before .before .before .before .args in
-      by-kind _ _ (a .start) (a .payload .now) (c .pass4 .result) (c .before .enum-told6 .given .1)
-      (passes (sectionRead edition state.Unlisted (a .start) (a .payload .now)) (c .pass4 .result) (c .pass4 .ensures) (λ t s. refl))),
-  section-kept _ _ _ (c .pass4 .ensures),
-)
+returns-6 c =
+    let a = c .before .before .before .before .before .args in (
+      (λ t own k.
+          by-kind (editionSays (a .tables .edition)) (a .index) (a .start) (a .payload .now) t _ _ (c .before .enum-told6 .given .1)
+          (c .pass4 .result .outcome) _ (passes k _ (c .pass4 .result) (c .pass4 .ensures) refl)),
+      section-kept _ _ _ _ _ (c .pass4 .ensures) refl,
+    )
 
 pub read-section-spec : {M : Type 1} → statement M
 read-section-spec =
     tie.close
     (tie.spec
-    within-requires
     enum-told
     pass-requires
     enum-told-2

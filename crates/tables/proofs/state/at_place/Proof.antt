@@ -1,7 +1,7 @@
 -- Case by case.
+use borrow.Author.Needs.{needs}
 use mathlib.Core.Path.{sym, ap}
 use Rattle.tables.specs.Tables.{placedAt}
-use borrow.Author.Needs.{needs}
 use Rattle.tables.proofs.state.at_place.Statement.{statement}
 use Rattle.tables.proofs.state.at_place.Tie as tie
 

@@ -1,7 +1,7 @@
 -- There are twelve entries; a slot behind them has none.
+use borrow.Author.Needs.{needs}
 use mathlib.Core.Path.{_≡_, sym, ap}
 use native.Mathlib.Omega.{arith}
-use borrow.Author.Needs.{needs}
 use lib.ListN.{length, List·getD-eq-default}
 use Rattle.lists.proofs.Parts.{unmapped}
 use Rattle.pmt.specs.Answer.{noEntry}

@@ -18,9 +18,9 @@ returns : tie.Need-returns
 returns c =
     let start = c .before .before .before .args in
     let same = c .after .ensures in (
-      (λ segment r p s e. subst (λ (t : Stream). Checks segment r p (record { stream = t; verdict = Right })) (sym same)
-          (repeat-checks segment (start .self) (start .packet) r p s e
-          (sym (c .before .before .is-repeated-by .ensures segment r p s e) ∙ c .before .if1 .taken))),
+      (λ r p s e. subst (λ (t : Stream). Checks (start .packet .index) r p (record { stream = t; verdict = Right })) (sym same)
+          (repeat-checks (start .self) (start .packet) r p s e
+          (sym (c .before .before .is-repeated-by .ensures r p s e) ∙ c .before .if1 .taken))),
       ap (λ (t : Stream). t .pid) same,
     )
 
@@ -34,19 +34,19 @@ returns-2 : tie.Need-returns-2
 returns-2 c =
     let start = c .before .before .before .before .before .args in
     let same = c .after2 .ensures in (
-      (λ segment r p s e. subst (λ (t : Stream). Checks segment r p (record { stream = t; verdict = Right })) (sym same)
-          (right-checks segment (start .self) (start .packet) r p s e
-          (sym (c .before .before .before .before .is-repeated-by .ensures segment r p s e) ∙ c .before .before .before .if1 .left)
-          (sym (c .before .before .is-followed-by .ensures segment r p s e) ∙ c .before .if2 .taken))),
+      (λ r p s e. subst (λ (t : Stream). Checks (start .packet .index) r p (record { stream = t; verdict = Right })) (sym same)
+          (right-checks (start .self) (start .packet) r p s e
+          (sym (c .before .before .before .before .is-repeated-by .ensures r p s e) ∙ c .before .before .before .if1 .left)
+          (sym (c .before .before .is-followed-by .ensures r p s e) ∙ c .before .if2 .taken))),
       ap (λ (t : Stream). t .pid) same,
     )
 
 returns-3 : tie.Need-returns-3
 returns-3 c =
     let start = c .before .before .before .before .args in (
-      (λ segment r p s e. wrong-checks segment (start .self) (start .packet) r p s e
-          (sym (c .before .before .before .is-repeated-by .ensures segment r p s e) ∙ c .before .before .if1 .left)
-          (sym (c .before .is-followed-by .ensures segment r p s e) ∙ c .if2 .left)),
+      (λ r p s e. wrong-checks (start .self) (start .packet) r p s e
+          (sym (c .before .before .before .is-repeated-by .ensures r p s e) ∙ c .before .before .if1 .left)
+          (sym (c .before .is-followed-by .ensures r p s e) ∙ c .if2 .left)),
       refl,
     )
 

@@ -14,13 +14,13 @@ enum-told : tie.Need-enum-told
 enum-told c = search needs
 
 returns : tie.Need-returns
-returns c = λ segment r p s e. unseen-follows segment (c .before .before .args .self) _ r p s e (c .enum-told .given .1)
+returns c = λ r p s e. unseen-follows (c .before .before .args .self) _ r p s e (c .enum-told .given .1)
 
 returns-2 : tie.Need-returns-2
 returns-2 c =
     let start = c .before .before .before .before .args in
-    λ segment r p s e. or-by-true _ (c .if1 .taken) refl
-    ∙ sym (seen-follows segment (start .self) (start .packet) r p s e _ _ _ (c .before .before .last .given .1))
+    λ r p s e. or-by-true _ (c .if1 .taken) refl
+    ∙ sym (seen-follows (start .self) (start .packet) r p s e _ _ _ (c .before .before .last .given .1))
 
 next-counter-requires : tie.Need-next-counter-requires
 next-counter-requires c κs = search needs
@@ -28,8 +28,8 @@ next-counter-requires c κs = search needs
 returns-3 : tie.Need-returns-3
 returns-3 c =
     let start = c .before .before .before .before .before .before .args in
-    λ segment r p s e. or-by-false (c .before .before .if1 .left) (ap (eqb _) (c .before .next-counter .ensures))
-    ∙ sym (seen-follows segment (start .self) (start .packet) r p s e _ _ _ (c .before .before .before .before .last .given .1))
+    λ r p s e. or-by-false (c .before .before .if1 .left) (ap (eqb _) (c .before .next-counter .ensures))
+    ∙ sym (seen-follows (start .self) (start .packet) r p s e _ _ _ (c .before .before .before .before .last .given .1))
 
 pub is-followed-by-spec : {M : Type 1} → statement M
 is-followed-by-spec = tie.close (tie.spec enum-known-last enum-told returns returns-2 next-counter-requires returns-3)

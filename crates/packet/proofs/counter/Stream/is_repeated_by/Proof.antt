@@ -13,7 +13,7 @@ enum-told : tie.Need-enum-told
 enum-told c = search needs
 
 returns : tie.Need-returns
-returns c = λ segment r p s e. unseen-repeats segment (c .before .before .args .self) _ r p s e (c .enum-told .given .1)
+returns c = λ r p s e. unseen-repeats (c .before .before .args .self) _ r p s e (c .enum-told .given .1)
 
 is-copy-requires : tie.Need-is-copy-requires
 is-copy-requires c κs = search needs
@@ -21,13 +21,13 @@ is-copy-requires c κs = search needs
 returns-2 : tie.Need-returns-2
 returns-2 c =
     let start = c .before .before .before .before .before .args in
-    λ segment r p s e. no-copy-repeats segment (start .self) (start .packet) r p s e _ _ _ (c .before .before .before .last .given .1)
+    λ r p s e. no-copy-repeats (start .self) (start .packet) r p s e _ _ _ (c .before .before .before .last .given .1)
     (sym (c .before .is-copy .ensures) ∙ not-true _ (c .if1 .taken))
 
 returns-3 : tie.Need-returns-3
 returns-3 c =
     let start = c .before .before .before .before .before .args in
-    λ segment r p s e. copy-repeats segment (start .self) (start .packet) r p s e _ _ _ (c .before .before .before .last .given .1)
+    λ r p s e. copy-repeats (start .self) (start .packet) r p s e _ _ _ (c .before .before .before .last .given .1)
     (sym (c .before .is-copy .ensures) ∙ not-false _ (c .if1 .left))
 
 pub is-repeated-by-spec : {M : Type 1} → statement M
