@@ -8,6 +8,7 @@ use mathlib.Core.List.{[], _∷_}
 use native.Mathlib.Omega.{arith}
 use native.Mathlib.Numerals.{add-one}
 use lib.Dec.{leb, ltb, eqb}
+pub use mir.Val.{boolByte as one}
 use lib.ListN.{length, drop, getD, length-drop}
 use lib.Seq.{drop-drop}
 use borrow.Author.Tests.{eqb-true, leb-true, le-leb, lt-leb, ltb-true, ltb-false}
@@ -15,10 +16,6 @@ use Rattle.lists.specs.Lists.{Bytes}
 use Rattle.lists.proofs.Tests.{case, and-both}
 use Rattle.lists.proofs.Parts.{next}
 use Rattle.emulation.specs.Parts.{hits, block, freeOf, First}
-
-abbrev pub one : Bool → ℕ
-one true = 1
-one false = 0
 
 pub one-most : (t : Bool) → one t ≤ 1
 one-most true = omega arith

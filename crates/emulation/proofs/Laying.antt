@@ -28,7 +28,7 @@ end-stays out whole rest later n m h k l e =
       length-take-le n out (omega arith),
     )
 
-fills-place : {out whole rest later : Bytes} {n m : ℕ} → Fills out n whole m rest later
+pub fills-place : {out whole rest later : Bytes} {n m : ℕ} → Fills out n whole m rest later
     → m + length (take (length out - m) rest) ≡ n + length (take (length out - n) whole)
 fills-place {out} {whole} {rest} {later} {n} {m} a = end-stays out whole rest later n m (a .onward) (a .within) (a .long) (a .front)
 

@@ -10,4 +10,5 @@ pub mod Judging
 pub mod Inserting
 pub mod Giving
 pub mod Laying
+pub mod Dense
 pub mod Runs

@@ -9,7 +9,7 @@ ghost use lib.ListN.{length, drop};
 ghost use Rattle.emulation.specs.Payload.{marked3, stuffed};
 ghost use Rattle.emulation.specs.Payload.{forbidden as Payload·forbidden};
 ghost use mathlib.Core.Bool.{true, false};
-ghost use Rattle.emulation.specs.Parts.{block, hits, paired, tripled, First, Fresh};
+ghost use Rattle.emulation.specs.Parts.{block, hits, paired, tripled, First, Flags, Fresh};
 ghost use Rattle.emulation.specs.Parts.{marked as Parts·marked};
 ghost use Rattle.emulation.specs.Parts.{critical as Parts·critical};
 ghost use Rattle.emulation.specs.Parts.{clean as Parts·clean};
@@ -19,7 +19,7 @@ ghost use Rattle.emulation.specs.Parts.{single as Parts·single};
 pub(crate) const BLOCK: usize = 64;
 
 // The same number, as a count of places.
-pub(crate) const PLACES: u8 = 64;
+const PLACES: u8 = 64;
 
 // The place that a pass has come to, and its count: of the bytes put, dropped or written.
 pub struct Reached {
@@ -236,6 +236,20 @@ pub(crate) fn crowd(s: &[u8], i: usize) -> u8
         return 0;
     }
     criticals(s, i)
+}
+
+// 1 for each place of the block at i at which 00 00 and a byte of 0 to 3 stand, 0 for the others.
+pub(crate) fn flags(s: &[u8], i: usize) -> [u8; BLOCK]
+    requires { ⌜ i + block + 2 ≤ length (now s) ⌝ }
+    ensures { λ r. ⌜ Flags Parts·critical (now (s .entry)) i block r ⌝ }
+{
+    let mut flags = [0u8; BLOCK];
+    let mut j: usize = 0;
+    while j < BLOCK {
+        flags[j] = critical_at(s, i + j) as u8;
+        j += 1;
+    }
+    flags
 }
 
 // k where at i stand 00 00 and a byte of 0 to 3, or else more than any place of a block.

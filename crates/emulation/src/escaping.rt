@@ -1,17 +1,16 @@
 // Escaping one OBU.
 ghost use mathlib.Core.Path.{_≡_};
-ghost use mathlib.Core.Bool.{true};
+ghost use mathlib.Core.Bool.{true, false};
 ghost use Prim.Native.Nat.{_+_, _-_, _≤_, _<_};
 ghost use lib.Dec.{leb};
-ghost use lib.ListN.{length, take, drop};
+ghost use lib.ListN.{length, take, getD};
 ghost use Rattle.lists.specs.Lists.{over};
 ghost use Rattle.refusal.specs.Verdict.{leaves};
 ghost use Rattle.emulation.specs.Payload.{escape as Payload·escape};
 ghost use Rattle.emulation.specs.Payload.{inserted as Payload·inserted};
-ghost use Rattle.emulation.specs.Parts.{block, few, hits, critical, Gives, Lays, Inserts};
+ghost use Rattle.emulation.specs.Parts.{block, laid, Gives, Lays, Inserts};
 ghost use Rattle.emulation.specs.Answer.{mostEscaped, measuring, escaping, escapedSays};
 use crate::blocks::BLOCK;
-use crate::blocks::PLACES;
 use crate::blocks::Reached;
 use crate::blocks::before_critical;
 use crate::blocks::block_end;
@@ -19,6 +18,7 @@ use crate::blocks::clean;
 use crate::blocks::critical_at;
 use crate::blocks::criticals;
 use crate::blocks::crowd;
+use crate::blocks::flags;
 use crate::blocks::places;
 use crate::blocks::single;
 use crate::blocks::wide;
@@ -32,7 +32,10 @@ use refusal::Refused;
 const MOST_ESCAPED: usize = 1048576;
 
 // So many places of a block at which a 03 may go in are too many to search for each of them.
-const FEW: u8 = 8;
+const FEW: u8 = 3;
+
+// The room for a block in which a 03 may go in behind each byte.
+const DENSE: usize = 2 * BLOCK;
 
 // How many bytes the escaped form has, or the refusal.
 pub enum Escaped {
@@ -147,18 +150,6 @@ fn fits(size: usize, i: usize, room: usize, n: usize) -> bool
     BLOCK + 2 <= room - n
 }
 
-// At how many places of the block of obu at i a 03 may go in; where it does not fit, more than few.
-fn crowded(obu: &[u8], i: usize, room: usize, n: usize) -> u8
-    requires { ⌜ (i ≤ length (now obu)) × (n ≤ room) ⌝ }
-    ensures { λ r. ⌜ (r < few → (i + block + 2 ≤ length (now (obu .entry))) × (n + block + 2 ≤ room)
-        × (r ≡ hits critical block (drop i (now (obu .entry))))) ⌝ }
-{
-    if fits(obu.len(), i, room, n) {
-        return crowd(obu, i);
-    }
-    PLACES
-}
-
 // The escaped form of obu from place i on to the next 03, or of a block, into out from n on. The whole block is copied;
 // what stands in it behind the 03 is written over by what comes next.
 fn escape_next(obu: &[u8], i: usize, out: &mut [u8], n: usize) -> Reached
@@ -201,6 +192,114 @@ fn escape_sparse(obu: &[u8], i: usize, out: &mut [u8], n: usize) -> Reached
     Reached { place, count }
 }
 
+// Where the output goes on behind two bytes, and what is left: 1 where a 03 is to go in behind the byte that comes
+// next, or else 0.
+struct Laid {
+    count: usize,
+    last: usize,
+}
+
+// Stores the two bytes of obu at place into out from n on, each with a 03 behind it; where that is not to go in, what
+// comes next is written over it. Behind the first it goes in where last is 1, behind the second where flag is 1 and
+// last is not; one is left for the byte after them where next is 1 and none goes in behind the second. No store waits
+// for a test, and each place takes one operation from what was left to what is left.
+fn lay_pair(
+    obu: &[u8],
+    place: usize,
+    out: &mut [u8],
+    n: usize,
+    last: usize,
+    flag: u8,
+    next: u8,
+) -> Laid
+    requires { ⌜ (place + 1 < length (now obu)) × (n + 3 < length (now out)) × (last ≤ 1) × (flag ≤ 1) × (next ≤ 1) ⌝ }
+    ensures { λ r. ⌜ (r .count ≡ n + last + 1 + (flag - last) + 1) × (r .last ≡ next - (flag - last)) ⌝ }
+    ensures { λ _. ⌜ now (out .exit) ≡ laid (laid (now (out .entry)) n (getD (now (obu .entry)) place 0))
+        (n + last + 1) (getD (now (obu .entry)) (place + 1) 0) ⌝ }
+{
+    let second = n + last + 1;
+    out[n] = obu[place];
+    out[n + 1] = 3;
+    out[second] = obu[place + 1];
+    out[second + 1] = 3;
+    let free = last | (1 - flag as usize); // 0 where one goes in behind the second
+    Laid {
+        count: second + 2 - free,
+        last: free & next as usize,
+    }
+}
+
+// The escaped form of the block of obu at i into out from n on, two places a turn, at the same cost wherever a 03 goes
+// in.
+fn escape_dense(obu: &[u8], i: usize, out: &mut [u8], n: usize) -> Reached
+    requires { ⌜ (i + block + 2 ≤ length (now obu)) × (n + block + block ≤ length (now out)) ⌝ }
+    ensures { λ r. ⌜ Lays (now (obu .entry)) i (now (out .entry)) n (r .place) (r .count) (now (out .exit)) ⌝ }
+    ensures { λ r. ⌜ n < r .count ⌝ }
+{
+    let flags = flags(obu, i);
+    let mut last: usize = 0;
+    let mut count = n;
+    let mut j: usize = 0;
+    while j < BLOCK - 1 {
+        let laid = lay_pair(obu, i + j, out, count, last, flags[j], flags[j + 1]);
+        count = laid.count;
+        last = laid.last;
+        j += 2;
+    }
+    Reached {
+        place: i + j - last, // where a 03 is left to go in, the place before it is taken again
+        count: count - last,
+    }
+}
+
+// A block goes from one 03 to the next: few of its places may have one, or there is no room to go two places a turn.
+fn spread(crowd: u8, room: usize) -> bool
+    ensures { λ r. ⌜ (r ≡ false → block + block ≤ room) ⌝ }
+{
+    if crowd < FEW {
+        return true;
+    }
+    room < DENSE
+}
+
+// The escaped form of the block of obu at i into out from n on.
+fn escape_block(obu: &[u8], i: usize, out: &mut [u8], n: usize) -> Reached
+    requires { ⌜ (i + block + 2 ≤ length (now obu)) × (n + block + 2 ≤ length (now out)) ⌝ }
+    ensures { λ r. ⌜ Lays (now (obu .entry)) i (now (out .entry)) n (r .place) (r .count) (now (out .exit)) ⌝ }
+    ensures { λ r. ⌜ n < r .count ⌝ }
+{
+    let crowd = crowd(obu, i);
+    if crowd == 0 {
+        copy_block(obu, i, out, n);
+        return Reached {
+            place: i + BLOCK,
+            count: n + BLOCK,
+        };
+    }
+    if spread(crowd, out.len() - n) {
+        return escape_sparse(obu, i, out, n);
+    }
+    escape_dense(obu, i, out, n)
+}
+
+// The block of obu at i goes as a block: it fits, and there is room to go two places a turn, or few of its places may
+// have a 03.
+fn suits(obu: &[u8], i: usize, room: usize, n: usize) -> bool
+    requires { ⌜ (i ≤ length (now obu)) × (n ≤ room) ⌝ }
+    ensures { λ r. ⌜ (r ≡ true → (i + block + 2 ≤ length (now (obu .entry))) × (n + block + 2 ≤ room)) ⌝ }
+{
+    if obu.len() - i < BLOCK + 2 {
+        return false;
+    }
+    if DENSE <= room - n {
+        return true;
+    }
+    if room - n < BLOCK + 2 {
+        return false;
+    }
+    crowd(obu, i) < FEW
+}
+
 // As much of the escaped form of obu as out has room for, over the front of out; answers how many bytes that is.
 pub fn escape_prefix(obu: &[u8], out: &mut [u8]) -> usize
     ensures { λ r. ⌜ r ≡ length (take (length (now (out .entry))) (Payload·escape (now (obu .entry)))) ⌝ }
@@ -214,13 +313,8 @@ pub fn escape_prefix(obu: &[u8], out: &mut [u8]) -> usize
         if out.len() <= n {
             return n;
         }
-        let crowd = crowded(obu, i, out.len(), n);
-        if crowd == 0 {
-            copy_block(obu, i, out, n);
-            n += BLOCK;
-            i += BLOCK;
-        } else if crowd < FEW {
-            let reached = escape_sparse(obu, i, out, n);
+        if suits(obu, i, out.len(), n) {
+            let reached = escape_block(obu, i, out, n);
             n = reached.count;
             i = reached.place;
         } else {
