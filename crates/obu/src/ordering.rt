@@ -80,11 +80,9 @@ fn next(table: &[[u8; 5]; 17], position: u8, kind: u8) -> u8
     ensures { λ r. ⌜ LeadsTo (positionOf position) (kindOfNumber kind) (positionOf r) ⌝ }
 {
     if ROWS <= kind {
-        let row = table[0];
-        return row[position as usize];
+        return table[0][position as usize];
     }
-    let row = table[kind as usize];
-    row[position as usize]
+    table[kind as usize][position as usize]
 }
 
 // Whether OBUs with these numbers of their kinds are in order; 7 at the index that breaks it, or at the count if they

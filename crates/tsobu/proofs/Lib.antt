@@ -6,3 +6,4 @@ pub mod Walks
 pub mod ByReader
 pub mod Held
 pub mod TsObus
+pub mod Shorts

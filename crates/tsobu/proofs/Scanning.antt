@@ -7,17 +7,17 @@ use mathlib.Core.Logic.{_⊎_, inl, inr}
 use mathlib.Core.List.{[], _∷_, _++_}
 use native.Mathlib.Omega.{arith}
 use borrow.Author.Tests.{not-false}
-use lib.Dec.{eqb}
-use lib.ListN.{length, take, drop, length-drop, take-append-drop}
+use lib.Dec.{eqb, leb}
+use lib.ListN.{length, take, drop, getD, length-drop, take-append-drop}
 use lib.Seq.{drop-drop}
 use Rattle.lists.specs.Lists.{Bytes}
 use Rattle.lists.proofs.Tests.{case, clash}
 use Rattle.lists.proofs.Threes.{by-three}
 use Rattle.emulation.specs.Payload.{above3, forbidden, firstForbidden, legal, dropped}
-use Rattle.emulation.specs.Parts.{block, hits, marked, paired}
+use Rattle.emulation.specs.Parts.{block, hits, marked, paired, Lawful}
 use Rattle.emulation.proofs.Hits.{one, none-keeps, free-short, free-counted, is-free}
-use Rattle.emulation.proofs.Steps.{first-yes, first-no, forbidden-long, legal-yes, legal-no}
-use Rattle.emulation.proofs.Judging.{dropped-one, marked-until}
+use Rattle.emulation.proofs.Steps.{first-yes, first-no, forbidden-at, forbidden-long, legal-yes, legal-no}
+use Rattle.emulation.proofs.Judging.{dropped-one, marked-until, dropped-until, lawful-first, lawful-dropped}
 use Rattle.tsobu.specs.StartCodes.{atStartCode, Split, split}
 use Rattle.tsobu.specs.Parts.{coded, ScannedAt}
 use Rattle.tsobu.proofs.Splits.{split-byte, code-is}
@@ -123,6 +123,32 @@ unfolding firstForbidden
 first-behind r (inl e) = rw e
 first-behind [] (inr e) = refl
 first-behind (a ∷ r) (inr e) = first-yes a r (code-forbidden (a ∷ r) e)
+
+-- ---- the search for the first forbidden sequence, from a place i on, has come to a place j, and nothing was dropped
+-- a forbidden sequence stands there
+first-zero : (l : Bytes) → forbidden l ≡ true → firstForbidden l ≡ 0
+unfolding firstForbidden
+first-zero [] e = refl
+first-zero (a ∷ l) e = first-yes a l e
+
+pub search-found : (s : Bytes) (i j : ℕ) → Lawful s i j 0 → forbidden (drop j s) ≡ true
+    → (j ≡ i + firstForbidden (drop i s)) × (_≡_ {A = ℕ} 0 (dropped (take (firstForbidden (drop i s)) (drop i s))))
+search-found s i j l e =
+    let z = first-zero (drop j s) e in
+    (lawful-first s i j 0 l z, lawful-dropped s i j 0 l z)
+
+pub forbidden-low : (s : Bytes) (i : ℕ) → i + 2 < length s → getD s i 0 ≡ 0 → getD s (i + 1) 0 ≡ 0 → leb (getD s (i + 2) 0) 2 ≡ true
+    → forbidden (drop i s) ≡ true
+forbidden-low s i h p q e = forbidden-at s i h ∙ rw (p, q, e)
+
+-- what is found from there on is what is found from i on
+pub search-on : (s : Bytes) (i j place count : ℕ) → Lawful s i j 0 → place ≡ j + firstForbidden (drop j s)
+    → count ≡ dropped (take (firstForbidden (drop j s)) (drop j s))
+    → (place ≡ i + firstForbidden (drop i s)) × (count ≡ dropped (take (firstForbidden (drop i s)) (drop i s)))
+search-on s i j place count l e f =
+    let same : drop (firstForbidden (drop i s)) (drop i s) ≡ drop (firstForbidden (drop j s)) (drop j s) =
+    drop-drop (firstForbidden (drop i s)) i s ∙ ap (λ (n : ℕ). drop n s) (l .first) ∙ sym (drop-drop (firstForbidden (drop j s)) j s) in
+    (e ∙ sym (l .first), omega (arith, dropped-until (drop i s), dropped-until (drop j s), ap dropped same, l .drops .less))
 
 short-fine : (l : Bytes) → length l ≤ 2 → (legal l ≡ true) × (dropped l ≡ 0)
 unfolding legal dropped forbidden

@@ -6,12 +6,13 @@ ghost use Rattle.emulation.specs.Payload.{legal};
 ghost use Rattle.emulation.specs.Payload.{dropped as Payload·dropped};
 ghost use Rattle.tsobu.specs.StartCodes.{split, codeFrom};
 ghost use Rattle.tsobu.specs.TsObu.{tsobuFigures, tsobuSays};
-ghost use Rattle.tsobu.specs.Parts.{firstFigures, legalFigures};
+ghost use Rattle.tsobu.specs.Parts.{Short, firstFigures, legalFigures};
 use crate::start_codes::scan;
 use emulation::unescape_prefix;
 use lists::part;
 use obu::Header;
 use obu::JUDGED_BYTES;
+use obu::Size;
 use refusal::Refusal;
 use refusal::Refused;
 
@@ -80,6 +81,59 @@ pub fn judge_payload(payload: &[u8]) -> TsObu
     }
 }
 
+// An OBU of so many bytes, which begins as this payload does, has a header without extension, a right size of one byte
+// and content, and is a frame header or of a type above that, but no tile list: nothing of it is refused.
+fn is_short(payload: &[u8], length: usize) -> bool
+    ensures { λ r. ⌜ (r ≡ true → Short (now (payload .entry)) length) ⌝ }
+{
+    if payload.len() < 3 {
+        return false;
+    }
+    let first = payload[0];
+    if first / 2 % 4 != 1 {
+        return false;
+    }
+    if first < 24 {
+        return false;
+    }
+    if 128 <= first {
+        return false;
+    }
+    if first / 8 == 8 {
+        return false;
+    }
+    let size = payload[1];
+    if size == 0 {
+        return false;
+    }
+    if 128 <= size {
+        return false;
+    }
+    size as usize + 2 == length
+}
+
+// A legal payload that is not empty, of which so many bytes are dropped, with a short way for most small OBUs: of these
+// the first three bytes, in which nothing is dropped, say all. 4, 5, 6, 42.
+fn judge_lawful(payload: &[u8], dropped: usize) -> TsObu
+    requires { ⌜ dropped ≡ Payload·dropped (now payload) ⌝ }
+    ensures { λ r. ⌜ tsobuSays r ≡ legalFigures (now (payload .entry)) ⌝ }
+{
+    if is_short(payload, payload.len() - dropped) {
+        let header = Header {
+            obu_type: payload[0] / 8,
+            extension: false,
+            size: Size::Present {
+                value: payload[1] as u64,
+                width: 1,
+            },
+            content: 2,
+            first_content: payload[2],
+        };
+        return TsObu::Passed(Figures { header, dropped });
+    }
+    judge_obu(payload, dropped)
+}
+
 // One payload, which is legal or not, and of which so many bytes are dropped if it is: 3, 10, 4, 5, 6, 42.
 fn judge_scanned(payload: &[u8], lawful: bool, dropped: usize) -> TsObu
     requires { ⌜ (lawful ≡ legal (now payload)) × (lawful ≡ true → dropped ≡ Payload·dropped (now payload)) ⌝ }
@@ -97,7 +151,7 @@ fn judge_scanned(payload: &[u8], lawful: bool, dropped: usize) -> TsObu
             place: 0,
         });
     }
-    judge_obu(payload, dropped)
+    judge_lawful(payload, dropped)
 }
 
 // The payload from a place on, which runs to the next start code or the end, in one pass over its bytes: where it ends,

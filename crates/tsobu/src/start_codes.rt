@@ -3,15 +3,24 @@ ghost use mathlib.Core.Path.{_≡_};
 ghost use mathlib.Core.Bool.{_&&_};
 ghost use Prim.Native.Nat.{_+_, _≤_, _<_};
 ghost use lib.Dec.{eqb};
-ghost use lib.ListN.{length, drop};
-ghost use Rattle.emulation.specs.Parts.{block, hits, paired};
+ghost use mathlib.Core.Bool.{true};
+ghost use lib.ListN.{length, take, drop};
+ghost use Rattle.emulation.specs.Payload.{forbidden, firstForbidden, dropped};
+ghost use Rattle.emulation.specs.Parts.{block, hits, paired, Lawful};
 ghost use Rattle.tsobu.specs.StartCodes.{startCode3, atStartCode, codeFrom};
 ghost use Rattle.tsobu.specs.Parts.{ScannedAt};
 ghost use Rattle.tsobu.specs.Parts.{coded as Parts·coded};
+use emulation::Reached;
 use emulation::first_forbidden;
 
 // The bytes of a block.
 const BLOCK: usize = 64;
+
+// A string of at most so many bytes is a small one.
+const SMALL: usize = 512;
+
+// So many bytes of a small string are looked at one by one, from a place on.
+const NEAR: usize = 32;
 
 // The payload from a place on: where it ends, whether it is legal, and how many bytes unescaping drops of a legal one.
 pub(crate) struct Scanned {
@@ -154,12 +163,91 @@ pub fn find(s: &[u8], from: usize) -> usize
     i
 }
 
+// From a place on in a string of so many bytes, bytes are looked at one by one up to here.
+fn near_end(bytes: usize, start: usize) -> usize
+    requires { ⌜ start < bytes ⌝ }
+    ensures { λ r. ⌜ r < bytes ⌝ }
+{
+    if bytes - start <= NEAR {
+        return bytes - 1;
+    }
+    start + NEAR
+}
+
+// The first place from `start` on, of those nearby, at which 00 00 stands, or a place behind them. A byte that is not
+// 00 rules out two places.
+fn near_pair(s: &[u8], start: usize) -> usize
+    requires { ⌜ start < length (now s) ⌝ }
+    ensures { λ r. ⌜ Lawful (now (s .entry)) start r 0 ⌝ }
+{
+    let last = near_end(s.len(), start);
+    let mut place = start;
+    while place < last {
+        if s[place + 1] != 0 {
+            place += 2;
+        } else if s[place] != 0 {
+            place += 1;
+        } else {
+            return place;
+        }
+    }
+    place
+}
+
+// A place within a string of so many bytes, which is a small one.
+fn in_small(bytes: usize, place: usize) -> bool
+    ensures { λ r. ⌜ (r ≡ true → place < bytes) ⌝ }
+{
+    if SMALL < bytes {
+        return false;
+    }
+    place < bytes
+}
+
+// At i stand 00 00 and a byte of 0 to 2, a forbidden sequence.
+fn forbidden_at(s: &[u8], i: usize) -> bool
+    requires { ⌜ i ≤ length (now s) ⌝ }
+    ensures { λ r. ⌜ (r ≡ true → forbidden (drop i (now (s .entry))) ≡ true) ⌝ }
+{
+    if s.len() - i < 3 {
+        return false;
+    }
+    if s[i] != 0 {
+        return false;
+    }
+    if s[i + 1] != 0 {
+        return false;
+    }
+    s[i + 2] <= 2
+}
+
+// The first place from `from` on at which a forbidden sequence begins, or the end; and how many bytes unescaping drops
+// before it. In a small unit most payloads are short, with nothing to drop: the first 00 00 belongs to the next start
+// code.
+fn search(s: &[u8], from: usize) -> Reached
+    ensures { λ r. ⌜ r .place ≡ from + firstForbidden (drop from (now (s .entry))) ⌝ }
+    ensures { λ r. ⌜ r .count
+        ≡ dropped (take (firstForbidden (drop from (now (s .entry)))) (drop from (now (s .entry)))) ⌝ }
+{
+    if !in_small(s.len(), from) {
+        return first_forbidden(s, from);
+    }
+    let near = near_pair(s, from);
+    if forbidden_at(s, near) {
+        return Reached {
+            place: near,
+            count: 0,
+        };
+    }
+    first_forbidden(s, near)
+}
+
 // The payload from a place on, in one pass: a start code is a forbidden sequence, too, and of zeros before one the last
 // two belong to none in the payload.
 pub(crate) fn scan(unit: &[u8], start: usize) -> Scanned
     ensures { λ r. ⌜ ScannedAt (now (unit .entry)) start r ⌝ }
 {
-    let reached = first_forbidden(unit, start);
+    let reached = search(unit, start);
     let place = reached.place;
     let dropped = reached.count;
     if unit.len() <= place {

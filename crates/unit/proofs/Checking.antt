@@ -6,7 +6,7 @@ use mathlib.Core.List.{List, [], _∷_, map, flatten}
 use native.Mathlib.Omega.{arith}
 use borrow.Author.Tests.{lt-ltb, le-ltb, ltb-false}
 use lib.Dec.{ltb}
-use lib.ListN.{length, take, length-map}
+use lib.ListN.{length, take, drop, length-map, length-append, take-append-drop}
 use Rattle.lists.specs.Lists.{Bytes}
 use Rattle.lists.proofs.Tests.{case, or-neither}
 use Rattle.refusal.specs.Verdict.{Verdict, passed, refused, _>>=_, _>>_, given, inTurn}
@@ -171,6 +171,14 @@ checked s c e =
       bytes = sym (ap (λ (x : Counts). x .bytes) same) ∙ ap (λ (l : List Bytes). sum (map length l)) (sym (r .1)) ∙ sum-lengths (obusIn s);
       drops = sym (ap (λ (x : Counts). x .dropped) same);
     }
+
+-- there is a width for each of its OBUs
+pub widths-long : (s : Bytes) (c : Counts) (sizes : List ℕ) → Checked s c → take (c .obus) sizes ≡ map sizeWidth (obusIn s)
+    → c .obus ≤ length sizes
+widths-long s c sizes h e =
+    let both = length-append (take (c .obus) sizes) (drop (c .obus) sizes) in
+    let whole = ap length (take-append-drop (c .obus) sizes) in
+    omega (arith, h .obus, ap length e, length-map (obusIn s) sizeWidth, length-map (payloads s) unescape, both, whole)
 
 -- ---- reading, behind the verdict of checking
 module _ (s : Bytes) (bytes lengths widths : ℕ) where

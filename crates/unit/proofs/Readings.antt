@@ -30,8 +30,8 @@ use Rattle.tsobu.specs.TsObu.{tsobuRefusal}
 use Rattle.unit.specs.Answer.{readSays}
 use Rattle.unit.specs.Parts.{kindIn, endsFrom, payloadCounts, countedPayloads, Judges, wholeCounts}
 use Rattle.unit.specs.declared.reading.Counts.{Counts}
+use Rattle.unit.specs.declared.reading.UnitRead.{UnitRead}
 use Rattle.unit.specs.declared.reading.UnitRead.the-variants as read
-use Rattle.unit.specs.declared.reading.Payloads.{Payloads}
 use Rattle.tsobu.specs.declared.judging.Figures.{Figures}
 use Rattle.tsobu.proofs.TsObus.{Passes}
 use Rattle.tsobu.proofs.Places.{Place, nextCode, payloadAt, payload-length, next-fits, next-place, payloads-from, payloads-end}
@@ -271,7 +271,7 @@ module _ {s : Bytes} {at kinds widths : List ℕ} {bytes drops code k : ℕ} (j 
 -- all passed
 pub judging-done : {s : Bytes} {at kinds widths : List ℕ} {bytes drops code k : ℕ} → Judging s at kinds widths bytes drops code k
     → length s ≤ code
-    → Judges s (record { found = read.Obus (record { obus = k; bytes = bytes; dropped = drops }); kinds = kinds }) at widths
+    → Judges s (read.Obus (record { obus = k; bytes = bytes; dropped = drops })) kinds at widths
 unfolding countedPayloads payloadCounts sum inTurn
 judging-done {s} {at} {kinds} {widths} {bytes} {drops} {code} {k} j h =
     let z = payloads-end s code h in
@@ -283,16 +283,23 @@ judging-done {s} {at} {kinds} {widths} {bytes} {drops} {code} {k} j h =
       found =
           pass-on 1 (le-ltb mostObus (length (payloads s)) (omega (arith, j .ending .few)))
           (follows (j .passed-so-far ∙ ap (inTurn tsobuRefusal k) z) (λ i. passed (record { obus = n i; bytes = b i; dropped = d i })));
+      long = j .kinds-noted .long;
       kinds = λ c e. noted-done kindIn s (j .kinds-noted) z (sym n);
       ends = λ c e. ap (λ (x : ℕ). take x at) (sym n) ∙ ending-noted (j .ending) h;
       widths = λ c e. noted-done widthIn s (j .widths-noted) z (sym n) ∙ widths-in (payloads s);
     }
 
 -- where something was refused, nothing is asked of what was noted
-pub refused-judges : {s : Bytes} (p : Payloads) (ends widths : List ℕ) {number place : ℕ} → readSays (p .found) ≡ refused number place
-    → refused number place ≡ countedPayloads s → Judges s p ends widths
-refused-judges p ends widths f e =
-    record { found = f ∙ e; kinds = λ c t. never (e ∙ t); ends = λ c t. never (e ∙ t); widths = λ c t. never (e ∙ t) }
+pub refused-judges : {s : Bytes} (r : UnitRead) (numbers ends widths : List ℕ) {number place : ℕ} → length numbers ≡ 64
+    → readSays r ≡ refused number place → refused number place ≡ countedPayloads s → Judges s r numbers ends widths
+refused-judges r numbers ends widths l f e =
+    record {
+      found = f ∙ e;
+      long = l;
+      kinds = λ c t. never (e ∙ t);
+      ends = λ c t. never (e ∙ t);
+      widths = λ c t. never (e ∙ t);
+    }
 
 -- ---- payloads counted on
 pub record Counting (s : Bytes) (at before code count : ℕ) : Type 0 where

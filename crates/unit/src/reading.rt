@@ -20,6 +20,7 @@ use crate::limits::MOST_OBU_BYTES;
 use crate::limits::MOST_OBUS;
 use emulation::unescape_prefix;
 use lists::copy;
+use lists::part;
 use obu::kind_number;
 use obu::size_bytes;
 use refusal::Refusal;
@@ -41,20 +42,11 @@ pub enum UnitRead {
     Refused(Refused),
 }
 
-// What the payloads of a unit were found to be, with the numbers of the OBUs' kinds.
-struct Payloads {
-    found: UnitRead,
-    kinds: [u8; 64],
-}
-
 // The refusal of the payload with this index.
-fn stopped(why: Refusal, index: usize) -> Payloads
-    ensures { λ r. ⌜ readSays (r .found) ≡ refused (numberOf why) index ⌝ }
+fn stopped(why: Refusal, index: usize) -> UnitRead
+    ensures { λ r. ⌜ readSays r ≡ refused (numberOf why) index ⌝ }
 {
-    Payloads {
-        found: UnitRead::Refused(Refused { why, place: index }),
-        kinds: [0u8; 64],
-    }
+    UnitRead::Refused(Refused { why, place: index })
 }
 
 // There are more than 64 payloads, where so many stand before this place, at which a start code stands or the unit
@@ -75,12 +67,18 @@ fn too_many(unit: &[u8], at: usize, before: usize) -> bool
     MOST_OBUS < count
 }
 
-// The payloads in turn, where each ends, and the width of its OBU's size: 1; 3, 10, 4, 5, 6, 42.
-fn judge_payloads(unit: &[u8], ends: &mut [usize; 64], widths: &mut [usize; 64]) -> Payloads
-    requires { ⌜ (atStartCode (now unit) ≡ true) × (length (now ends) ≡ 64) × (length (now widths) ≡ 64) ⌝ }
-    ensures { λ r. ⌜ Judges (now (unit .entry)) r (now (ends .exit)) (now (widths .exit)) ⌝ }
+// The payloads in turn; of each the number of its OBU's kind, where it ends, and the width of its OBU's size: 1; 3, 10,
+// 4, 5, 6, 42.
+fn judge_payloads(
+    unit: &[u8],
+    kinds: &mut [u8; 64],
+    ends: &mut [usize; 64],
+    widths: &mut [usize; 64],
+) -> UnitRead
+    requires { ⌜ (atStartCode (now unit) ≡ true) × (length (now kinds) ≡ 64) × (length (now ends) ≡ 64)
+        × (length (now widths) ≡ 64) ⌝ }
+    ensures { λ r. ⌜ Judges (now (unit .entry)) r (now (kinds .exit)) (now (ends .exit)) (now (widths .exit)) ⌝ }
 {
-    let mut kinds = [0u8; 64];
     let mut bytes: usize = 0;
     let mut dropped: usize = 0;
     let mut code: usize = 0;
@@ -114,12 +112,11 @@ fn judge_payloads(unit: &[u8], ends: &mut [usize; 64], widths: &mut [usize; 64])
             }
         }
     }
-    let found = UnitRead::Obus(Counts {
+    UnitRead::Obus(Counts {
         obus: count,
         bytes,
         dropped,
-    });
-    Payloads { found, kinds }
+    })
 }
 
 fn refusal(why: Refusal) -> UnitRead
@@ -129,15 +126,13 @@ fn refusal(why: Refusal) -> UnitRead
 }
 
 // The payloads passed, with these counts and the numbers of the OBUs' kinds: 2 for the OBUs' sum, 7.
-fn judge_whole(counts: Counts, kinds: [u8; 64]) -> UnitRead
-    requires { ⌜ counts .obus ≤ 64 ⌝ }
-    ensures { λ r. ⌜ readSays r ≡ wholeCounts counts kinds ⌝ }
+fn judge_whole(counts: Counts, kinds: &[u8]) -> UnitRead
+    ensures { λ r. ⌜ readSays r ≡ wholeCounts counts (now (kinds .entry)) ⌝ }
 {
     if MOST_OBU_BYTES < counts.bytes {
         return refusal(Refusal::LENGTH);
     }
-    let count = counts.obus;
-    let ordered = obu::order(&kinds[..count]);
+    let ordered = obu::order(part(kinds, 0, counts.obus));
     match ordered {
         obu::Ordered::Refused(refused) => UnitRead::Refused(refused),
         obu::Ordered::Legal => UnitRead::Obus(counts),
@@ -157,13 +152,12 @@ fn judge_unit(unit: &[u8], ends: &mut [usize; 64], widths: &mut [usize; 64]) -> 
     if !at_start_code(unit) {
         return refusal(Refusal::NO_START_CODE);
     }
-    let payloads = judge_payloads(unit, ends, widths);
-    let found = payloads.found;
+    let mut kinds = [0u8; 64];
+    let found = judge_payloads(unit, &mut kinds, ends, widths);
     let UnitRead::Obus(counts) = found else {
         return found;
     };
-    let kinds = payloads.kinds;
-    judge_whole(counts, kinds)
+    judge_whole(counts, &kinds)
 }
 
 // The figures of a unit that reading accepts, or the refusal.
@@ -219,9 +213,9 @@ fn copy_obus(
 }
 
 // So many of the widths over the front of out.
-fn copy_widths(widths: [usize; 64], count: usize, out: &mut [usize])
-    requires { ⌜ (count ≤ 64) × (count ≤ length (now out)) ⌝ }
-    ensures { λ _. ⌜ now (out .exit) ≡ over (take count widths) (now (out .entry)) ⌝ }
+fn copy_widths(widths: &[usize; 64], count: usize, out: &mut [usize])
+    requires { ⌜ (count ≤ 64) × (count ≤ length (now widths)) × (count ≤ length (now out)) ⌝ }
+    ensures { λ _. ⌜ now (out .exit) ≡ over (take count (now (widths .entry))) (now (out .entry)) ⌝ }
 {
     let mut i: usize = 0;
     while i < count {
@@ -259,6 +253,6 @@ pub fn read(unit: &[u8], out: &mut [u8], lens: &mut [usize], widths: &mut [usize
         return refusal(Refusal::NO_ROOM);
     }
     copy_obus(unit, counts.obus, counts.dropped, &ends, out, lens);
-    copy_widths(found, counts.obus, widths);
+    copy_widths(&found, counts.obus, widths);
     UnitRead::Obus(counts)
 }

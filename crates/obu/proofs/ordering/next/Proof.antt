@@ -10,11 +10,11 @@ use Rattle.obu.proofs.Types.{above-kinds}
 use Rattle.obu.proofs.ordering.next.Statement.{statement}
 use Rattle.obu.proofs.ordering.next.Tie as tie
 
-element-copy-out-row : tie.Need-element-copy-out-row
-element-copy-out-row c = search needs
+index-1-result : tie.Need-index-1-result
+index-1-result c = search needs
 
-array-read-result : tie.Need-array-read-result
-array-read-result c = c .before .before .pre .1
+index-2-result : tie.Need-index-2-result
+index-2-result c = c .before .pre .1
 
 returns : tie.Need-returns
 unfolding IsOrderTable
@@ -24,14 +24,14 @@ returns c =
     subst (λ (k : Kind). LeadsTo (positionOf (start .args .position)) k at) (sym (above-kinds (start .args .kind) (c .before .if1 .taken)))
     (start .pre .0 0 (start .args .position) (omega arith) (start .pre .1))
 
-mul-row : tie.Need-mul-row
-mul-row c = search needs
+mul-result : tie.Need-mul-result
+mul-result c = search needs
 
-element-copy-out-row-2 : tie.Need-element-copy-out-row-2
-element-copy-out-row-2 c = search needs
+index-1-result-2 : tie.Need-index-1-result-2
+index-1-result-2 c = search needs
 
-array-read-result-2 : tie.Need-array-read-result-2
-array-read-result-2 c = c .before .before .pre .1
+index-2-result-2 : tie.Need-index-2-result-2
+index-2-result-2 c = c .before .pre .1
 
 returns-2 : tie.Need-returns-2
 unfolding IsOrderTable
@@ -43,10 +43,10 @@ pub next-spec : {M : Type 1} → statement M
 next-spec =
     tie.close
     (tie.spec
-    element-copy-out-row
-    array-read-result
+    index-1-result
+    index-2-result
     returns
-    mul-row
-    element-copy-out-row-2
-    array-read-result-2
+    mul-result
+    index-1-result-2
+    index-2-result-2
     returns-2)

@@ -11,17 +11,17 @@ use Rattle.tsobu.proofs.start_codes.scan.Statement.{statement}
 use Rattle.tsobu.proofs.start_codes.scan.Tie as tie
 
 -- what the search found
-first : (c : tie.After-first-forbidden)
-    → let found = c .first-forbidden .result in
+first : (c : tie.After-search)
+    → let found = c .search .result in
     First (c .before .before .args .unit .now) (c .before .before .args .start) (found .place) (found .count)
-first c = record { at = c .first-forbidden .ensures .0; drops = c .first-forbidden .ensures .1 }
+first c = record { at = c .search .ensures .0; drops = c .search .ensures .1 }
 
 -- where it found something, three bytes are there
-long : (c : tie.Else1) → c .before .first-forbidden .result .place + 3 ≤ length (c .before .before .before .args .unit .now)
+long : (c : tie.Else1) → c .before .search .result .place + 3 ≤ length (c .before .before .before .args .unit .now)
 long c = scan-long (first (c .before)) (c .if1 .left)
 
-first-forbidden-requires : tie.Need-first-forbidden-requires
-first-forbidden-requires c κs = search needs
+search-requires : tie.Need-search-requires
+search-requires c κs = search needs
 
 returns : tie.Need-returns
 returns c =
@@ -92,7 +92,7 @@ pub scan-spec : {M : Type 1} → statement M
 scan-spec =
     tie.close
     (tie.spec
-    first-forbidden-requires
+    search-requires
     returns
     code-at-requires
     returns-2

@@ -4,7 +4,7 @@ use borrow.Author.Needs.{needs}
 use native.Mathlib.Omega.{arith}
 use Prim.Native.Nat.{ℕ, _+_, _-_, _≤_, _<_}
 use mathlib.Core.Bool.{true}
-use mathlib.Core.Path.{_≡_, refl, sym, ap, subst, _∙_}
+use mathlib.Core.Path.{_≡_, sym, ap, subst, _∙_}
 use borrow.Author.Tests.{ltb-true, ltb-false}
 use lib.ListN.{length, drop, set}
 use Rattle.emulation.proofs.Steps.{given-or-dropped}
@@ -22,11 +22,11 @@ use Rattle.unit.proofs.reading.judge_payloads.Statement.{statement}
 use Rattle.unit.proofs.reading.judge_payloads.Tie as tie
 
 abbrev Inv-loop : tie.InvT-loop
-Inv-loop unit ends₀ widths₀ kinds₀ bytes₀ dropped₀ code₀ count₀ ends widths kinds bytes dropped code count =
+Inv-loop unit kinds₀ ends₀ widths₀ bytes₀ dropped₀ code₀ count₀ kinds ends widths bytes dropped code count =
     Judging unit ends kinds widths bytes dropped code count
 
 abbrev μ-loop : tie.MeasureT-loop
-μ-loop unit ends₀ widths₀ kinds₀ bytes₀ dropped₀ code₀ count₀ ends widths kinds bytes dropped code count = length unit - code
+μ-loop unit kinds₀ ends₀ widths₀ bytes₀ dropped₀ code₀ count₀ kinds ends widths bytes dropped code count = length unit - code
 
 -- ---- in a turn, behind the verdict on its payload
 end-is : (c : tie.After-judge-from Inv-loop μ-loop)
@@ -79,14 +79,16 @@ counted c =
     ap (λ (e : ℕ). at .count + 1 + length (payloads (drop e s))) (end-is c) ∙ judging-count (at .inv) (c .before .before .loop-test .taken)
 
 loop-holds : tie.Need-loop-holds Inv-loop μ-loop
-loop-holds c = judging-start (c .before .args .unit .now) _ _ _ (c .before .pre .1) refl (c .before .pre .2) (c .before .pre .0)
+loop-holds c =
+    let pre = c .before .pre in
+    judging-start (c .before .args .unit .now) _ _ _ (pre .2) (pre .1) (pre .3) (pre .0)
 
 stopped-requires : tie.Need-stopped-requires Inv-loop μ-loop
 stopped-requires c κs = search needs
 
 returns : tie.Need-returns Inv-loop μ-loop
 returns c =
-    refused-judges _ _ _ (c .stopped .ensures)
+    refused-judges _ _ _ _ (c .before .before .before .loop .inv .kinds-noted .long) (c .stopped .ensures)
     (judging-past (c .before .before .before .loop .inv) (c .before .before .loop-test .taken) (c .before .if1 .taken))
 
 add-start : tie.Need-add-start Inv-loop μ-loop
@@ -122,7 +124,8 @@ returns-2 c =
     let s = i .before .before .before .before .before .args .unit .now in
     let n = i .before .before .before .loop .count + 1 + length (payloads (drop (i .judge-from .result .end) s)) in
     let more = ltb-true mostObus n (sym (c .before .before .too-many .ensures) ∙ c .before .if2 .taken) in
-    refused-judges _ _ _ (c .stopped2 .ensures) (counted-many s (omega (arith, counted i, more)))
+    refused-judges _ _ _ _ (i .before .before .before .loop .inv .kinds-noted .long) (c .stopped2 .ensures)
+    (counted-many s (omega (arith, counted i, more)))
 
 stopped-requires-3 : tie.Need-stopped-requires-3 Inv-loop μ-loop
 stopped-requires-3 c κs = search needs
@@ -135,7 +138,7 @@ returns-3 c =
     (payloads (drop (i .judge-from .result .end) (i .before .before .before .before .before .args .unit .now))) in
     let most = ltb-false mostObus n (sym (c .before .before .before .too-many .ensures) ∙ c .before .before .if2 .left) in
     let r = tsobu-refused _ _ _ (said i) (c .before .before .before .before .before .judged .given .1) in
-    refused-judges _ _ _ (c .stopped3 .ensures)
+    refused-judges _ _ _ _ (at .inv .kinds-noted .long) (c .stopped3 .ensures)
     (judging-refused (at .inv) (i .before .before .loop-test .taken) (c .before .before .before .before .before .judged .given .0 .0) r
     (omega (arith, counted i, most)))
 
@@ -145,8 +148,10 @@ enum-known-judged-2 c = search needs
 kind-number-requires : tie.Need-kind-number-requires Inv-loop μ-loop
 kind-number-requires c κs = search needs
 
-array-write-kinds : tie.Need-array-write-kinds Inv-loop μ-loop
-array-write-kinds c = few (c .before .before .before .before .before)
+element-write-kinds : tie.Need-element-write-kinds Inv-loop μ-loop
+element-write-kinds c =
+    let judged = c .before .before .before .before .before in
+    omega (arith, few judged, judged .before .before .before .loop .inv .kinds-noted .long)
 
 size-bytes-requires : tie.Need-size-bytes-requires Inv-loop μ-loop
 size-bytes-requires c κs = search needs
@@ -243,7 +248,7 @@ judge-payloads-spec =
     returns-3
     enum-known-judged-2
     kind-number-requires
-    array-write-kinds
+    element-write-kinds
     size-bytes-requires
     mul-widths
     element-write-widths

@@ -1,11 +1,7 @@
 -- The tries in their order: each answer is a refusal of checking, or what `judge_whole` says of payloads that passed.
 use borrow.Author.Needs.{needs}
-use native.Mathlib.Omega.{arith}
-use mathlib.Core.Path.{sym, ap, _∙_}
-use borrow.Author.Tests.{ltb-false, not-true, not-false}
-use lib.ListN.{length}
-use Rattle.unit.specs.Unit.{mostObus}
-use Rattle.tsobu.specs.StartCodes.{payloads}
+use mathlib.Core.Path.{refl, sym, ap, _∙_}
+use borrow.Author.Tests.{not-true, not-false}
 use Rattle.unit.specs.Answer.{readSays}
 use Rattle.unit.proofs.Checking.{counts-obus, check-long, check-headless, check-whole, counted-refused, counted-passed}
 use Rattle.unit.proofs.Checking.{refused-notes, whole-notes}
@@ -33,12 +29,15 @@ returns-2 c =
     (ap readSays (c .refusal2 .ensures) ∙ k, refused-notes _ _ _ 9 0 k)
 
 judge-payloads-requires : tie.Need-judge-payloads-requires
-judge-payloads-requires c κs = (
-  sym (c .before .before .before .at-start-code .ensures)
-      ∙ not-false _ (c .before .before .if2 .left),
-  c .before .before .before .before .before .before .pre .0,
-  c .before .before .before .before .before .before .pre .1,
-)
+judge-payloads-requires c κs =
+    let tested = c .before .before .before in
+    let start = tested .before .before .before .before in (
+      sym (tested .before .at-start-code .ensures)
+          ∙ not-false _ (tested .if2 .left),
+      refl,
+      start .pre .0,
+      start .pre .1,
+    )
 
 enum-known-found : tie.Need-enum-known-found
 enum-known-found c = search needs
@@ -49,26 +48,25 @@ enum-told c = search needs
 returns-3 : tie.Need-returns-3
 returns-3 c =
     let e = ap readSays (c .enum-told .given .1) in
-    let headed = sym (c .before .before .before .before .before .before .at-start-code .ensures)
-    ∙ not-false _ (c .before .before .before .before .before .if2 .left) in
-    let k = counted-refused _ (c .before .before .before .before .before .before .before .if1 .left) headed _ _
-    (sym e ∙ c .before .before .judge-payloads .ensures .found) in
+    let called = c .before .before in
+    let tested = called .before .before .before .before in
+    let headed = sym (tested .before .at-start-code .ensures) ∙ not-false _ (tested .if2 .left) in
+    let k = counted-refused _ (tested .before .before .if1 .left) headed _ _ (sym e ∙ called .judge-payloads .ensures .found) in
     (e ∙ k, refused-notes _ _ _ _ _ k)
 
+slice-aggregate-judge-whole : tie.Need-slice-aggregate-judge-whole
+slice-aggregate-judge-whole c = sym (c .before .before .before .before .judge-payloads .ensures .long)
+
 judge-whole-requires : tie.Need-judge-whole-requires
-judge-whole-requires c κs =
-    let judged = c .before .before .before .before in
-    let s = judged .before .before .before .before .before .before .before .args .unit .now in
-    let e = ap readSays (c .before .before .found .given .1) in
-    let p = counted-passed s _ (sym e ∙ judged .judge-payloads .ensures .found) in
-    omega (arith, counts-obus s _ (p .1), ltb-false mostObus (length (payloads s)) (sym (p .0)))
+judge-whole-requires c κs = search needs
 
 returns-4 : tie.Need-returns-4
 returns-4 c =
-    let called = c .before .before .before .before .before in
-    let tested = called .before .before .before in
+    let found = c .before .before .before in
+    let called = found .before .before in
+    let tested = called .before .before .before .before in
     let s = tested .before .before .before .before .args .unit .now in
-    let e = ap readSays (c .before .before .before .found .given .1) in
+    let e = ap readSays (found .found .given .1) in
     let judged = called .judge-payloads .ensures in
     let headed = sym (tested .before .at-start-code .ensures) ∙ not-false _ (tested .if2 .left) in
     let f = sym e ∙ judged .found in
@@ -89,5 +87,6 @@ judge-unit-spec =
     enum-known-found
     enum-told
     returns-3
+    slice-aggregate-judge-whole
     judge-whole-requires
     returns-4)

@@ -9,7 +9,7 @@ use Rattle.lists.specs.Lists.{over}
 use Rattle.refusal.specs.Verdict.{passed, leaves}
 use Rattle.refusal.proofs.Verdicts.{refused-leaves}
 use Rattle.unit.specs.Answer.{checking, readSays}
-use Rattle.unit.proofs.Checking.{checked, reading-refused, reading-short, reading-fits, rooms}
+use Rattle.unit.proofs.Checking.{checked, widths-long, reading-refused, reading-short, reading-fits, rooms}
 use Rattle.unit.proofs.reading.read.Statement.{statement}
 use Rattle.unit.proofs.reading.read.Tie as tie
 
@@ -79,8 +79,10 @@ copy-obus-requires c κs =
 
 copy-widths-requires : tie.Need-copy-widths-requires
 copy-widths-requires c κs =
-    let fit = c .before .before .before .before .before .before .before .before .before in
-    (checked _ _ (accepted (fit .before .before)) .few, room fit .2)
+    let fit = c .before .before .before .before .before .before .before .before .before .before in
+    let told = fit .before .before in
+    let a = checked _ _ (accepted told) in
+    (a .few, widths-long _ _ _ a (told .before .before .before .judge-unit .ensures .1 .widths _ (accepted told)), room fit .2)
 
 same-length : tie.Need-same-length
 same-length c = search needs
@@ -94,7 +96,7 @@ same-length-3 c = search needs
 returns-3 : tie.Need-returns-3
 unfolding leaves
 returns-3 c =
-    let copied = c .before .before .before .before .before .before .before .before in
+    let copied = c .before .before .before .before .before .before .before .before .before in
     let fit = copied .before .before .before .before in
     let told = fit .before .before in
     let judged = told .before .before .before in
