@@ -1,12 +1,13 @@
 // Escaping and unescaping of one OBU.
 ghost use mathlib.Core.Path.{_≡_};
-ghost use Rattle.emulation.specs.Answer.{escapedSays, unescapedSays};
+ghost use Rattle.emulation.specs.Answer.{unescapedSays};
+ghost use Rattle.escaping.specs.Answer.{escapedSays};
 ghost use Rattle.answers.specs.Answers.{countAnswer, unescapeAnswer};
 use crate::answer::Answer;
 use crate::answer::counted;
 use crate::answer::refusal;
-use emulation::Escaped;
 use emulation::Unescaped;
+use escaping::Escaped;
 
 pub fn escape_answer(escaped: Escaped) -> Answer
     ensures { λ r. ⌜ r ≡ countAnswer (escapedSays escaped) ⌝ }

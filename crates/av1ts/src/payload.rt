@@ -14,7 +14,7 @@ pub extern "C" fn av1ts_escape(obu: &[u8], out: &mut [u8]) -> Answer
         ≡ leaves (escaping (now (obu .entry)) (length (now (out .entry)))) (escape (now (obu .entry)))
         (now (out .entry)) ⌝ }
 {
-    answers::escape_answer(emulation::escape(obu, out))
+    answers::escape_answer(escaping::escape(obu, out))
 }
 
 #[no_mangle]

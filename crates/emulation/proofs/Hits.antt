@@ -1,21 +1,20 @@
 -- At how many of the first places of a string a test holds (`hits`): one place more, at the end or at the front; a loop that counts them
--- (`Counted`), or looks for the first of them (`Searched`); what each place keeps at which it does not hold; blocks in which it holds
--- nowhere (`freeOf`). Assumes nothing.
+-- (`Counted`); what each place keeps at which it does not hold; blocks in which it holds nowhere (`freeOf`). Assumes nothing.
 use Prim.Native.Nat.{ℕ, zero, suc, _+_, _-_, _≤_, _<_}
 use mathlib.Core.Bool.{Bool, true, false}
-use mathlib.Core.Path.{_≡_, refl, sym, ap, subst, subst₂, _∙_}
+use mathlib.Core.Path.{_≡_, refl, ap, subst₂, _∙_}
 use mathlib.Core.List.{[], _∷_}
 use native.Mathlib.Omega.{arith}
 use native.Mathlib.Numerals.{add-one}
-use lib.Dec.{leb, ltb, eqb}
+use lib.Dec.{leb, eqb}
 pub use mir.Val.{boolByte as one}
 use lib.ListN.{length, drop, getD, length-drop}
 use lib.Seq.{drop-drop}
-use borrow.Author.Tests.{eqb-true, leb-true, le-leb, lt-leb, ltb-true, ltb-false}
+use borrow.Author.Tests.{eqb-true, leb-true, le-leb, lt-leb}
 use Rattle.lists.specs.Lists.{Bytes}
 use Rattle.lists.proofs.Tests.{case, and-both}
 use Rattle.lists.proofs.Parts.{next}
-use Rattle.emulation.specs.Parts.{hits, block, freeOf, First}
+use Rattle.emulation.specs.Blocks.{hits, block, freeOf}
 
 pub one-most : (t : Bool) → one t ≤ 1
 one-most true = omega arith
@@ -32,14 +31,6 @@ pub record Counted (test : Bytes → Bool) (s : Bytes) (i j count : ℕ) : Type 
   pub few : count ≤ j
   pub is : count ≡ hits test j (drop i s)
 
--- a loop has looked at the first k places of the block at i: `first` is the first of them at which the test holds, or the block's length
-pub record Searched (test : Bytes → Bool) (s : Bytes) (i k first : ℕ) : Type 0 where
-  pub within : k ≤ block
-  pub most : first ≤ block
-  pub sooner : first < block → first < k
-  pub found : first < block → First test s i block first
-  pub none : first ≡ block → hits test k (drop i s) ≡ 0
-
 module _ (test : Bytes → Bool) where
   -- one place more, at the end
   hits-more : test [] ≡ false → (n : ℕ) (l : Bytes) → hits test (suc n) l ≡ hits test n l + one (test (drop n l))
@@ -49,7 +40,7 @@ module _ (test : Bytes → Bool) where
   hits-more none (suc n) [] = rw none
   hits-more none (suc n) (a ∷ l) = omega (arith, hits-first test (suc n) a l, hits-first test n a l, hits-more none n l)
 
-  hits-at : test [] ≡ false → (s : Bytes) (i j : ℕ) (t : Bool) → test (drop (i + j) s) ≡ t
+  pub hits-at : test [] ≡ false → (s : Bytes) (i j : ℕ) (t : Bool) → test (drop (i + j) s) ≡ t
       → hits test (j + 1) (drop i s) ≡ hits test j (drop i s) + one t
   hits-at none s i j t e =
       let d : test (drop j (drop i s)) ≡ t = rw drop-drop e in
@@ -72,83 +63,6 @@ module _ (test : Bytes → Bool) where
 
   pub counted-all : {s : Bytes} {i j count : ℕ} → Counted test s i j count → block ≤ j → count ≡ hits test block (drop i s)
   counted-all {j = j} c h = let e : j ≡ block = omega (arith, c .within) in rw e at (c .is)
-
-  -- a search begins, looks at a place, at which it finds k or nothing, and has come to the end of the block
-  pub searched-start : (s : Bytes) (i : ℕ) → Searched test s i 0 block
-  unfolding hits
-  searched-start s i =
-      record {
-        within = omega arith;
-        most = omega arith;
-        sooner = λ h. absurd (omega arith);
-        found = λ h. absurd (omega arith);
-        none = λ e. refl;
-      }
-
-  -- it has found a place already
-  searched-found : {s : Bytes} {i k first : ℕ} → Searched test s i k first → k < block → first < block → Searched test s i (k + 1) first
-  searched-found a h l =
-      record {
-        within = omega arith;
-        most = a .most;
-        sooner = λ m. omega (arith, a .sooner l);
-        found = a .found;
-        none = λ e. absurd (omega arith);
-      }
-
-  searched-yes : {s : Bytes} {i k first : ℕ} → Searched test s i k first → k < block → first ≡ block → test (drop (i + k) s) ≡ true
-      → Searched test s i (k + 1) k
-  searched-yes a h l t =
-      record {
-        within = omega arith;
-        most = omega arith;
-        sooner = λ m. omega arith;
-        found = λ m. record { within = omega arith; none = a .none l; there = λ r. t };
-        none = λ e. absurd (omega arith);
-      }
-
-  searched-no : test [] ≡ false → {s : Bytes} {i k first : ℕ} → Searched test s i k first → k < block → first ≡ block
-      → test (drop (i + k) s) ≡ false
-      → Searched test s i (k + 1) block
-  searched-no none {s} {i} {k} a h l t =
-      record {
-        within = omega arith;
-        most = omega arith;
-        sooner = λ m. absurd (omega arith);
-        found = λ m. absurd (omega arith);
-        none = λ e. omega (arith, hits-at none s i k false t, a .none l);
-      }
-
-  pub searched-next : test [] ≡ false → {s : Bytes} {i k first found least : ℕ} → Searched test s i k first → k < block
-      → (test (drop (i + k) s) ≡ true → found ≡ k)
-      → (test (drop (i + k) s) ≡ false → found ≡ block)
-      → (first < found → least ≡ first) × (found ≤ first → least ≡ found)
-      → Searched test s i (k + 1) least
-  searched-next none {s} {i} {k} {first} {found} {least} a h hit miss small =
-      let Goal : ℕ → Type 0 = λ x. Searched test s i (k + 1) x in
-      case (ltb first block)
-      (λ t.
-      let l = ltb-true first block t in
-      let before = a .sooner l in
-      let e : least ≡ first =
-      case (test (drop (i + k) s))
-      (λ u. small .0 (omega (arith, hit u, before)))
-      (λ u. small .0 (omega (arith, miss u, l))) in
-      subst Goal (sym e) (searched-found a h l))
-      (λ t.
-      let l : first ≡ block = omega (arith, ltb-false first block t, a .most) in
-      case (test (drop (i + k) s))
-      (λ u. let e : least ≡ k = small .1 (omega (arith, hit u, l)) ∙ hit u in subst Goal (sym e) (searched-yes a h l u))
-      (λ u. let e : least ≡ block = small .1 (omega (arith, miss u, l)) ∙ miss u in subst Goal (sym e) (searched-no none a h l u)))
-
-  pub searched-all : {s : Bytes} {i k first : ℕ} → Searched test s i k first → block ≤ k → First test s i block first
-  searched-all {s} {i} {k} {first} a h =
-      case (ltb first block)
-      (λ t. a .found (ltb-true first block t))
-      (λ t.
-      let l : first ≡ block = omega (arith, ltb-false first block t, a .most) in
-      let e : k ≡ first = omega (arith, a .within, l) in
-      record { within = a .most; none = rw e at (a .none l); there = λ m. absurd (omega arith) })
 
   -- where it holds nowhere, it does not hold at the first place, and nowhere after it
   pub none-first : (n a : ℕ) (s : Bytes) → hits test (suc n) (a ∷ s) ≡ 0 → (test (a ∷ s) ≡ false) × (hits test n s ≡ 0)

@@ -14,12 +14,13 @@ use Rattle.lists.proofs.Tests.{case, clash, and-both}
 use Rattle.lists.proofs.Parts.{next}
 use Rattle.lists.proofs.Threes.{by-three}
 use Rattle.emulation.specs.Payload.{marked3, unescape, dropped, forbidden, above3, firstForbidden, legal}
-use Rattle.emulation.specs.Parts.{marked, critical, paired, hits, block, Lawful}
+use Rattle.emulation.specs.Blocks.{paired, hits, block}
+use Rattle.emulation.specs.Parts.{marked, critical, Lawful}
 use Rattle.emulation.proofs.Steps.{marked-is, marked-at, marked-fits, forbidden-at, above3-at, unescape-plain, dropped-marked}
 use Rattle.emulation.proofs.Steps.{dropped-plain, dropped-at-marked, dropped-at-plain, first-yes, first-no, first-next}
 use Rattle.emulation.proofs.Steps.{illegal-before, legal-after, marked-three}
-use Rattle.emulation.proofs.Clean.{uncritical-unmarked, uncritical-lawful, critical-marked, critical-at, paired-at}
-use Rattle.emulation.proofs.Clean.{unpaired-uncritical}
+use Rattle.emulation.proofs.Critical.{uncritical-unmarked, uncritical-lawful, critical-marked, critical-at, paired-at}
+use Rattle.emulation.proofs.Critical.{unpaired-uncritical}
 use Rattle.emulation.proofs.Hits.{one, one-most, none-keeps, none-counts}
 use Rattle.emulation.proofs.Passes.{counts-start, counts-then, counts-none, counts-some}
 

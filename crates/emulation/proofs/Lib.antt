@@ -5,10 +5,8 @@ pub mod Machine
 pub mod Theorems
 pub mod Hits
 pub mod Passes
-pub mod Clean
+pub mod Critical
+pub mod Keeping
 pub mod Judging
-pub mod Inserting
 pub mod Giving
-pub mod Laying
-pub mod Dense
 pub mod Runs

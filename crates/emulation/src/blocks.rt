@@ -1,25 +1,19 @@
-// Blocks of bytes. In a clean block escaping puts nothing, unescaping drops nothing and no forbidden sequence begins.
-// The loops that count places of a block have a fixed count and one way out, so that they are compiled to look at many
-// bytes at a time.
+// Blocks of bytes. Where no 00 00 03 stands in one, unescaping drops nothing; without 00 00 no forbidden sequence
+// begins. The loops that count places of a block have a fixed count and one way out, so that they are compiled to look
+// at many bytes at a time.
 ghost use mathlib.Core.Path.{_≡_};
 ghost use mathlib.Core.Bool.{_&&_, _||_};
 ghost use Prim.Native.Nat.{_+_, _-_, _≤_, _<_};
 ghost use lib.Dec.{eqb, leb, ltb};
 ghost use lib.ListN.{length, drop};
-ghost use Rattle.emulation.specs.Payload.{marked3, stuffed};
+ghost use Rattle.emulation.specs.Payload.{marked3};
 ghost use Rattle.emulation.specs.Payload.{forbidden as Payload·forbidden};
-ghost use mathlib.Core.Bool.{true, false};
-ghost use Rattle.emulation.specs.Parts.{block, hits, paired, tripled, First, Flags, Fresh};
+ghost use Rattle.emulation.specs.Blocks.{block, hits, freeOf, paired};
+ghost use Rattle.emulation.specs.Parts.{Fresh};
 ghost use Rattle.emulation.specs.Parts.{marked as Parts·marked};
-ghost use Rattle.emulation.specs.Parts.{critical as Parts·critical};
-ghost use Rattle.emulation.specs.Parts.{clean as Parts·clean};
-ghost use Rattle.emulation.specs.Parts.{single as Parts·single};
 
 // The bytes of a block.
-pub(crate) const BLOCK: usize = 64;
-
-// The same number, as a count of places.
-const PLACES: u8 = 64;
+pub const BLOCK: usize = 64;
 
 // The place that a pass has come to, and its count: of the bytes put, dropped or written.
 pub struct Reached {
@@ -28,7 +22,7 @@ pub struct Reached {
 }
 
 // A count of places, as a number of bytes.
-pub(crate) fn wide(count: u8) -> usize
+pub fn wide(count: u8) -> usize
     ensures { λ r. ⌜ r ≡ count ⌝ }
 {
     count as usize
@@ -42,32 +36,6 @@ fn pair(a: u8, b: u8) -> bool
         return false;
     }
     b == 0
-}
-
-// Three bytes 00 00 00.
-fn triple(a: u8, b: u8, c: u8) -> bool
-    ensures { λ r. ⌜ r ≡ eqb a 0 && eqb b 0 && eqb c 0 ⌝ }
-{
-    if a != 0 {
-        return false;
-    }
-    if b != 0 {
-        return false;
-    }
-    c == 0
-}
-
-// The three bytes are 00 00 and a byte of 0 to 3.
-fn critical(a: u8, b: u8, c: u8) -> bool
-    ensures { λ r. ⌜ r ≡ stuffed a b c ⌝ }
-{
-    if a != 0 {
-        return false;
-    }
-    if b != 0 {
-        return false;
-    }
-    c <= 3
 }
 
 // The three bytes are 00 00 03.
@@ -110,22 +78,6 @@ fn pair_at(s: &[u8], i: usize) -> bool
     pair(s[i], s[i + 1])
 }
 
-// At i stand 00 00 00.
-fn triple_at(s: &[u8], i: usize) -> bool
-    requires { ⌜ i + 2 < length (now s) ⌝ }
-    ensures { λ r. ⌜ r ≡ tripled (drop i (now (s .entry))) ⌝ }
-{
-    triple(s[i], s[i + 1], s[i + 2])
-}
-
-// At i stand 00 00 and a byte of 0 to 3.
-pub(crate) fn critical_at(s: &[u8], i: usize) -> bool
-    requires { ⌜ i + 2 < length (now s) ⌝ }
-    ensures { λ r. ⌜ r ≡ Parts·critical (drop i (now (s .entry))) ⌝ }
-{
-    critical(s[i], s[i + 1], s[i + 2])
-}
-
 // At i stand 00 00 03.
 pub(crate) fn marked_at(s: &[u8], i: usize) -> bool
     requires { ⌜ i + 2 < length (now s) ⌝ }
@@ -153,40 +105,6 @@ pub(crate) fn pairs(s: &[u8], i: usize) -> u8
         let place = i + j;
         j += 1;
         if pair_at(s, place) {
-            count += 1;
-        }
-    }
-    count
-}
-
-// At how many places of the block at i 00 00 00 stands.
-fn triples(s: &[u8], i: usize) -> u8
-    requires { ⌜ i + block + 2 ≤ length (now s) ⌝ }
-    ensures { λ r. ⌜ r ≡ hits tripled block (drop i (now (s .entry))) ⌝ }
-{
-    let mut count: u8 = 0;
-    let mut j: usize = 0;
-    while j < BLOCK {
-        let place = i + j;
-        j += 1;
-        if triple_at(s, place) {
-            count += 1;
-        }
-    }
-    count
-}
-
-// At how many places of the block at i 00 00 and a byte of 0 to 3 stand.
-pub(crate) fn criticals(s: &[u8], i: usize) -> u8
-    requires { ⌜ i + block + 2 ≤ length (now s) ⌝ }
-    ensures { λ r. ⌜ r ≡ hits Parts·critical block (drop i (now (s .entry))) ⌝ }
-{
-    let mut count: u8 = 0;
-    let mut j: usize = 0;
-    while j < BLOCK {
-        let place = i + j;
-        j += 1;
-        if critical_at(s, place) {
             count += 1;
         }
     }
@@ -227,92 +145,36 @@ pub(crate) fn forbids(s: &[u8], i: usize) -> u8
     count
 }
 
-// At how many places of the block at i 00 00 and a byte of 0 to 3 stand; most blocks have no 00 00 at all.
-pub(crate) fn crowd(s: &[u8], i: usize) -> u8
-    requires { ⌜ i + block + 2 ≤ length (now s) ⌝ }
-    ensures { λ r. ⌜ r ≡ hits Parts·critical block (drop i (now (s .entry))) ⌝ }
+// At no place of the block at i 00 00 stands; it counts only where two bytes come after it.
+pub fn unpaired(s: &[u8], i: usize) -> bool
+    ensures { λ r. ⌜ r ≡ freeOf paired (drop i (now (s .entry))) ⌝ }
 {
+    if s.len() < i {
+        return false;
+    }
+    if s.len() - i < BLOCK + 2 {
+        return false;
+    }
+    pairs(s, i) == 0
+}
+
+// At no place of the block at i 00 00 03 stands; it counts only where two bytes come after it. Most blocks have no
+// 00 00 at all.
+pub(crate) fn unmarked(s: &[u8], i: usize) -> bool
+    requires { ⌜ i ≤ length (now s) ⌝ }
+    ensures { λ r. ⌜ r ≡ freeOf Parts·marked (drop i (now (s .entry))) ⌝ }
+{
+    if s.len() - i < BLOCK + 2 {
+        return false;
+    }
     if pairs(s, i) == 0 {
-        return 0;
+        return true;
     }
-    criticals(s, i)
-}
-
-// 1 for each place of the block at i at which 00 00 and a byte of 0 to 3 stand, 0 for the others.
-pub(crate) fn flags(s: &[u8], i: usize) -> [u8; BLOCK]
-    requires { ⌜ i + block + 2 ≤ length (now s) ⌝ }
-    ensures { λ r. ⌜ Flags Parts·critical (now (s .entry)) i block r ⌝ }
-{
-    let mut flags = [0u8; BLOCK];
-    let mut j: usize = 0;
-    while j < BLOCK {
-        flags[j] = critical_at(s, i + j) as u8;
-        j += 1;
-    }
-    flags
-}
-
-// k where at i stand 00 00 and a byte of 0 to 3, or else more than any place of a block.
-fn found_at(s: &[u8], i: usize, k: u8) -> u8
-    requires { ⌜ i + 2 < length (now s) ⌝ }
-    ensures { λ r. ⌜ (Parts·critical (drop i (now (s .entry))) ≡ true → r ≡ k) ⌝ }
-    ensures { λ r. ⌜ (Parts·critical (drop i (now (s .entry))) ≡ false → r ≡ block) ⌝ }
-{
-    if critical_at(s, i) {
-        return k;
-    }
-    PLACES
-}
-
-// The smaller of two numbers.
-fn least(a: u8, b: u8) -> u8
-    ensures { λ r. ⌜ (a < b → r ≡ a) × (b ≤ a → r ≡ b) ⌝ }
-{
-    if a < b {
-        return a;
-    }
-    b
-}
-
-// How many places of the block at i come before the first at which 00 00 and a byte of 0 to 3 stand; all of them where
-// there is none.
-pub(crate) fn before_critical(s: &[u8], i: usize) -> u8
-    requires { ⌜ i + block + 2 ≤ length (now s) ⌝ }
-    ensures { λ r. ⌜ First Parts·critical (now (s .entry)) i block r ⌝ }
-{
-    let mut first: u8 = PLACES;
-    let mut k: u8 = 0;
-    while k < PLACES {
-        first = least(first, found_at(s, i + wide(k), k));
-        k += 1;
-    }
-    first
-}
-
-// The block at i is clean; it counts only where two bytes come after it.
-pub(crate) fn clean(s: &[u8], i: usize) -> bool
-    requires { ⌜ i ≤ length (now s) ⌝ }
-    ensures { λ r. ⌜ r ≡ Parts·clean (drop i (now (s .entry))) ⌝ }
-{
-    if s.len() - i < BLOCK + 2 {
-        return false;
-    }
-    crowd(s, i) == 0
-}
-
-// At no place of the block at i 00 00 00 stands; it counts only where two bytes come after it.
-pub(crate) fn single(s: &[u8], i: usize) -> bool
-    requires { ⌜ i ≤ length (now s) ⌝ }
-    ensures { λ r. ⌜ r ≡ Parts·single (drop i (now (s .entry))) ⌝ }
-{
-    if s.len() - i < BLOCK + 2 {
-        return false;
-    }
-    triples(s, i) == 0
+    marks(s, i) == 0
 }
 
 // How many places of s have two bytes after them: at these alone three bytes can be looked at.
-pub(crate) fn places(s: &[u8]) -> usize
+pub fn places(s: &[u8]) -> usize
     ensures { λ r. ⌜ r ≡ length (now (s .entry)) - 2 ⌝ }
 {
     if s.len() < 2 {
@@ -322,10 +184,12 @@ pub(crate) fn places(s: &[u8]) -> usize
 }
 
 // Where the block at i ends, or the places do.
-pub(crate) fn block_end(i: usize, last: usize) -> usize
-    requires { ⌜ i < last ⌝ }
-    ensures { λ r. ⌜ (i < r) × (r ≤ last) ⌝ }
+pub fn block_end(i: usize, last: usize) -> usize
+    ensures { λ r. ⌜ r ≡ last - (last - (i + block)) ⌝ }
 {
+    if last <= i {
+        return last;
+    }
     if last - i < BLOCK {
         return last;
     }

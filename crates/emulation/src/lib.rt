@@ -1,14 +1,14 @@
-// Escaping and unescaping of one OBU (000, 3.2; document 01, "Payload bytes").
+// Legal payloads, unescaping one payload, and what escaping shares with it (000, 3.2; document 01, "Payload bytes").
 mod blocks;
-mod escaping;
 mod unescaping;
 mod writing;
 
+pub use blocks::BLOCK;
 pub use blocks::Reached;
-pub use escaping::Escaped;
-pub use escaping::escape;
-pub use escaping::escape_prefix;
-pub use escaping::escaped_length;
+pub use blocks::block_end;
+pub use blocks::places;
+pub use blocks::unpaired;
+pub use blocks::wide;
 pub use unescaping::Counts;
 pub use unescaping::Judged;
 pub use unescaping::Unescaped;
@@ -16,3 +16,4 @@ pub use unescaping::first_forbidden;
 pub use unescaping::judge;
 pub use unescaping::unescape;
 pub use unescaping::unescape_prefix;
+pub use writing::copy_block;

@@ -6,7 +6,8 @@ ghost use lib.ListN.{length, take, drop};
 ghost use Rattle.lists.specs.Lists.{over};
 ghost use Rattle.refusal.specs.Verdict.{leaves};
 ghost use Rattle.emulation.specs.Payload.{forbidden, firstForbidden};
-ghost use Rattle.emulation.specs.Parts.{paired, Fresh, Keeps, Gives, Lawful};
+ghost use Rattle.emulation.specs.Blocks.{paired};
+ghost use Rattle.emulation.specs.Parts.{Fresh, Keeps, Gives, Lawful};
 ghost use Rattle.emulation.specs.Payload.{unescape as Payload·unescape};
 ghost use Rattle.emulation.specs.Payload.{dropped as Payload·dropped};
 ghost use Rattle.emulation.specs.Answer.{unescaping, unescapedSays, judging, judgedSays};
@@ -21,10 +22,10 @@ use crate::blocks::pairs;
 use crate::blocks::places;
 use crate::blocks::run_end;
 use crate::blocks::wide;
-use crate::writing::copy_clean;
-use crate::writing::copy_rest;
-use crate::writing::put;
+use crate::writing::copy_unmarked;
 use lists::copy;
+use lists::copy_rest;
+use lists::put;
 use refusal::Refusal;
 use refusal::Refused;
 
@@ -236,7 +237,7 @@ pub fn unescape_prefix(payload: &[u8], out: &mut [u8]) -> usize
         if out.len() <= n {
             return n;
         }
-        if copy_clean(payload, i, out, n) {
+        if copy_unmarked(payload, i, out, n) {
             n += BLOCK;
             i += BLOCK;
         } else {

@@ -1,14 +1,14 @@
-// Writing into an output, as far as there is room.
+// Copying blocks.
 ghost use mathlib.Core.Path.{_≡_};
 ghost use mathlib.Core.Bool.{true, false};
-ghost use mathlib.Core.List.{[], _∷_};
-ghost use Prim.Native.Nat.{_+_, _≤_, _<_};
+ghost use Prim.Native.Nat.{_+_, _≤_};
+ghost use lib.Dec.{leb};
 ghost use lib.ListN.{length, take, drop};
 ghost use lib.Seq.{paste};
-ghost use Rattle.lists.specs.Lists.{Bytes};
-ghost use Rattle.emulation.specs.Parts.{block, Copied, Writes};
+ghost use Rattle.emulation.specs.Blocks.{block, blockCopied};
+ghost use Rattle.emulation.specs.Parts.{Copied};
 use crate::blocks::BLOCK;
-use crate::blocks::clean;
+use crate::blocks::unmarked;
 
 // The bytes of the block at i.
 fn load_block(s: &[u8], i: usize) -> [u8; BLOCK]
@@ -24,9 +24,9 @@ fn load_block(s: &[u8], i: usize) -> [u8; BLOCK]
     bytes
 }
 
-// Copies the block at i into out from n on, through an array: the two slices are never read and written in the same
+// Writes the block at i into out from n on, through an array: the two slices are never read and written in the same
 // loop.
-pub(crate) fn copy_block(s: &[u8], i: usize, out: &mut [u8], n: usize)
+fn write_block(s: &[u8], i: usize, out: &mut [u8], n: usize)
     requires { ⌜ (i + block ≤ length (now s)) × (n + block ≤ length (now out)) ⌝ }
     ensures { λ _. ⌜ now (out .exit) ≡ paste (now (out .entry)) n (drop i (now (s .entry))) block ⌝ }
 {
@@ -38,8 +38,8 @@ pub(crate) fn copy_block(s: &[u8], i: usize, out: &mut [u8], n: usize)
     }
 }
 
-// Copies the block at i into out from n on, where it is clean and has room; answers whether it did.
-pub(crate) fn copy_clean(s: &[u8], i: usize, out: &mut [u8], n: usize) -> bool
+// Copies the block at i into out from n on, where no 00 00 03 stands in it and it has room; answers whether it did.
+pub(crate) fn copy_unmarked(s: &[u8], i: usize, out: &mut [u8], n: usize) -> bool
     requires { ⌜ (i ≤ length (now s)) × (n ≤ length (now out)) ⌝ }
     ensures { λ r. ⌜ (r ≡ true → Copied (now (s .entry)) i (now (out .entry)) n (now (out .exit))) ⌝ }
     ensures { λ r. ⌜ (r ≡ false → now (out .exit) ≡ now (out .entry)) ⌝ }
@@ -47,36 +47,32 @@ pub(crate) fn copy_clean(s: &[u8], i: usize, out: &mut [u8], n: usize) -> bool
     if out.len() - n < BLOCK {
         return false;
     }
-    if clean(s, i) {
-        copy_block(s, i, out, n);
+    if unmarked(s, i) {
+        write_block(s, i, out, n);
         return true;
     }
     false
 }
 
-// Writes b at n, where there is room; answers the next place in out.
-pub(crate) fn put(out: &mut [u8], n: usize, b: u8) -> usize
-    requires { ⌜ n ≤ length (now out) ⌝ }
-    ensures { λ r. ⌜ ((rest : Bytes) → Writes (now (out .entry)) n (b ∷ rest) r rest (now (out .exit))) ⌝ }
-    ensures { λ r. ⌜ (n < length (now (out .entry)) → n < r) ⌝ }
+// Of so many bytes, a block is there from a place on.
+fn has_block(bytes: usize, at: usize) -> bool
+    ensures { λ r. ⌜ r ≡ leb (at + block) bytes ⌝ }
 {
-    if out.len() <= n {
-        return n;
+    if bytes < at {
+        return false;
     }
-    out[n] = b;
-    n + 1
+    BLOCK <= bytes - at
 }
 
-// The bytes of s from i on, as far as there is room, into out from n on; answers where it stopped in out.
-pub(crate) fn copy_rest(s: &[u8], i: usize, out: &mut [u8], n: usize) -> usize
-    requires { ⌜ (i ≤ length (now s)) × (n ≤ length (now out)) ⌝ }
-    ensures { λ r. ⌜ Writes (now (out .entry)) n (drop i (now (s .entry))) r [] (now (out .exit)) ⌝ }
+// Copies the block at i into out from n on, where both have one.
+pub fn copy_block(s: &[u8], i: usize, out: &mut [u8], n: usize)
+    ensures { λ _. ⌜ now (out .exit) ≡ blockCopied (now (s .entry)) i (now (out .entry)) n ⌝ }
 {
-    let mut place = i;
-    let mut count = n;
-    while place < s.len() {
-        count = put(out, count, s[place]);
-        place += 1;
+    if !has_block(s.len(), i) {
+        return;
     }
-    count
+    if !has_block(out.len(), n) {
+        return;
+    }
+    write_block(s, i, out, n);
 }

@@ -10,6 +10,8 @@ pub use outputs::clear;
 pub use outputs::clear_lengths;
 pub use outputs::clear_numbers;
 pub use outputs::copy;
+pub use outputs::copy_rest;
+pub use outputs::put;
 
 // The byte at a place, 0 behind the end.
 pub fn byte_at(s: &[u8], i: usize) -> u8

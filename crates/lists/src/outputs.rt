@@ -1,8 +1,9 @@
 // Writing into a lent output.
 ghost use mathlib.Core.Path.{_≡_};
+ghost use mathlib.Core.List.{[], _∷_};
 ghost use Prim.Native.Nat.{_-_};
-ghost use lib.ListN.{length, take};
-ghost use Rattle.lists.specs.Lists.{over, zeros};
+ghost use lib.ListN.{length, take, drop};
+ghost use Rattle.lists.specs.Lists.{over, zeros, Fitted};
 
 // The smaller of two numbers.
 fn smaller(a: usize, b: usize) -> usize
@@ -24,6 +25,30 @@ pub fn copy(s: &[u8], out: &mut [u8])
         out[i] = s[i];
         i += 1;
     }
+}
+
+// Writes b at n, where there is room; answers the next place in out.
+pub fn put(out: &mut [u8], n: usize, b: u8) -> usize
+    ensures { λ r. ⌜ Fitted (now (out .entry)) n (b ∷ []) r (now (out .exit)) ⌝ }
+{
+    if out.len() <= n {
+        return n;
+    }
+    out[n] = b;
+    n + 1
+}
+
+// The bytes of s from i on, as far as there is room, into out from n on; answers where it stopped in out.
+pub fn copy_rest(s: &[u8], i: usize, out: &mut [u8], n: usize) -> usize
+    ensures { λ r. ⌜ Fitted (now (out .entry)) n (drop i (now (s .entry))) r (now (out .exit)) ⌝ }
+{
+    let mut place = i;
+    let mut count = n;
+    while place < s.len() {
+        count = put(out, count, s[place]);
+        place += 1;
+    }
+    count
 }
 
 // Zeros throughout an output: of bytes, of lengths, of times.

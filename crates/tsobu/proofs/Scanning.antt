@@ -14,7 +14,8 @@ use Rattle.lists.specs.Lists.{Bytes}
 use Rattle.lists.proofs.Tests.{case, clash}
 use Rattle.lists.proofs.Threes.{by-three}
 use Rattle.emulation.specs.Payload.{above3, forbidden, firstForbidden, legal, dropped}
-use Rattle.emulation.specs.Parts.{block, hits, marked, paired, Lawful}
+use Rattle.emulation.specs.Blocks.{block, hits, paired}
+use Rattle.emulation.specs.Parts.{marked, Lawful}
 use Rattle.emulation.proofs.Hits.{one, none-keeps, free-short, free-counted, is-free}
 use Rattle.emulation.proofs.Steps.{first-yes, first-no, forbidden-at, forbidden-long, legal-yes, legal-no}
 use Rattle.emulation.proofs.Judging.{dropped-one, marked-until, dropped-until, lawful-first, lawful-dropped}

@@ -8,7 +8,7 @@ use Rattle.lists.specs.Lists.{Bytes}
 use Rattle.lists.specs.Bytes.{byte}
 use Rattle.refusal.specs.Verdict.{Verdict, passed, _>>=_}
 use Rattle.emulation.specs.Payload.{legal, unescape, dropped}
-use Rattle.emulation.specs.Parts.{freeOf}
+use Rattle.emulation.specs.Blocks.{freeOf}
 use Rattle.obu.specs.Header.{judged}
 use Rattle.tsobu.specs.StartCodes.{atStartCode, split, codeFrom}
 use Rattle.tsobu.specs.declared.start_codes.Scanned.{Scanned}

@@ -1,20 +1,18 @@
 // Start codes, and the payloads behind them.
 ghost use mathlib.Core.Path.{_≡_};
-ghost use mathlib.Core.Bool.{_&&_};
 ghost use Prim.Native.Nat.{_+_, _≤_, _<_};
-ghost use lib.Dec.{eqb};
 ghost use mathlib.Core.Bool.{true};
 ghost use lib.ListN.{length, take, drop};
 ghost use Rattle.emulation.specs.Payload.{forbidden, firstForbidden, dropped};
-ghost use Rattle.emulation.specs.Parts.{block, hits, paired, Lawful};
+ghost use Rattle.emulation.specs.Blocks.{block, hits};
+ghost use Rattle.emulation.specs.Parts.{Lawful};
 ghost use Rattle.tsobu.specs.StartCodes.{startCode3, atStartCode, codeFrom};
 ghost use Rattle.tsobu.specs.Parts.{ScannedAt};
 ghost use Rattle.tsobu.specs.Parts.{coded as Parts·coded};
+use emulation::BLOCK;
 use emulation::Reached;
 use emulation::first_forbidden;
-
-// The bytes of a block.
-const BLOCK: usize = 64;
+use emulation::unpaired;
 
 // A string of at most so many bytes is a small one.
 const SMALL: usize = 512;
@@ -59,24 +57,6 @@ fn is_code(a: u8, b: u8, c: u8) -> bool
     c == 1
 }
 
-// The two bytes are 00 00.
-fn is_pair(a: u8, b: u8) -> bool
-    ensures { λ r. ⌜ r ≡ eqb a 0 && eqb b 0 ⌝ }
-{
-    if a != 0 {
-        return false;
-    }
-    b == 0
-}
-
-// At i stand 00 00, where two bytes are.
-fn is_pair_at(s: &[u8], i: usize) -> bool
-    requires { ⌜ i + 1 < length (now s) ⌝ }
-    ensures { λ r. ⌜ r ≡ paired (drop i (now (s .entry))) ⌝ }
-{
-    is_pair(s[i], s[i + 1])
-}
-
 // A start code stands at i, where three bytes are.
 fn is_code_at(s: &[u8], i: usize) -> bool
     requires { ⌜ i + 2 < length (now s) ⌝ }
@@ -85,25 +65,8 @@ fn is_code_at(s: &[u8], i: usize) -> bool
     is_code(s[i], s[i + 1], s[i + 2])
 }
 
-// At how many places of the block at i 00 00 stands. The loop has a fixed count and one way out, so that it is compiled
-// to look at many bytes at a time.
-fn pairs(s: &[u8], i: usize) -> u8
-    requires { ⌜ i + block + 1 ≤ length (now s) ⌝ }
-    ensures { λ r. ⌜ r ≡ hits paired block (drop i (now (s .entry))) ⌝ }
-{
-    let mut count: u8 = 0;
-    let mut j: usize = 0;
-    while j < BLOCK {
-        let place = i + j;
-        j += 1;
-        if is_pair_at(s, place) {
-            count += 1;
-        }
-    }
-    count
-}
-
-// At how many places of the block at i a start code stands, counted in the same way.
+// At how many places of the block at i a start code stands. The loop has a fixed count and one way out, so that it is
+// compiled to look at many bytes at a time.
 fn codes(s: &[u8], i: usize) -> u8
     requires { ⌜ i + block + 2 ≤ length (now s) ⌝ }
     ensures { λ r. ⌜ r ≡ hits atStartCode block (drop i (now (s .entry))) ⌝ }
@@ -128,7 +91,7 @@ fn coded(s: &[u8], i: usize) -> bool
     if s.len() - i < BLOCK + 2 {
         return true;
     }
-    if pairs(s, i) == 0 {
+    if unpaired(s, i) {
         return false;
     }
     codes(s, i) != 0

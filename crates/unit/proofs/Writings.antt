@@ -13,9 +13,10 @@ use Rattle.refusal.specs.declared.Refused.{Refused}
 use Rattle.refusal.specs.Verdict.{passed}
 use Rattle.refusal.proofs.Verdicts.{pass-on, never, passed-same}
 use Rattle.emulation.specs.Payload.{escape}
-use Rattle.emulation.specs.Answer.{mostEscaped, measuring, escapedSays}
-use Rattle.emulation.specs.declared.escaping.Escaped.{Escaped}
-use Rattle.emulation.specs.declared.escaping.Escaped.the-variants as escaped
+use Rattle.emulation.specs.Answer.{mostEscaped, measuring}
+use Rattle.escaping.specs.Answer.{escapedSays}
+use Rattle.escaping.specs.declared.escaping.Escaped.{Escaped}
+use Rattle.escaping.specs.declared.escaping.Escaped.the-variants as escaped
 use Rattle.unit.specs.Unit.{mostObus, mostObuBytes, mostCarried, sum, obusOf, carried}
 use Rattle.unit.proofs.Lengths.{cut-lengths}
 use Rattle.unit.proofs.Theorem.{carried-length}

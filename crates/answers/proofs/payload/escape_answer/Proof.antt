@@ -1,8 +1,8 @@
 -- Each case of the answer is put into the C struct.
 use borrow.Author.Needs.{needs}
 use mathlib.Core.Path.{sym, ap, _∙_}
-use Rattle.emulation.specs.declared.escaping.Escaped.{Escaped}
-use Rattle.emulation.specs.Answer.{escapedSays}
+use Rattle.escaping.specs.declared.escaping.Escaped.{Escaped}
+use Rattle.escaping.specs.Answer.{escapedSays}
 use Rattle.answers.specs.Answers.{countAnswer}
 use Rattle.answers.proofs.payload.escape_answer.Statement.{statement}
 use Rattle.answers.proofs.payload.escape_answer.Tie as tie

@@ -1,4 +1,4 @@
--- `emulation::escape` answers by the definition, which is then put into the C struct, and leaves the output as it says.
+-- `escaping::escape` answers by the definition, which is then put into the C struct, and leaves the output as it says.
 use borrow.Author.Needs.{needs}
 use mathlib.Core.Path.{ap, _∙_}
 use Rattle.refusal.proofs.Verdicts.{leaves-as}

@@ -4,7 +4,7 @@ use native.Mathlib.Omega.{arith}
 use Prim.Native.Nat.{_-_}
 use mathlib.Core.Path.{refl, sym, _∙_}
 use Rattle.emulation.specs.Payload.{forbidden}
-use Rattle.emulation.specs.Parts.{block}
+use Rattle.emulation.specs.Blocks.{block}
 use Rattle.emulation.proofs.Hits.{Counted, counted-start, counted-yes, counted-no, counted-all}
 use Rattle.emulation.proofs.blocks.forbids.Statement.{statement}
 use Rattle.emulation.proofs.blocks.forbids.Tie as tie

@@ -3,7 +3,8 @@ use borrow.Author.Needs.{needs}
 use native.Mathlib.Omega.{arith}
 use Prim.Native.Nat.{_-_}
 use mathlib.Core.Path.{refl, sym, _∙_}
-use Rattle.emulation.specs.Parts.{marked, block}
+use Rattle.emulation.specs.Blocks.{block}
+use Rattle.emulation.specs.Parts.{marked}
 use Rattle.emulation.proofs.Hits.{Counted, counted-start, counted-yes, counted-no, counted-all}
 use Rattle.emulation.proofs.blocks.marks.Statement.{statement}
 use Rattle.emulation.proofs.blocks.marks.Tie as tie

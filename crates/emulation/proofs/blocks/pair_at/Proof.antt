@@ -1,7 +1,7 @@
 -- The string from i on begins with the two bytes read (`paired-at`), and `pair` makes the definition's test of them.
 use borrow.Author.Needs.{needs}
 use mathlib.Core.Path.{sym, _∙_}
-use Rattle.emulation.proofs.Clean.{paired-at}
+use Rattle.emulation.proofs.Critical.{paired-at}
 use Rattle.emulation.proofs.blocks.pair_at.Statement.{statement}
 use Rattle.emulation.proofs.blocks.pair_at.Tie as tie
 

@@ -3,7 +3,7 @@ use borrow.Author.Needs.{needs}
 use native.Mathlib.Omega.{arith}
 use Prim.Native.Nat.{_-_}
 use mathlib.Core.Path.{refl, sym, _∙_}
-use Rattle.emulation.specs.Parts.{paired, block}
+use Rattle.emulation.specs.Blocks.{paired, block}
 use Rattle.emulation.proofs.Hits.{Counted, counted-start, counted-yes, counted-no, counted-all}
 use Rattle.emulation.proofs.blocks.pairs.Statement.{statement}
 use Rattle.emulation.proofs.blocks.pairs.Tie as tie

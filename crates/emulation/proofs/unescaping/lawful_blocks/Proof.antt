@@ -4,7 +4,8 @@ use native.Mathlib.Omega.{arith}
 use Prim.Native.Nat.{ℕ, _+_, _-_}
 use mathlib.Core.Path.{sym, subst, _∙_}
 use lib.ListN.{length}
-use Rattle.emulation.specs.Parts.{block, Lawful}
+use Rattle.emulation.specs.Blocks.{block}
+use Rattle.emulation.specs.Parts.{Lawful}
 use Rattle.emulation.proofs.Judging.{lawful-start, lawful-unpaired, lawful-block}
 use Rattle.emulation.proofs.unescaping.lawful_blocks.Statement.{statement}
 use Rattle.emulation.proofs.unescaping.lawful_blocks.Tie as tie

@@ -6,7 +6,7 @@ use mathlib.Core.Path.{sym, _∙_}
 use lib.ListN.{length}
 use Rattle.emulation.specs.Parts.{Lawful}
 use Rattle.emulation.proofs.Steps.{first-found}
-use Rattle.emulation.proofs.Clean.{paired-of}
+use Rattle.emulation.proofs.Critical.{paired-of}
 use Rattle.emulation.proofs.Judging.{lawful-start, lawful-past-one, lawful-past-two, lawful-past-mark, lawful-past-three}
 use Rattle.emulation.proofs.Judging.{lawful-rest, first-past}
 use Rattle.emulation.proofs.unescaping.lawful_places.Statement.{statement}

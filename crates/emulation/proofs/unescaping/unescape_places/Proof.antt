@@ -3,10 +3,10 @@ use borrow.Author.Needs.{needs}
 use native.Mathlib.Omega.{arith}
 use Prim.Native.Nat.{_+_, _-_}
 use mathlib.Core.Path.{sym, _∙_}
-use mathlib.Core.List.{[], _∷_}
+use mathlib.Core.List.{_∷_}
 use lib.ListN.{length, drop}
 use Rattle.emulation.specs.Payload.{unescape}
-use Rattle.emulation.proofs.Outputs.{writes-then}
+use Rattle.emulation.proofs.Outputs.{writes-then, writes-fitted, put-onward}
 use Rattle.emulation.proofs.Steps.{unescape-at-marked, unescape-at-plain, marked-fits}
 use Rattle.emulation.proofs.Giving.{Going, gives-start, going-on}
 use Rattle.emulation.proofs.unescaping.unescape_places.Statement.{statement}
@@ -31,10 +31,10 @@ marked-at-requires : tie.Need-marked-at-requires Inv-loop μ-loop
 marked-at-requires c κs = search needs
 
 put-requires : tie.Need-put-requires Inv-loop μ-loop
-put-requires c κs = c .before .before .before .before .before .loop .inv .0 .written .within
+put-requires c κs = search needs
 
 put-requires-2 : tie.Need-put-requires-2 Inv-loop μ-loop
-put-requires-2 c κs = c .before .before .before .put .ensures .0 [] .within
+put-requires-2 c κs = search needs
 
 add-place : tie.Need-add-place Inv-loop μ-loop
 add-place c = omega arith
@@ -51,17 +51,17 @@ loop-again c =
     let s = test .before .before .before .before .before .before .before .args .payload .now in
     let e = sym (test .before .marked-at .ensures) ∙ test .if2 .taken in
     let rest = unescape (drop (at .place + 3) s) in
-    let w = first .put .ensures .0 (0 ∷ rest) in
-    let w2 = second .put2 .ensures .0 rest in
+    let w = writes-fitted (0 ∷ rest) (at .inv .0 .written .within) (first .put .ensures) in
+    let w2 = writes-fitted rest (w .within) (second .put2 .ensures) in
     let fits = marked-fits s (at .place) (at .inv .0 .within) e in
     going-on (at .inv) (unescape-at-marked s (at .place) e) fits (writes-then w w2)
-    (omega (arith, first .put .ensures .1 (omega arith), w2 .onward))
+    (omega (arith, put-onward (first .put .ensures) (omega arith), w2 .onward))
 
 shared-slice-read-put : tie.Need-shared-slice-read-put Inv-loop μ-loop
 shared-slice-read-put c = omega arith
 
 put-requires-3 : tie.Need-put-requires-3 Inv-loop μ-loop
-put-requires-3 c κs = c .before .before .before .before .before .before .loop .inv .0 .written .within
+put-requires-3 c κs = search needs
 
 add-place-2 : tie.Need-add-place-2 Inv-loop μ-loop
 add-place-2 c = omega arith
@@ -76,8 +76,8 @@ loop-again-2 c =
     let s = test .before .before .before .before .before .before .before .args .payload .now in
     let e = sym (test .before .marked-at .ensures) ∙ test .if2 .left in
     let put = c .before .before .put3 .ensures in
-    going-on (at .inv) (unescape-at-plain s (at .place) (omega arith) e) (omega arith) (put .0 (unescape (drop (at .place + 1) s)))
-    (omega (arith, put .1 (omega arith)))
+    let w = writes-fitted (unescape (drop (at .place + 1) s)) (at .inv .0 .written .within) put in
+    going-on (at .inv) (unescape-at-plain s (at .place) (omega arith) e) (omega arith) w (put-onward put (omega arith))
 
 same-length-2 : tie.Need-same-length-2 Inv-loop μ-loop
 same-length-2 c = c .before .loop .inv .0 .written .long

@@ -1,89 +1,54 @@
--- The block is loaded; the bytes stored so far are its first.
+-- Where both have a block it is written; otherwise the output stays as it was.
 use borrow.Author.Needs.{needs}
-use native.Mathlib.Omega.{arith}
-use native.Mathlib.Numerals.{add-one}
-use Prim.Native.Nat.{ℕ, _+_, _-_, _≤_}
-use mathlib.Core.Path.{_≡_, refl, ap, _∙_}
-use mathlib.Core.List.{_++_}
-use lib.ListN.{length, drop, take, length-drop, length-set}
-use lib.Seq.{length-take-le, take-take, paste, paste-zero, paste-suc}
-use Rattle.lists.specs.Lists.{Bytes}
-use Rattle.emulation.specs.Parts.{block}
+use borrow.Author.Tests.{leb-true, not-true, not-false}
+use Prim.Native.Nat.{_+_, _≤_}
+use mathlib.Core.Path.{sym, _∙_}
+use lib.ListN.{length}
+use Rattle.emulation.specs.Blocks.{block}
+use Rattle.emulation.proofs.Outputs.{block-copied, block-unread, block-unwritten}
 use Rattle.emulation.proofs.writing.copy_block.Statement.{statement}
 use Rattle.emulation.proofs.writing.copy_block.Tie as tie
 
-abbrev Inv-loop : tie.InvT-loop
-Inv-loop s i out₀ n bytes j₀ out j = (j ≤ block) × (length bytes ≡ block) × (length out ≡ length out₀) × (out ≡ paste out₀ n bytes j)
+has-block-requires : tie.Need-has-block-requires
+has-block-requires c κs = search needs
 
-abbrev μ-loop : tie.MeasureT-loop
-μ-loop s i out₀ n bytes j₀ out j = block - j
+returns : tie.Need-returns
+returns c =
+    let at = c .before .before .before .before .args in
+    block-unread (at .s .now) (at .out .now) (at .i) (at .n) (sym (c .before .has-block .ensures) ∙ not-true _ (c .if1 .taken))
 
-load-block-requires : tie.Need-load-block-requires Inv-loop μ-loop
-load-block-requires c κs = search needs
+has-block-requires-2 : tie.Need-has-block-requires-2
+has-block-requires-2 c κs = search needs
 
-loop-holds : tie.Need-loop-holds Inv-loop μ-loop
-loop-holds c =
-    let start = c .before .before .before in
-    let s = start .args .s .now in
-    let i = start .args .i in
-    let l : length (take block (drop i s)) ≡ block = length-take-le block (drop i s) (omega (arith, length-drop i s)) in
-    (omega arith, ap length (c .load-block .ensures) ∙ l, refl, paste-zero (start .args .out .now) (start .args .n) (c .load-block .result))
+returns-2 : tie.Need-returns-2
+returns-2 c =
+    let at = c .before .before .before .before .before .before .args in
+    block-unwritten (at .s .now) (at .out .now) (at .i) (at .n) (sym (c .before .has-block2 .ensures) ∙ not-true _ (c .if2 .taken))
 
-array-read-out : tie.Need-array-read-out Inv-loop μ-loop
-array-read-out c = omega arith
-
-add-out : tie.Need-add-out Inv-loop μ-loop
-add-out c = omega arith
-
-slice-write-out : tie.Need-slice-write-out Inv-loop μ-loop
-slice-write-out c = omega arith
-
-add-j : tie.Need-add-j Inv-loop μ-loop
-add-j c = omega arith
-
-loop-less : tie.Need-loop-less Inv-loop μ-loop
-loop-less c = omega arith
-
-loop-again : tie.Need-loop-again Inv-loop μ-loop
-loop-again c =
-    let at = c .before .loop in
-    let o = c .before .before .before .before .before .args .out .now in
-    let n = c .before .before .before .before .before .args .n in
-    let bytes = c .before .before .load-block .result in (
-      omega arith,
-      at .inv .1,
-      length-set (at .out) (n + at .j) _ ∙ at .inv .2,
-      rw (at .inv .3, add-one) (paste-suc o n bytes (at .j) 0 (omega arith) (omega arith)),
+-- both have one
+both : (c : tie.Else2)
+    → let at = c .before .before .before .before .before .before .args in
+    (at .i + block ≤ length (at .s .now)) × (at .n + block ≤ length (at .out .now))
+both c =
+    let first = c .before .before in (
+      leb-true _ _ (sym (first .before .has-block .ensures) ∙ not-false _ (first .if1 .left)),
+      leb-true _ _ (sym (c .before .has-block2 .ensures) ∙ not-false _ (c .if2 .left)),
     )
 
-same-length : tie.Need-same-length Inv-loop μ-loop
-same-length c = c .before .loop .inv .2
+write-block-requires : tie.Need-write-block-requires
+write-block-requires c κs = both (c .before)
 
-returns : tie.Need-returns Inv-loop μ-loop
-returns c =
-    let start = c .before .before .before .before .before in
-    let o = start .args .out .now in
-    let n = start .args .n in
-    let w = drop (start .args .i) (start .args .s .now) in
-    let at = c .before .loop in
-    let e : at .j ≡ block = omega arith in
-    let loaded = c .before .before .load-block in
-    at .inv .3 ∙ ap (λ (k : ℕ). paste o n (loaded .result) k) e ∙ ap (λ (l : Bytes). paste o n l block) (loaded .ensures)
-    ∙ ap (λ (l : Bytes). take n o ++ l ++ drop (n + block) o) (take-take block block w (omega arith))
+same-length : tie.Need-same-length
+same-length c = search needs
+
+returns-3 : tie.Need-returns-3
+returns-3 c =
+    let wrote = c .before .before in
+    let seen = wrote .before .before in
+    let at = seen .before .before .before .before .before .before .args in
+    wrote .write-block .ensures ∙ sym (block-copied (at .s .now) (at .out .now) (at .i) (at .n) (both seen .0) (both seen .1))
 
 pub copy-block-spec : {M : Type 1} → statement M
 copy-block-spec =
     tie.close
-    (tie.spec
-    Inv-loop
-    μ-loop
-    load-block-requires
-    loop-holds
-    array-read-out
-    add-out
-    slice-write-out
-    add-j
-    loop-less
-    loop-again
-    same-length
-    returns)
+    (tie.spec has-block-requires returns has-block-requires-2 returns-2 write-block-requires same-length returns-3)

@@ -4,7 +4,7 @@ use Prim.Native.Nat.{_-_, _≤_}
 use mathlib.Core.Path.{_≡_, refl, sym, _∙_}
 use lib.ListN.{length, drop, take, length-set}
 use lib.Seq.{take-all}
-use Rattle.emulation.specs.Parts.{block}
+use Rattle.emulation.specs.Blocks.{block}
 use Rattle.emulation.proofs.Outputs.{take-next}
 use Rattle.emulation.proofs.writing.load_block.Statement.{statement}
 use Rattle.emulation.proofs.writing.load_block.Tie as tie

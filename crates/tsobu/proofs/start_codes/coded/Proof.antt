@@ -7,8 +7,8 @@ use borrow.Author.Needs.{needs}
 use mathlib.Core.Bool.{not}
 use lib.Dec.{eqb}
 use lib.ListN.{drop}
-use Rattle.emulation.specs.Parts.{block, paired}
-use Rattle.emulation.proofs.Hits.{none-either}
+use Rattle.emulation.specs.Blocks.{block, paired}
+use Rattle.emulation.proofs.Hits.{none-either, is-free}
 use Rattle.tsobu.specs.StartCodes.{atStartCode}
 use Rattle.tsobu.proofs.Scanning.{coded-short, coded-counted, unpaired-uncoded}
 use Rattle.tsobu.proofs.start_codes.coded.Statement.{statement}
@@ -23,15 +23,16 @@ add-if1 c = search needs
 returns : tie.Need-returns
 returns c = sym (coded-short (c .before .before .args .s .now) (c .before .before .args .i) (omega arith))
 
-pairs-requires : tie.Need-pairs-requires
-pairs-requires c κs = search needs
+unpaired-requires : tie.Need-unpaired-requires
+unpaired-requires c κs = search needs
 
 returns-2 : tie.Need-returns-2
 returns-2 c =
     let start = c .before .before .before .before in
     let s = start .args .s .now in
     let i = start .args .i in
-    let none = none-either paired atStartCode unpaired-uncoded block (drop i s) (sym (c .before .pairs .ensures) ∙ c .if2 .taken) in
+    let free = is-free paired s i (sym (c .before .unpaired .ensures) ∙ c .if2 .taken) in
+    let none = none-either paired atStartCode unpaired-uncoded block (drop i s) (free .1) in
     sym (coded-counted s i (omega (arith, c .before .before .if1 .left)) ∙ ap (λ (n : ℕ). not (eqb n 0)) none)
 
 codes-requires : tie.Need-codes-requires
@@ -43,4 +44,4 @@ returns-3 c =
     ap (λ (n : ℕ). not (eqb n 0)) (c .codes .ensures) ∙ sym (coded-counted (start .args .s .now) (start .args .i) (omega arith))
 
 pub coded-spec : {M : Type 1} → statement M
-coded-spec = tie.close (tie.spec sub-if1 add-if1 returns pairs-requires returns-2 codes-requires returns-3)
+coded-spec = tie.close (tie.spec sub-if1 add-if1 returns unpaired-requires returns-2 codes-requires returns-3)

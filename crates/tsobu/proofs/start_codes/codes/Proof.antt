@@ -4,7 +4,7 @@ use native.Mathlib.Omega.{arith}
 use Prim.Native.Nat.{_-_}
 use mathlib.Core.Path.{refl, sym, _∙_}
 use Rattle.tsobu.specs.StartCodes.{atStartCode}
-use Rattle.emulation.specs.Parts.{block}
+use Rattle.emulation.specs.Blocks.{block}
 use Rattle.emulation.proofs.Hits.{Counted, counted-start, counted-yes, counted-no, counted-all}
 use Rattle.tsobu.proofs.start_codes.codes.Statement.{statement}
 use Rattle.tsobu.proofs.start_codes.codes.Tie as tie

@@ -1,0 +1,5 @@
+pub mod Clean
+pub mod Searching
+pub mod Inserting
+pub mod Laying
+pub mod Dense
