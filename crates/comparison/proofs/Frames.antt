@@ -16,9 +16,8 @@ use Rattle.lists.proofs.Tests.{case, clash, and-both}
 use Rattle.lists.proofs.Tables.{allBelow, below}
 use Rattle.refusal.specs.Verdict.{passed, given}
 use Rattle.refusal.proofs.Verdicts.{All, never, passed-then, passed-after, passed-same}
-use Rattle.emulation.specs.Parts.{marked}
 use Rattle.emulation.specs.Payload.{unescape}
-use Rattle.emulation.proofs.Steps.{unescape-marked, unescape-plain}
+use Rattle.emulation.proofs.Steps.{unescaped-first}
 use Rattle.obu.specs.Header.{typeBits, forbiddenBit, extensionMissing, fixedBytes, sizeBytes, sizeOf, headerWith, sizedHeader, headerOf}
 use Rattle.obu.specs.declared.header.Header.{Header}
 use Rattle.obu.specs.Order.{Kind, temporalDelimiter, frameHeader, is, headKind, tileKind, lastKind, kindOfNumber, kindNumber, numberSaid}
@@ -35,20 +34,6 @@ use Rattle.comparison.specs.Comparison.{sequenceContent, headersOf, sequ
 use Rattle.comparison.specs.Comparison.{headersBeforeFrame}
 
 -- ---- the first byte of an OBU
-marked-zero : (a : ℕ) (l : Bytes) → marked (a ∷ l) ≡ true → a ≡ 0
-unfolding marked
-marked-zero a [] e = clash e refl
-marked-zero a (b ∷ []) e = clash e refl
-marked-zero a (b ∷ c ∷ s) e = eqb-true a 0 (and-both (eqb a 0) (eqb b 0) (and-both (eqb a 0 && eqb b 0) (eqb c 3) e .0) .0)
-
-pub unescaped-first : (p : Bytes) → byte (unescape p) 0 ≡ byte p 0
-unfolding unescape
-unescaped-first [] = refl
-unescaped-first (a ∷ l) =
-    case (marked (a ∷ l))
-    (λ e. ap (λ (x : Bytes). byte x 0) (unescape-marked (a ∷ l) e) ∙ sym (marked-zero a l e))
-    (λ e. ap (λ (x : Bytes). byte x 0) (unescape-plain a l e))
-
 before-first : (s : Bytes) → byte (split s .before) 0 ≡ byte s 0
 unfolding split atStartCode
 before-first [] = refl

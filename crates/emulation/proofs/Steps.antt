@@ -1,7 +1,7 @@
 -- Steps of the definitions of specs/Payload.antt, at a test's value. Assumes nothing.
 use Prim.Native.Nat.{ℕ, suc, _+_, _≤_, _<_}
 use mathlib.Core.Bool.{true, false, _&&_, _||_}
-use mathlib.Core.Path.{_≡_, refl, ap, _∙_}
+use mathlib.Core.Path.{_≡_, refl, sym, ap, _∙_}
 use mathlib.Core.List.{[], _∷_}
 use native.Mathlib.Omega.{arith}
 use lib.ListN.{length, drop, getD, drop-of-length-le}
@@ -9,7 +9,8 @@ use lib.Seq.{drop-drop}
 use lib.Dec.{leb, ltb, eqb}
 use borrow.Author.Tests.{eqb-true}
 use Rattle.lists.specs.Lists.{Bytes}
-use Rattle.lists.proofs.Tests.{case, chosen-true, chosen-false, and-both}
+use Rattle.lists.specs.Bytes.{byte}
+use Rattle.lists.proofs.Tests.{case, clash, chosen-true, chosen-false, and-both}
 use Rattle.lists.proofs.Parts.{next, next3}
 use Rattle.lists.proofs.Threes.{AsksThree, by-three, three-long, three-fits, three-at}
 use Rattle.emulation.specs.Payload.{stuffed, escapeAfter, marked3, unescape, dropped, forbidden, above3, firstForbidden, legal}
@@ -29,6 +30,13 @@ marked-is a b c e =
     let h = and-both (eqb a 0 && eqb b 0) (eqb c 3) e in
     let k = and-both (eqb a 0) (eqb b 0) (h .0) in
     (eqb-true a 0 (k .0), eqb-true b 0 (k .1), eqb-true c 3 (h .1))
+
+-- 00 00 stands at the head
+pub marked-zeros : (a : ℕ) (l : Bytes) → marked (a ∷ l) ≡ true → (a ≡ 0) × (rest : Bytes) × (l ≡ 0 ∷ rest)
+unfolding marked
+marked-zeros a [] e = clash e refl
+marked-zeros a (b ∷ []) e = clash e refl
+marked-zeros a (b ∷ c ∷ s) e = let z = marked-is a b c e in (z .0, c ∷ s, ap (λ (x : ℕ). x ∷ c ∷ s) (z .1))
 
 pub marked-three : AsksThree marked
 unfolding marked
@@ -65,6 +73,15 @@ unfolding marked unescape
 unescape-plain a [] e = refl
 unescape-plain a (b ∷ []) e = refl
 unescape-plain a (b ∷ c ∷ s) e = chosen-false (0 ∷ 0 ∷ unescape s) (a ∷ unescape (b ∷ c ∷ s)) e
+
+-- so unescaping leaves the first byte
+pub unescaped-first : (l : Bytes) → byte (unescape l) 0 ≡ byte l 0
+unfolding unescape
+unescaped-first [] = refl
+unescaped-first (a ∷ l) =
+    case (marked (a ∷ l))
+    (λ e. ap (λ (x : Bytes). byte x 0) (unescape-marked (a ∷ l) e) ∙ sym (marked-zeros a l e .0))
+    (λ e. ap (λ (x : Bytes). byte x 0) (unescape-plain a l e))
 
 pub dropped-marked : (l : Bytes) → marked l ≡ true → dropped l ≡ suc (dropped (drop 3 l))
 unfolding marked dropped

@@ -1,10 +1,10 @@
 -- The header of an OBU lies within it, its first eleven bytes decide it (`judged-first`), and it gives the number of the OBU's kind
 -- (`judged-number`). Assumes nothing.
 use Prim.Native.Nat.{ℕ, _+_, _-_, _≤_, _<_, zero-le}
-use mathlib.Core.Bool.{Bool, true, false, _&&_}
-use mathlib.Core.Path.{_≡_, refl, ap, subst, _∙_}
+use mathlib.Core.Bool.{Bool, true, false, not, _&&_}
+use mathlib.Core.Path.{_≡_, refl, sym, ap, subst, _∙_}
 use native.Mathlib.Omega.{arith}
-use borrow.Author.Tests.{eqb-false, ne-eqb, leb-true, leb-false}
+use borrow.Author.Tests.{eqb-true, eqb-false, ne-eqb, leb-true, leb-false, not-false}
 use lib.Dec.{eqb, leb}
 use lib.ListN.{length, take, drop, length-drop}
 use lib.Seq.{length-take-le, getD-take, take-all}
@@ -21,7 +21,7 @@ use Rattle.obu.specs.declared.header.Size.the-variants.{Absent, Present}
 use Rattle.obu.specs.declared.header.Header.{Header}
 use Rattle.obu.specs.Leb128.{leb128}
 use Rattle.obu.specs.Header.{forbiddenBit, extensionBit, hasSizeBit, fixedBytes, extensionMissing, sizeSaid, sizeOf, sizeBytes}
-use Rattle.obu.specs.Header.{headerWith, sizedHeader, headerOf, judged, mostJudged}
+use Rattle.obu.specs.Header.{headerWith, sizedHeader, headerOf, bytesRemaining, differs, sizeWrong, judged, mostJudged}
 use Rattle.obu.specs.Order.{kindNumber, numberSaid}
 use Rattle.obu.proofs.Lebs.{leb-taken, first-eight}
 
@@ -135,3 +135,31 @@ judged-header s n h e =
 -- which gives the number of its kind
 pub judged-number : (s : Bytes) (n : ℕ) (h : Header) → judged s n ≡ passed h → numberSaid (headerOf s) ≡ kindNumber h
 judged-number s n h e = ap numberSaid (judged-header s n h e)
+
+-- ---- the size that a header says
+-- what a header says of it, and where the content begins
+pub record Sized (s : Bytes) (h : Header) : Type 0 where
+  pub said : sizeOf (byte s 0) (drop (fixedBytes (byte s 0)) s) ≡ passed (h .size)
+  pub content : h .content ≡ fixedBytes (byte s 0) + sizeBytes (h .size)
+
+pub header-sized : (s : Bytes) (h : Header) → headerOf s ≡ passed h → Sized s h
+unfolding headerOf sizedHeader headerWith
+header-sized s h e =
+    let first : ℕ = byte s 0 in
+    let rest : Bytes = drop (fixedBytes first) s in
+    let q = passed-after _ _ h (passed-after _ _ h (passed-after _ _ h e .1) .1) .1 in
+    let p = passed-then (sizeOf first rest) (λ size. passed (headerWith first size (byte rest (sizeBytes size)))) h q in
+    let same = passed-same (headerWith first (p .0) (byte rest (sizeBytes (p .0)))) h (p .2) in
+    subst (Sized s) same (record { said = p .1; content = refl })
+
+-- "The value must equal the bytes that remain."
+pub size-right : (s : Bytes) (h : Header) (value width : ℕ) → judged s (length s) ≡ passed h → h .size ≡ Present value width
+    → h .content + value ≡ length s
+unfolding judged
+size-right s h value width e z =
+    let p = passed-then (headerOf s) _ h e in
+    let same = passed-same (p .0) h (sym (p .1) ∙ judged-header s (length s) h e) in
+    let right = given-passed 5 _ (passed-after _ _ h (p .2) .0) in
+    let value-is : not (eqb value (bytesRemaining h (length s))) ≡ false =
+    sym (ap (λ (k : Size). differs k (bytesRemaining h (length s))) z) ∙ ap (λ (k : Header). sizeWrong k (length s)) (sym same) ∙ right in
+    omega (arith, eqb-true value (bytesRemaining h (length s)) (not-false _ value-is), content-within s h (judged-header s (length s) h e))

@@ -2,7 +2,7 @@
 use Prim.Native.Nat.{ℕ, zero, suc, _+_, _-_, _*_, _%_, _^_, _≤_, _<_}
 use mathlib.Core.Bool.{Bool, true, false}
 use mathlib.Core.Path.{_≡_, refl, sym, ap, ap₂, subst, _∙_}
-use mathlib.Core.List.{[], _∷_}
+use mathlib.Core.List.{[], _∷_, _++_}
 use native.Mathlib.Omega.{arith}
 use native.Mathlib.Nat.{mul-add, mul-assoc, mul-le-mul-left, pow-le-pow-right, pow-suc}
 use native.Mathlib.Numerals.{add-one}
@@ -10,7 +10,8 @@ use lib.Dec.{ltb}
 use lib.ListN.{length, take, drop, getD, drop-of-length-le}
 use Rattle.lists.specs.Lists.{Bytes, pick}
 use Rattle.lists.specs.Bytes.{bit, bits}
-use Rattle.lists.proofs.Picks.{by-eq, by-ne}
+use Rattle.lists.proofs.Picks.{by-true, by-false, by-eq, by-ne}
+use Rattle.lists.proofs.Tests.{case, apart}
 use Rattle.lists.proofs.Parts.{next}
 use Rattle.obu.specs.declared.leb128.Leb.{Leb}
 use Rattle.obu.specs.declared.leb128.Leb.the-variants.{Number, Bad}
@@ -162,3 +163,29 @@ leb-take (suc n) (suc k) (b ∷ s) h =
 pub first-eight : (k : ℕ) (s : Bytes) → 8 ≤ k → leb128 (take k s) ≡ leb128 s
 unfolding leb128
 first-eight k s h = ap inRange (leb-take 8 k s h)
+
+-- ---- bytes behind a leb128 change nothing
+low-bad : (low : ℕ) (r : Leb) → (lowFirst low r ≡ Bad → ⊥) → r ≡ Bad → ⊥
+unfolding lowFirst
+low-bad low r h e = h (ap (lowFirst low) e)
+
+leb-more : (n : ℕ) (s r : Bytes) → (lebWithin n s ≡ Bad → ⊥) → lebWithin n (s ++ r) ≡ lebWithin n s
+unfolding lebWithin
+leb-more zero s r h = refl
+leb-more (suc n) [] r h = absurd (h refl)
+leb-more (suc n) (b ∷ s) r h =
+    case (bit 7 b)
+    (λ e.
+    let on : lowFirst (bits 6 0 b) (lebWithin n s) ≡ lebWithin (suc n) (b ∷ s) = by-true _ e refl in
+    let k = low-bad (bits 6 0 b) (lebWithin n s) (λ z. h (sym on ∙ z)) in
+    ap (λ (l : Leb). pick (bit 7 b) (lowFirst (bits 6 0 b) l) (Number (bits 6 0 b) 1)) (leb-more n s r k))
+    (λ e.
+    let last : (l : Leb) → Number (bits 6 0 b) 1 ≡ pick (bit 7 b) (lowFirst (bits 6 0 b) l) (Number (bits 6 0 b) 1) =
+    λ l. by-false _ e refl in
+    sym (last (lebWithin n (s ++ r))) ∙ last (lebWithin n s))
+
+pub leb-behind : (s r : Bytes) (value width : ℕ) → leb128 s ≡ Number value width → leb128 (s ++ r) ≡ Number value width
+unfolding leb128 inRange
+leb-behind s r value width e =
+    let some : (lebWithin 8 s ≡ Bad → ⊥) = λ z. let k : Bad ≡ Number value width = sym (ap inRange z) ∙ e in apart cc in
+    ap inRange (leb-more 8 s r some) ∙ e

@@ -1,7 +1,7 @@
 -- Units that stand back to back, one after the other by their lengths: the OBUs of this one, then those of the units to come, are the OBUs
 -- of the units from here on. Assumes nothing.
 use Prim.Native.Nat.{ℕ, suc, _+_, _*_, _≤_, _<_}
-use mathlib.Core.Bool.{true, false}
+use mathlib.Core.Bool.{false}
 use mathlib.Core.Path.{_≡_, sym, ap, ap₂, subst, _∙_}
 use mathlib.Core.List.{List, [], _∷_, _++_}
 use native.Mathlib.Omega.{arith}
@@ -11,10 +11,9 @@ use lib.Dec.{ltb}
 use lib.ListN.{length, take, drop, getD, length-append, length-take, length-drop, drop-of-length-le}
 use lib.Seq.{drop-drop, drop-cons, getD-take, length-take-le}
 use Rattle.lists.specs.Lists.{Bytes, placed}
-use Rattle.tsobu.specs.StartCodes.{atStartCode}
 use Rattle.sheet.specs.declared.rows.ObuRow.{ObuRow}
 use Rattle.sheet.specs.Sheet.{obuNumbers}
-use Rattle.segment_sheet.specs.Parts.{cuts, CutsRight, obusIn, obusFrom}
+use Rattle.segment_sheet.specs.Parts.{cuts, Readable, CutsRight, obusIn, obusFrom}
 use Rattle.segment_sheet.proofs.Filling.{Filling, filling-start, filling-as, filling-next, filling-room, filling-done, filling-long}
 use Rattle.segment_sheet.proofs.Filling.{filling-place, row-none, row-append}
 use Rattle.segment_sheet.proofs.Walking.{obuBytes, obus-long}
@@ -47,15 +46,15 @@ module _ {ns : List ℕ} {bytes : Bytes} {i from : ℕ} (c : Cutting ns bytes i 
   none-to-come e = ap (λ (l : List ℕ). obusFrom i (cuts l (drop from bytes))) e
 
   module _ (n : ℕ) (more : drop i ns ≡ n ∷ drop (i + 1) ns) where
-    now-right : (n ≤ length (drop from bytes)) × (atStartCode (take n (drop from bytes)) ≡ true)
+    now-right : (n ≤ length (drop from bytes)) × Readable (take n (drop from bytes))
         × CutsRight (drop (i + 1) ns) (drop n (drop from bytes))
     now-right = subst (λ (l : List ℕ). CutsRight l (drop from bytes)) more (c .right)
 
     pub cut-ends : from + n ≤ length bytes
     cut-ends = omega (arith, now-right .0, length-drop from bytes, c .within)
 
-    pub cut-begins : atStartCode (take n (drop from bytes)) ≡ true
-    cut-begins = now-right .1
+    pub cut-readable : Readable (take n (drop from bytes))
+    cut-readable = now-right .1
 
     pub cutting-next : Cutting ns bytes (i + 1) (from + n)
     cutting-next =

@@ -1,20 +1,15 @@
 -- What the check of an accepted segment hands out, its map, the first packets, the lengths, the times and the bytes of its units, has the
 -- content of the segment (`handed-content`), and is as the code that puts the sheet needs it (`handed-out`). Assumes nothing.
 use Prim.Native.Nat.{ℕ, suc, _+_, _*_, _≤_, _<_}
-use mathlib.Core.Bool.{true, not}
 use mathlib.Core.Path.{_≡_, refl, sym, ap, ap₂, subst, _∙_}
 use mathlib.Core.List.{List, [], _∷_, _++_, map, flatten, append-assoc, map-append}
 use native.Mathlib.Omega.{arith}
 use native.Mathlib.Numerals.{add-one}
-use borrow.Author.Tests.{not-false}
-use lib.Dec.{ltb}
 use lib.ListN.{length, take, drop, getD, length-append, length-drop, length-map}
 use lib.Seq.{drop-cons, take-at, drop-at}
 use Rattle.lists.specs.Lists.{Bytes}
-use Rattle.refusal.specs.Verdict.{passed, given}
-use Rattle.refusal.proofs.Verdicts.{All, all-so, passed-after, given-passed}
-use Rattle.tsobu.specs.StartCodes.{atStartCode}
-use Rattle.unit.specs.Unit.{mostCarried, readUnit}
+use Rattle.refusal.specs.Verdict.{passed}
+use Rattle.refusal.proofs.Verdicts.{All}
 use Rattle.descriptor.specs.Edition.{Edition}
 use Rattle.pes.specs.declared.header.Times.{Times}
 use Rattle.pes.specs.declared.header.Times.the-variants.{Absent, Stamps}
@@ -34,7 +29,7 @@ use Rattle.sheet.specs.declared.rows.UnitRow.{UnitRow}
 use Rattle.sheet.specs.declared.rows.ObuRow.{ObuRow}
 use Rattle.sheet.specs.Reading.{rows}
 use Rattle.segment_sheet.specs.Content.{streamOf, unitOf, obuOf, contentOf}
-use Rattle.segment_sheet.specs.Parts.{streamAt, unitAt, cuts, CutsRight, obusIn, obusFrom, contentIn, HandedOut}
+use Rattle.segment_sheet.specs.Parts.{streamAt, unitAt, cuts, Readable, CutsRight, obusIn, obusFrom, contentIn, HandedOut}
 
 -- ---- the elements of a list, one after the other
 pub cons-same : {A : Type 0} (a b : A) (l m : List A) → a ∷ l ≡ b ∷ m → (a ≡ b) × (l ≡ m)
@@ -105,12 +100,12 @@ cuts-units [] r = refl
 cuts-units (u ∷ units) r =
     ap₂ (λ (a : Bytes) (l : List Bytes). a ∷ l) (front u units r) (ap (cuts (lengths units)) (behind u units r) ∙ cuts-units units r)
 
-cuts-right : (units : List AccessUnit) (r : Bytes) → All (λ u. atStartCode (u .carried) ≡ true) units
+cuts-right : (units : List AccessUnit) (r : Bytes) → All (λ u. Readable (u .carried)) units
     → CutsRight (lengths units) (carriedUnits units ++ r)
 cuts-right [] r h = tt
 cuts-right (u ∷ units) r h = (
   omega (arith, ap length (apart u units r), length-append (u .carried) (carriedUnits units ++ r)),
-  ap atStartCode (front u units r) ∙ h .0,
+  subst Readable (sym (front u units r)) (h .0),
   subst (CutsRight (lengths units)) (sym (behind u units r)) (cuts-right units r (h .1)),
 )
 
@@ -120,13 +115,6 @@ obus-units index [] = refl
 obus-units index (u ∷ units) =
     ap (λ (l : List ObuRow). obusIn index (u .carried) ++ l) (obus-units (suc index) units)
     ∙ sym (map-append obuOf (placesIn index (u .carried)) (placesOf (suc index) units))
-
--- a unit that reading accepts begins with a start code
-begins : (s : Bytes) (l : List Bytes) → readUnit s ≡ passed l → atStartCode s ≡ true
-unfolding readUnit
-begins s l e =
-    let a = passed-after (given 2 (ltb mostCarried (length s))) _ l e in
-    not-false (atStartCode s) (given-passed 9 _ (passed-after (given 9 (not (atStartCode s))) _ l (a .1) .0))
 
 -- each of the units has at most 64 OBUs
 units-few : (index : ℕ) (units : List AccessUnit) → PlacesRight index units → length (placesOf index units) ≤ 64 * length units
@@ -191,7 +179,7 @@ module _ (edition : Edition) (rooms : Rooms) (s : Bytes) (a : Accepted) (e : che
         cut =
             subst (λ (l : List ℕ). CutsRight l bytes) (sym lengths-are)
             (subst (CutsRight (lengths (a .units))) (sym eb)
-            (cuts-right (a .units) rb (all-so (a .units) (λ u r. begins (u .carried) (r .0) (r .1)) (units-accepted edition rooms s a e))));
+            (cuts-right (a .units) rb (units-accepted edition rooms s a e)));
         obus =
             omega (
               arith,

@@ -1,4 +1,5 @@
 pub mod Filling
+pub mod Said
 pub mod Walking
 pub mod Cutting
 pub mod Rowing

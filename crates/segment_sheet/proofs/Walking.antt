@@ -10,16 +10,20 @@ use lib.ListN.{length, take, drop, length-map}
 use Rattle.lists.specs.Lists.{Bytes, placed}
 use Rattle.lists.specs.Bytes.{byte}
 use Rattle.obu.specs.Header.{typeBits}
-use Rattle.tsobu.specs.StartCodes.{atStartCode, payloads}
-use Rattle.comparison.proofs.Frames.{unescaped-first}
+use Rattle.refusal.specs.Verdict.{passed}
+use Rattle.refusal.proofs.Verdicts.{All}
+use Rattle.tsobu.specs.StartCodes.{atStartCode, split, payloads}
+use Rattle.tsobu.specs.TsObu.{tsobuRefusal}
+use Rattle.emulation.proofs.Steps.{unescaped-first}
 use Rattle.tsobu.proofs.Places.{Place, nextCode, payloadAt, payload-length, code-fits, next-fits}
-use Rattle.tsobu.proofs.Places.{next-place, payloads-from, payloads-end, place-code}
+use Rattle.tsobu.proofs.Places.{payload-is, next-place, payloads-from, payloads-end, place-code}
+use Rattle.unit.proofs.Acceptance.{reads}
 use Rattle.segment_rules.specs.Content.{ObuPlace, placeOf, placesFrom, placesIn}
 use Rattle.sheet.specs.declared.rows.ObuRow.{ObuRow}
 use Rattle.sheet.specs.Sheet.{obuNumbers}
 use Rattle.sheet.proofs.BigEndian.{bytes-long}
 use Rattle.segment_sheet.specs.Content.{obuOf}
-use Rattle.segment_sheet.specs.Parts.{inBytes, obusIn}
+use Rattle.segment_sheet.specs.Parts.{inBytes, Readable, obusIn}
 pub use Rattle.segment_sheet.specs.Parts.{obuBytes}
 use Rattle.segment_sheet.proofs.Filling.{Filling, filling-start, filling-as, filling-next, filling-room, filling-done, filling-place}
 use Rattle.segment_sheet.proofs.Filling.{row-none, row-next, rows-long}
@@ -28,9 +32,10 @@ use Rattle.segment_sheet.proofs.Filling.{row-none, row-next, rows-long}
 pub record At (s : Bytes) (code : ℕ) : Type 0 where
   pub place : Place s code
   pub within : code ≤ length s
+  pub passes : All (λ p. tsobuRefusal p ≡ passed tt) (payloads (drop code s))
 
-pub at-start : (s : Bytes) → atStartCode s ≡ true → At s 0
-at-start s e = record { place = inr e; within = omega arith }
+pub at-start : (s : Bytes) → Readable s → At s 0
+at-start s a = let r = reads s (a .0) (a .1) .0 in record { place = inr (r .headed); within = omega arith; passes = r .tsobus }
 
 module _ {s : Bytes} {code : ℕ} (a : At s code) (h : code < length s) where
   code-here : atStartCode (drop code s) ≡ true
@@ -39,12 +44,20 @@ module _ {s : Bytes} {code : ℕ} (a : At s code) (h : code < length s) where
   pub code-room : code + 3 ≤ length s
   code-room = code-fits s code code-here
 
-  pub next-at : (end : ℕ) → end ≡ nextCode s code → At s end
-  next-at end e =
-      subst (At s) (sym e) (record { place = next-place s code code-here; within = next-fits s code code-here })
-
   next-payloads : payloads (drop code s) ≡ payloadAt s code ∷ payloads (drop (nextCode s code) s)
   next-payloads = payloads-from s code code-here
+
+  next-passes : All (λ p. tsobuRefusal p ≡ passed tt) (payloadAt s code ∷ payloads (drop (nextCode s code) s))
+  next-passes = subst (All (λ p. tsobuRefusal p ≡ passed tt)) next-payloads (a .passes)
+
+  -- what is asked of the payload whose end is searched
+  pub payload-passes : (code + 3 ≤ length s) × (tsobuRefusal (split (drop (code + 3) s) .before) ≡ passed tt)
+  payload-passes = (code-room, subst (λ (p : Bytes). tsobuRefusal p ≡ passed tt) (payload-is s code) (next-passes .0))
+
+  pub next-at : (end : ℕ) → end ≡ nextCode s code → At s end
+  next-at end e =
+      subst (At s) (sym e)
+      (record { place = next-place s code code-here; within = next-fits s code code-here; passes = next-passes .1 })
 
   pub one-less : length (payloads (drop code s)) ≡ suc (length (payloads (drop (nextCode s code) s)))
   one-less = ap length next-payloads
@@ -75,7 +88,7 @@ pub record Counting (s : Bytes) (count code : ℕ) : Type 0 where
   pub few : count ≤ code
   pub total : count + length (payloads (drop code s)) ≡ length (payloads s)
 
-pub counting-start : (s : Bytes) → atStartCode s ≡ true → Counting s 0 0
+pub counting-start : (s : Bytes) → Readable s → Counting s 0 0
 counting-start s e = record { at = at-start s e; few = omega arith; total = omega arith }
 
 module _ {s : Bytes} {count code : ℕ} (c : Counting s count code) where
@@ -102,7 +115,7 @@ pub record Putting (index : ℕ) (s out₀ : Bytes) (at code to : ℕ) (out : By
   pub here : At s code
   pub filling : Filling out₀ at (obuBytes (obusIn index s)) to (obuBytes (obusAfter index s code)) out
 
-pub putting-start : (index : ℕ) (s out : Bytes) (at : ℕ) → atStartCode s ≡ true → at + 32 * length (obusIn index s) ≤ length out
+pub putting-start : (index : ℕ) (s out : Bytes) (at : ℕ) → Readable s → at + 32 * length (obusIn index s) ≤ length out
     → Putting index s out at 0 at out
 putting-start index s out at e h =
     record { here = at-start s e; filling = filling-start out at (obuBytes (obusIn index s)) (omega (arith, obus-long (obusIn index s))) }

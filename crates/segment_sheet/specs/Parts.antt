@@ -1,14 +1,13 @@
 -- What the promises of private functions cite: the content of what the check handed out; no public promise does.
 -- Assumes nothing.
 use Prim.Native.Nat.{ℕ, suc, _+_, _*_, _≤_}
-use mathlib.Core.Bool.{true}
 use mathlib.Core.Path.{_≡_}
 use mathlib.Core.List.{List, [], _∷_, _++_, map, flatten}
 use lib.Dec.{ltb}
 use lib.ListN.{length, take, drop, getD}
 use Rattle.lists.specs.Lists.{Bytes}
 use Rattle.refusal.specs.Verdict.{Verdict, passed, _>>_, given, leaves}
-use Rattle.tsobu.specs.StartCodes.{atStartCode}
+use Rattle.unit.specs.Unit.{readUnit}
 use Rattle.pmt.specs.Answer.{noEntry}
 use Rattle.pmt.specs.declared.entries.Entry.{Entry}
 use Rattle.pmt.specs.declared.section.ProgramMap.{ProgramMap}
@@ -43,10 +42,14 @@ unfoldable pub cuts : List ℕ → Bytes → List Bytes
 cuts [] s = []
 cuts (n ∷ ns) s = take n s ∷ cuts ns (drop n s)
 
--- all of it is there, and each part begins with a start code
+-- a unit that reading accepts
+abbrev pub Readable : Bytes → Type 0
+Readable unit = (obus : List Bytes) × (readUnit unit ≡ passed obus)
+
+-- all of it is there, and reading accepts each part
 abbrev pub CutsRight : List ℕ → Bytes → Type 0
 CutsRight [] s = Unit {0}
-CutsRight (n ∷ ns) s = (n ≤ length s) × (atStartCode (take n s) ≡ true) × CutsRight ns (drop n s)
+CutsRight (n ∷ ns) s = (n ≤ length s) × Readable (take n s) × CutsRight ns (drop n s)
 
 -- the OBUs of units, of which the first has this index
 abbrev pub obusIn : ℕ → Bytes → List ObuRow

@@ -1,13 +1,12 @@
 // The OBUs of units that stand back to back.
-ghost use mathlib.Core.Bool.{true};
 ghost use mathlib.Core.Path.{_≡_};
 ghost use Prim.Native.Nat.{ℕ, _+_, _*_, _≤_};
 ghost use lib.Dec.{ltb};
 ghost use lib.ListN.{length, take};
 ghost use Rattle.lists.specs.Lists.{placed};
 ghost use Rattle.obu.specs.Header.{typeBits};
-ghost use Rattle.tsobu.specs.StartCodes.{atStartCode};
-ghost use Rattle.segment_sheet.specs.Parts.{CutsRight, obusIn, obusOf, obusEnd, obuBytes};
+ghost use Rattle.segment_sheet.specs.Parts.{Readable, CutsRight, obusIn, obusOf, obusEnd, obuBytes};
+use crate::ends::end_of;
 use crate::numbers::put_four;
 use lists::byte_at;
 use lists::part;
@@ -24,7 +23,7 @@ fn type_of(first: u8) -> u64
 
 // How many OBUs a unit has.
 fn obus_of(unit: &[u8]) -> usize
-    requires { ⌜ atStartCode (now unit) ≡ true ⌝ }
+    requires { ⌜ Readable (now unit) ⌝ }
     ensures { λ r. ⌜ ((index : ℕ) → r ≡ length (obusIn index (now (unit .entry))))
         × (r ≤ length (now (unit .entry))) ⌝ }
 {
@@ -32,7 +31,7 @@ fn obus_of(unit: &[u8]) -> usize
     let mut code: usize = 0;
     while code < unit.len() {
         count += 1;
-        code = tsobu::find(unit, code + 3);
+        code = end_of(unit, code + 3);
     }
     count
 }
@@ -69,7 +68,7 @@ pub(crate) fn short_of(bytes: &[u8], lens: &[usize], count: usize, at: usize, ro
 
 // The OBUs of the unit with this index, from a place on; answers the place behind them.
 fn put_obus_of(index: u64, unit: &[u8], sheet: &mut [u8], at: usize) -> usize
-    requires { ⌜ (atStartCode (now unit) ≡ true)
+    requires { ⌜ Readable (now unit)
         × (at + 32 * length (obusIn index (now unit)) ≤ length (now sheet)) ⌝ }
     ensures { λ r. ⌜ r ≡ at + 32 * length (obusIn index (now (unit .entry))) ⌝ }
     ensures { λ _. ⌜ now (sheet .exit)
@@ -79,7 +78,7 @@ fn put_obus_of(index: u64, unit: &[u8], sheet: &mut [u8], at: usize) -> usize
     let mut code: usize = 0;
     while code < unit.len() {
         let start = code + 3;
-        let end = tsobu::find(unit, start);
+        let end = end_of(unit, start);
         let payload = part(unit, start, end - start);
         let obu_type = type_of(byte_at(payload, 0));
         put_four(

@@ -7,3 +7,4 @@ pub mod ByReader
 pub mod Held
 pub mod TsObus
 pub mod Shorts
+pub mod Sizes

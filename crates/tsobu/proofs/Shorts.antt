@@ -1,6 +1,6 @@
 -- A payload whose first three bytes say all: unescaping leaves these three, and an OBU that begins with them passes. Assumes nothing.
 use Prim.Native.Nat.{ℕ, _+_, _-_, _/_, _%_, _≤_, _<_}
-use mathlib.Core.Bool.{true, false, not, _||_, true≢false, and-false}
+use mathlib.Core.Bool.{false, not, _||_, and-false}
 use mathlib.Core.Path.{_≡_, refl, sym, ap, _∙_}
 use mathlib.Core.List.{[], _∷_}
 use native.Mathlib.Omega.{arith}
@@ -15,7 +15,7 @@ use Rattle.refusal.specs.Verdict.{Verdict, passed}
 use Rattle.refusal.proofs.Verdicts.{pass-on, go-on}
 use Rattle.emulation.specs.Payload.{unescape, dropped}
 use Rattle.emulation.specs.Parts.{marked}
-use Rattle.emulation.proofs.Steps.{marked-is, unescape-marked, unescape-plain, given-or-dropped}
+use Rattle.emulation.proofs.Steps.{marked-zeros, unescape-marked, unescape-plain, unescaped-first, given-or-dropped}
 use Rattle.obu.specs.declared.leb128.Leb.the-variants.{Number}
 use Rattle.obu.specs.declared.header.Size.the-variants.{Present}
 use Rattle.obu.specs.declared.header.Header.{Header}
@@ -24,26 +24,14 @@ use Rattle.obu.specs.Header.{extensionBit, fixedBytes, sizeSaid, sizeOf, header
 use Rattle.tsobu.specs.Parts.{Short, firstFigures, legalFigures}
 
 -- ---- the first three bytes of what is unescaped
-marks : (b c : ℕ) (t : Bytes) → marked (b ∷ c ∷ t) ≡ true → (b ≡ 0) × (c ≡ 0)
-unfolding marked
-marks b c [] e = absurd (true≢false (sym e))
-marks b c (d ∷ t) e = let z = marked-is b c d e in (z .0, z .1)
-
-kept : (c : ℕ) (t : Bytes) → byte (unescape (c ∷ t)) 0 ≡ c
-kept c [] = unfold unescape in refl
-kept c (d ∷ t) =
-    case (marked (c ∷ d ∷ t))
-    (λ m. ap (λ (l : Bytes). byte l 0) (unescape-marked (c ∷ d ∷ t) m) ∙ sym (marks c d t m .0))
-    (λ m. ap (λ (l : Bytes). byte l 0) (unescape-plain c (d ∷ t) m))
-
 two-kept : (b c : ℕ) (t : Bytes) → (u : Bytes) × (unescape (b ∷ c ∷ t) ≡ b ∷ u) × (byte u 0 ≡ c)
 two-kept b c t =
     case (marked (b ∷ c ∷ t))
     (λ m.
-    let z = marks b c t m in
+    let z = marked-zeros b (c ∷ t) m in
     let u = unescape (drop 3 (b ∷ c ∷ t)) in
-    (0 ∷ u, unescape-marked (b ∷ c ∷ t) m ∙ ap (λ (x : ℕ). x ∷ 0 ∷ u) (sym (z .0)), sym (z .1)))
-    (λ m. (unescape (c ∷ t), unescape-plain b (c ∷ t) m, kept c t))
+    (0 ∷ u, unescape-marked (b ∷ c ∷ t) m ∙ ap (λ (x : ℕ). x ∷ 0 ∷ u) (sym (z .0)), sym (ap (λ (l : Bytes). byte l 0) (z .2))))
+    (λ m. (unescape (c ∷ t), unescape-plain b (c ∷ t) m, unescaped-first (c ∷ t)))
 
 -- the first byte is not 00
 three-kept : (a b c : ℕ) (t : Bytes) → (a ≡ 0 → ⊥) → (u : Bytes) × (unescape (a ∷ b ∷ c ∷ t) ≡ a ∷ b ∷ u) × (byte u 0 ≡ c)

@@ -3,14 +3,15 @@ use Prim.Native.Nat.{ℕ, _≤_}
 use mathlib.Core.Bool.{true, false}
 use mathlib.Core.Path.{_≡_, refl, sym, ap, ap₂, _∙_}
 use native.Mathlib.Omega.{arith}
-use borrow.Author.Tests.{eq-eqb, ne-eqb}
+use borrow.Author.Tests.{eq-eqb, ne-eqb, eqb-false}
+use lib.Dec.{eqb}
 use lib.ListN.{length, take, drop, length-append}
 use lib.Seq.{take-at}
 use Rattle.lists.specs.Lists.{Bytes, pick, over}
 use Rattle.refusal.specs.declared.Refused.{Refused}
 use Rattle.refusal.specs.Verdict.{Verdict, passed, refused, _>>=_, _>>_, NoValue, given}
 use Rattle.refusal.specs.Number.{refusedBy}
-use Rattle.refusal.proofs.Verdicts.{go-on, stop, never, passed-after, passed-same, passed-then}
+use Rattle.refusal.proofs.Verdicts.{go-on, stop, never, passed-after, passed-same, passed-then, given-passed}
 use Rattle.emulation.specs.Payload.{legal, unescape, dropped}
 use Rattle.obu.specs.declared.header.Header.{Header}
 use Rattle.obu.specs.declared.header.Judged.{Judged as Obu}
@@ -59,13 +60,22 @@ unfolding _>>_
 passed-judged (passed h) e = (h, refl)
 passed-judged (refused number place) e = never e
 
--- a payload that passes has an OBU with a header
-pub header-there : (payload : Bytes) → tsobuRefusal payload ≡ passed tt → (h : Header) × (headerOf (unescape payload) ≡ passed h)
+-- a payload that passes is not empty, and has an OBU that passes
+pub obu-judged : (payload : Bytes) → tsobuRefusal payload ≡ passed tt
+    → (1 ≤ length payload) × (h : Header) × (judged (unescape payload) (length (unescape payload)) ≡ passed h)
 unfolding tsobuRefusal
-header-there payload e =
+obu-judged payload e =
     let u = unescape payload in
-    let j = passed-judged (judged u (length u)) (passed-after _ _ tt (passed-after _ _ tt e .1) .1) in
-    (j .0, judged-header u (length u) (j .0) (j .1))
+    let p = passed-after (given 3 (eqb (length payload) 0)) _ tt e in
+    let some = eqb-false (length payload) 0 (given-passed 3 _ (p .0)) in
+    let j = passed-judged (judged u (length u)) (passed-after _ _ tt (p .1) .1) in
+    (omega arith, j .0, j .1)
+
+-- so it has a header
+pub header-there : (payload : Bytes) → tsobuRefusal payload ≡ passed tt → (h : Header) × (headerOf (unescape payload) ≡ passed h)
+header-there payload e =
+    let j = obu-judged payload e in
+    (j .1, judged-header (unescape payload) (length (unescape payload)) (j .1) (j .2))
 
 -- ---- 3 and 10, then these
 pub tsobu-empty : (payload : Bytes) → length payload ≡ 0 → refused 3 0 ≡ tsobuFigures payload

@@ -6,11 +6,9 @@ use mathlib.Core.Path.{_≡_, sym, ap, subst, _∙_}
 use mathlib.Core.List.{_∷_}
 use lib.ListN.{length, take, drop, getD}
 use Rattle.lists.specs.Lists.{Bytes}
-use Rattle.segment_sheet.specs.Parts.{obusIn}
-use Rattle.segment_sheet.proofs.Cutting.{next-length, no-length, cut-ends, cut-begins}
+use Rattle.segment_sheet.specs.Parts.{Readable, obusIn}
+use Rattle.segment_sheet.proofs.Cutting.{next-length, no-length, cut-ends, cut-readable}
 use Rattle.segment_sheet.proofs.Cutting.{Totalling, totalling-start, totalling-next, totalling-done}
-use Rattle.tsobu.specs.StartCodes.{atStartCode}
-use mathlib.Core.Bool.{true}
 use Rattle.segment_sheet.proofs.obus.count_obus.Statement.{statement}
 use Rattle.segment_sheet.proofs.obus.count_obus.Tie as tie
 
@@ -59,7 +57,7 @@ part-requires c κs = search needs
 obus-of-requires : tie.Need-obus-of-requires Inv-loop μ-loop
 obus-of-requires c κs =
     let turn = c .before .before in
-    subst (λ (s : Bytes). atStartCode s ≡ true) (sym (c .part .ensures)) (cut-begins (turn .before .loop .inv .2 .cutting) _ (more turn))
+    subst Readable (sym (c .part .ensures)) (cut-readable (turn .before .loop .inv .2 .cutting) _ (more turn))
 
 add-total : tie.Need-add-total Inv-loop μ-loop
 add-total c = omega (arith, added c .few, added c .cutting .within)

@@ -1,9 +1,8 @@
 -- What is counted, and the payloads from here on, are the payloads of the unit.
-use borrow.Author.Needs.{needs}
 use native.Mathlib.Omega.{arith}
 use Prim.Native.Nat.{_-_}
 use lib.ListN.{length}
-use Rattle.segment_sheet.proofs.Walking.{Counting, counting-start, counting-next, counting-done, code-room, end-room}
+use Rattle.segment_sheet.proofs.Walking.{Counting, counting-start, counting-next, counting-done, code-room, payload-passes, end-room}
 use Rattle.segment_sheet.proofs.obus.obus_of.Statement.{statement}
 use Rattle.segment_sheet.proofs.obus.obus_of.Tie as tie
 
@@ -20,18 +19,18 @@ loop-holds c = counting-start (c .before .args .unit .now) (c .before .pre)
 add-count : tie.Need-add-count Inv-loop μ-loop
 add-count c = omega (arith, c .before .loop .inv .few)
 
-add-find : tie.Need-add-find Inv-loop μ-loop
-add-find c = omega (arith, code-room (c .before .loop .inv .at) (c .loop-test .taken))
+add-end-of : tie.Need-add-end-of Inv-loop μ-loop
+add-end-of c = omega (arith, code-room (c .before .loop .inv .at) (c .loop-test .taken))
 
-find-requires : tie.Need-find-requires Inv-loop μ-loop
-find-requires c κs = search needs
+end-of-requires : tie.Need-end-of-requires Inv-loop μ-loop
+end-of-requires c κs = payload-passes (c .before .loop .inv .at) (c .loop-test .taken)
 
 loop-less : tie.Need-loop-less Inv-loop μ-loop
 loop-less c =
-    omega (arith, end-room (c .before .before .loop .inv .at) (c .before .loop-test .taken) _ (c .find .ensures) .0)
+    omega (arith, end-room (c .before .before .loop .inv .at) (c .before .loop-test .taken) _ (c .end-of .ensures) .0)
 
 loop-again : tie.Need-loop-again Inv-loop μ-loop
-loop-again c = counting-next (c .before .before .loop .inv) (c .before .loop-test .taken) _ (c .find .ensures)
+loop-again c = counting-next (c .before .before .loop .inv) (c .before .loop-test .taken) _ (c .end-of .ensures)
 
 returns : tie.Need-returns Inv-loop μ-loop
 returns c =
@@ -45,8 +44,8 @@ obus-of-spec =
     μ-loop
     loop-holds
     add-count
-    add-find
-    find-requires
+    add-end-of
+    end-of-requires
     loop-less
     loop-again
     returns)

@@ -6,11 +6,9 @@ use mathlib.Core.Path.{_≡_, sym, ap, subst, _∙_}
 use mathlib.Core.List.{_∷_}
 use lib.ListN.{length, take, drop, getD}
 use Rattle.lists.specs.Lists.{Bytes, placed}
-use Rattle.segment_sheet.specs.Parts.{obusIn}
-use Rattle.segment_sheet.proofs.Cutting.{next-length, no-length, cut-ends, cut-begins}
+use Rattle.segment_sheet.specs.Parts.{Readable, obusIn}
+use Rattle.segment_sheet.proofs.Cutting.{next-length, no-length, cut-ends, cut-readable}
 use Rattle.segment_sheet.proofs.Cutting.{Listing, listing-start, listing-room, listing-next, listing-long, listing-done}
-use Rattle.tsobu.specs.StartCodes.{atStartCode}
-use mathlib.Core.Bool.{true}
 use Rattle.segment_sheet.proofs.Walking.{obuBytes}
 use Rattle.segment_sheet.proofs.obus.put_obus.Statement.{statement}
 use Rattle.segment_sheet.proofs.obus.put_obus.Tie as tie
@@ -50,9 +48,9 @@ put-obus-of-requires : tie.Need-put-obus-of-requires Inv-loop μ-loop
 put-obus-of-requires c κs =
     let turn = c .before .before .before in
     let at = turn .before .loop in
-    subst (λ (s : Bytes). (atStartCode s ≡ true) × (at .to + 32 * length (obusIn (at .i) s) ≤ length (at .sheet))) (sym (c .before .part
+    subst (λ (s : Bytes). Readable s × (at .to + 32 * length (obusIn (at .i) s) ≤ length (at .sheet))) (sym (c .before .part
     .ensures))
-    (cut-begins (at .inv .2 .cutting) _ (more turn), listing-room (at .inv .2) _ (more turn))
+    (cut-readable (at .inv .2 .cutting) _ (more turn), listing-room (at .inv .2) _ (more turn))
 
 mul-from : tie.Need-mul-from Inv-loop μ-loop
 mul-from c = omega arith

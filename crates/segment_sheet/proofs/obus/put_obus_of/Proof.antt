@@ -6,7 +6,7 @@ use mathlib.Core.Path.{refl, ap, _∙_}
 use lib.ListN.{length}
 use Rattle.obu.specs.Header.{typeBits}
 use Rattle.segment_sheet.proofs.Filling.{filling-long}
-use Rattle.segment_sheet.proofs.Walking.{code-room, end-room}
+use Rattle.segment_sheet.proofs.Walking.{code-room, payload-passes, end-room}
 use Rattle.segment_sheet.proofs.Walking.{Putting, putting-start, putting-room, putting-next, putting-done}
 use Rattle.segment_sheet.proofs.obus.put_obus_of.Statement.{statement}
 use Rattle.segment_sheet.proofs.obus.put_obus_of.Tie as tie
@@ -26,11 +26,11 @@ loop-holds c =
 add-start : tie.Need-add-start Inv-loop μ-loop
 add-start c = omega (arith, code-room (c .before .loop .inv .here) (c .loop-test .taken))
 
-find-requires : tie.Need-find-requires Inv-loop μ-loop
-find-requires c κs = search needs
+end-of-requires : tie.Need-end-of-requires Inv-loop μ-loop
+end-of-requires c κs = payload-passes (c .before .loop .inv .here) (c .loop-test .taken)
 
 sub-part : tie.Need-sub-part Inv-loop μ-loop
-sub-part c = end-room (c .before .before .loop .inv .here) (c .before .loop-test .taken) _ (c .find .ensures) .0
+sub-part c = end-room (c .before .before .loop .inv .here) (c .before .loop-test .taken) _ (c .end-of .ensures) .0
 
 part-requires : tie.Need-part-requires Inv-loop μ-loop
 part-requires c κs = search needs
@@ -55,7 +55,7 @@ loop-less : tie.Need-loop-less Inv-loop μ-loop
 loop-less c =
     let found = c .before .before .before .before .before .before .before in
     let turn = found .before in
-    omega (arith, end-room (turn .before .loop .inv .here) (turn .loop-test .taken) _ (found .find .ensures) .0)
+    omega (arith, end-room (turn .before .loop .inv .here) (turn .loop-test .taken) _ (found .end-of .ensures) .0)
 
 loop-again : tie.Need-loop-again Inv-loop μ-loop
 loop-again c =
@@ -65,7 +65,7 @@ loop-again c =
     let lent = first .before in
     let found = lent .before in
     let turn = found .before in
-    putting-next (turn .before .loop .inv) (turn .loop-test .taken) _ _ _ _ _ (found .find .ensures) (lent .part .ensures)
+    putting-next (turn .before .loop .inv) (turn .loop-test .taken) _ _ _ _ _ (found .end-of .ensures) (lent .part .ensures)
     (typed .type-of .ensures ∙ ap typeBits (first .byte-at .ensures)) refl (put .put-four .ensures)
 
 same-length : tie.Need-same-length Inv-loop μ-loop
@@ -82,7 +82,7 @@ put-obus-of-spec =
     μ-loop
     loop-holds
     add-start
-    find-requires
+    end-of-requires
     sub-part
     part-requires
     byte-at-requires
