@@ -30,10 +30,22 @@ pub struct Units {
     pub carried: Vec<Vec<u8>>,
 }
 
+/// Whether OBUs say their sizes.
+#[derive(Clone, Copy)]
+pub enum Sizes {
+    Present,
+    Absent,
+}
+
 impl Units {
     pub fn new(count: usize, kind: Kind, len: usize, clip: &Clip) -> Units {
+        Units::with(Sizes::Present, count, kind, len, clip)
+    }
+
+    pub fn with(sizes: Sizes, count: usize, kind: Kind, len: usize, clip: &Clip) -> Units {
         let mut source = Source::new(kind, clip);
-        let lists: Vec<ObuList> = (0..count).map(|_| obu_list(len, &mut source)).collect();
+        let list = |_| obu_list(len, sizes, &mut source);
+        let lists: Vec<ObuList> = (0..count).map(list).collect();
         Units {
             kind,
             carried: lists.iter().map(carried).collect(),
@@ -43,18 +55,18 @@ impl Units {
 }
 
 /// A list of `len` bytes in all.
-fn obu_list(len: usize, source: &mut Source) -> ObuList {
+fn obu_list(len: usize, sizes: Sizes, source: &mut Source) -> ObuList {
     let mut list = ObuList {
         bytes: vec![DELIMITER << 3 | HAS_SIZE, 0],
         lengths: vec![2],
     };
-    let header = list.bytes.len() + leading(FRAME_HEADER_BYTES);
-    add(&mut list, FRAME_HEADER, FRAME_HEADER_BYTES, source);
+    let header = list.bytes.len() + leading(FRAME_HEADER_BYTES, sizes);
+    add(&mut list, FRAME_HEADER, FRAME_HEADER_BYTES, sizes, source);
     // The first bit, show_existing_frame, is 0: tile groups follow.
     list.bytes[header] &= 0x7F;
     for left in (1..=TILE_GROUPS).rev() {
         let share = (len - list.bytes.len()) / left;
-        add(&mut list, TILE_GROUP, share, source);
+        add(&mut list, TILE_GROUP, share, sizes, source);
     }
     list
 }
@@ -64,11 +76,12 @@ fn carried(list: &ObuList) -> Vec<u8> {
     written(&list.bytes, &list.lengths).expect("the list is a legal one")
 }
 
-/// Adds an OBU of `len` bytes: header, size, content.
-fn add(list: &mut ObuList, obu_type: u8, len: usize, source: &mut Source) {
-    let width = leading(len) - 1;
+/// Adds an OBU of `len` bytes: header, size where it says one, content.
+fn add(list: &mut ObuList, obu_type: u8, len: usize, sizes: Sizes, source: &mut Source) {
+    let width = leading(len, sizes) - 1;
     let size = len - 1 - width;
-    list.bytes.push(obu_type << 3 | HAS_SIZE);
+    let has_size = if width > 0 { HAS_SIZE } else { 0 };
+    list.bytes.push(obu_type << 3 | has_size);
     for k in 0..width {
         let more = if k + 1 < width { 0x80 } else { 0 };
         list.bytes.push((size >> (7 * k) & 0x7F) as u8 | more);
@@ -77,8 +90,11 @@ fn add(list: &mut ObuList, obu_type: u8, len: usize, source: &mut Source) {
     list.lengths.push(len);
 }
 
-/// The bytes before the content of an OBU of `len` bytes: header and the shortest size that fits.
-fn leading(len: usize) -> usize {
-    let width = (1..8).find(|&width| len - 1 - width < 1 << (7 * width));
+/// The bytes before the content of an OBU of `len` bytes: header, and the shortest size that fits.
+fn leading(len: usize, sizes: Sizes) -> usize {
+    let width = match sizes {
+        Sizes::Present => (1..8).find(|&width| len - 1 - width < 1 << (7 * width)),
+        Sizes::Absent => Some(0),
+    };
     1 + width.expect("an OBU is at most 1 MiB")
 }

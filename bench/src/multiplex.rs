@@ -1,6 +1,6 @@
 //! Segments to measure on: one program with AV1 and audio, put together by the second program.
 
-use crate::access_unit::Units;
+use crate::access_unit::{Sizes, Units};
 use crate::input::{Clip, Kind, MAX_UNITS};
 use av1ts::segment::Segment;
 use reference::compose::{BEHIND_HEADER, Entry, Load, Packet, Pes, pat, pmt, segment};
@@ -56,7 +56,12 @@ impl AsRef<[u8]> for Multiplex {
 
 /// 12 MB with units of 40,000 bytes, or one of so many parts of it.
 pub fn long_units(kind: Kind, part: usize, clip: &Clip) -> Multiplex {
-    let units = Units::new(UNITS / part, kind, UNIT_BYTES, clip).carried;
+    long_units_with(Sizes::Present, kind, part, clip)
+}
+
+/// The same, of OBUs that say their sizes or not.
+pub fn long_units_with(sizes: Sizes, kind: Kind, part: usize, clip: &Clip) -> Multiplex {
+    let units = Units::with(sizes, UNITS / part, kind, UNIT_BYTES, clip).carried;
     filled(&units, PACKETS / part)
 }
 

@@ -1,8 +1,9 @@
 //! Writing the sheet of a segment, beside the check of the segment, which it does too.
 
-use crate::input::Clip;
+use crate::access_unit::Sizes;
+use crate::input::{Clip, Kind};
 use crate::measure::{Case, Outputs, Peer, Plan, Row, touched};
-use crate::multiplex::Multiplex;
+use crate::multiplex::{Multiplex, long_units_with};
 use crate::segment;
 use av1ts::sheet::{SheetWritten, write_sheet};
 use reference::segment::Rooms;
@@ -12,8 +13,15 @@ const EDITION: u64 = 0;
 
 const ROOM: usize = av1ts::Sheet::MOST_BYTES;
 
+const FUNCTION: &str = "write_sheet";
+
+/// The segments of the check, and one whose OBUs say no size, so that each payload is searched.
 pub fn measure(plan: &Plan, clip: &Clip) -> Result<Vec<Row>, String> {
-    segment::each(plan, clip, "write_sheet", row)
+    let mut rows = segment::each(plan, clip, FUNCTION, row)?;
+    let segment = long_units_with(Sizes::Absent, Kind::RealAv1, plan.part, clip);
+    let names = [FUNCTION, "real AV1, no sizes", plan.segment_size];
+    rows.push(row(&Case::of_segment(plan, names, &segment))?);
+    Ok(rows)
 }
 
 fn row(case: &Case<Multiplex>) -> Result<Row, String> {
