@@ -10,7 +10,7 @@ use Rattle.lists.specs.Lists.{Bytes, pick, same, all}
 use Rattle.lists.specs.Bytes.{byte}
 use Rattle.lists.proofs.Tests.{and-both, clash, same-bytes}
 use Rattle.lists.proofs.Tables.{each}
-use Rattle.refusal.specs.Verdict.{Verdict, passed, refused, _>>=_, _>>_, NoValue, given, atPlace}
+use Rattle.refusal.specs.Verdict.{Verdict, passed, refused, _>>=_, _>>_, given, atPlace, passes as isPassed}
 use Rattle.emulation.specs.Payload.{escape, escapeAfter, unescape, dropped, legal, forbidden, above3, firstForbidden}
 use Rattle.emulation.specs.Answer.{unescaping}
 use Rattle.emulation.specs.declared.unescaping.Counts.{Counts}
@@ -21,11 +21,8 @@ use Rattle.descriptor.specs.declared.fields.Delay.{Delay}
 use Rattle.descriptor.specs.declared.fields.Delay.the-variants.{Absent, Present}
 use Rattle.descriptor.specs.declared.fields.Video.{Video}
 use Rattle.descriptor.specs.Descriptor.{fieldsOf, delayOf, versionWrong, zerosWrong, wrong, reading}
+use Rattle.refusal.proofs.Verdicts.{passes-passed}
 use Rattle.cases.specs.Cases.{Case, escapes, unescapes, illegal, describes, passes, refuses, Holds, cases}
-
-isPassed : Verdict NoValue → Bool
-isPassed (passed _) = true
-isPassed (refused number place) = false
 
 isRefused : {A : Type 0} → ℕ → ℕ → Verdict A → Bool
 isRefused number place (passed _) = false
@@ -83,11 +80,6 @@ test (passes obu) = isPassed (obuRefusal obu)
 test (refuses obu number) = isRefused number 0 (obuRefusal obu)
 test (illegal payload place) = isRefused 10 place (unescaping payload (length payload))
 
-is-passed : (v : Verdict NoValue) → isPassed v ≡ true → v ≡ passed tt
-unfolding isPassed
-is-passed (passed _) e = refl
-is-passed (refused number place) e = clash e refl
-
 is-refused : {A : Type 0} (number place : ℕ) (v : Verdict A) → isRefused number place v ≡ true → v ≡ refused number place
 unfolding isRefused
 is-refused number place (passed _) e = clash e refl
@@ -130,13 +122,13 @@ sound (unescapes payload w d) e =
     let h = and-both (isUnescaped (length w) d (unescaping payload (length w))) (same (unescape payload) w) e in
     (is-unescaped (length w) d (unescaping payload (length w)) (h .0), same-bytes (unescape payload) w (h .1))
 sound (describes d video) e = is-video video (reading d) e
-sound (passes obu) e = is-passed (obuRefusal obu) e
+sound (passes obu) e = passes-passed (obuRefusal obu) e
 sound (refuses obu number) e = is-refused number 0 (obuRefusal obu) e
 sound (illegal payload place) e = is-refused 10 place (unescaping payload (length payload)) e
 
 -- the table passes, by computation
 tested : all test cases ≡ true
-unfolding all test same cases escapeAfter unescape dropped legal forbidden above3 firstForbidden unescaping atPlace isPassed isRefused
+unfolding all test same cases escapeAfter unescape dropped legal forbidden above3 firstForbidden unescaping atPlace isRefused
     isUnescaped isVideo numbers sameDelay reading wrong versionWrong zerosWrong fieldsOf delayOf judged headerOf sizedHeader sizeOf
     headerWith fixedBytes leb128 lebWithin lowFirst inRange given pick _>>_ _>>=_
 tested = refl

@@ -37,7 +37,8 @@ use Rattle.mux_rules.specs.Sending.{channelWrong, sending, unitsLeft, channelLe
 use Rattle.mux.specs.Parts.{filled, slotUnits, slotWrong, formed, wellFormed, slotsPackets, tablePackets}
 use Rattle.mux_rules.proofs.Counts.{section-whole, flat-length, length-segment}
 use Rattle.packet_writer.specs.Putting.{patPut, pmtPut, pcrPut}
-use Rattle.packet_writer.proofs.Puts.{put-next, length-over}
+use Rattle.lists.proofs.Writing.{length-over}
+use Rattle.packet_writer.proofs.Puts.{put-next}
 use Rattle.packet_writer.proofs.Fitting.{pat-written, pmt-written, pcr-written}
 use Rattle.mux.proofs.Placing.{units-long, mid-long}
 use Rattle.mux_rules.proofs.Reaching.{right, Allowed, allowed, each-whole}

@@ -22,7 +22,8 @@ use Rattle.mux_rules.proofs.Cuts.{others-next}
 use Rattle.mux_rules.proofs.Counts.{others-whole, length-others}
 use Rattle.mux_rules.proofs.Counts.{flat-length}
 use Rattle.packet_writer.specs.Putting.{packetPut}
-use Rattle.packet_writer.proofs.Puts.{put-next, length-over}
+use Rattle.lists.proofs.Writing.{length-over}
+use Rattle.packet_writer.proofs.Puts.{put-next}
 use Rattle.packet_writer.proofs.Fitting.{packet-written}
 
 -- the packets of the bytes from a place on

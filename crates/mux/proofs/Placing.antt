@@ -25,7 +25,8 @@ use Rattle.mux.specs.Parts.{firstSize, flagsOf, slotUnit, slotUnits, for
 use Rattle.mux_rules.proofs.Cuts.{firstBytes, first-part, other-parts, first-short}
 use Rattle.mux_rules.proofs.Counts.{others-whole, length-others, unit-whole, units-whole, length-unit, length-units}
 use Rattle.mux_rules.proofs.Counts.{flat-length, flat-append}
-use Rattle.packet_writer.proofs.Puts.{put-next, length-over}
+use Rattle.lists.proofs.Writing.{length-over}
+use Rattle.packet_writer.proofs.Puts.{put-next}
 use Rattle.packet_writer.proofs.Starting.{header-size}
 use Rattle.packet_writer.proofs.Fitting.{start-written}
 use Rattle.mux.proofs.Slotting.{unit-packets, Sound, sound, units-packets}

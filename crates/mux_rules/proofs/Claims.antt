@@ -27,7 +27,7 @@ use Rattle.comparison.specs.Comparison.{sequenceHeaders, firstFrom}
 use Rattle.segment_rules.specs.Comparison.{comparedWith, compared, checkCompared}
 use Rattle.segment_rules.specs.Rules.{Rooms, carriedUnits}
 use Rattle.segment_rules.proofs.Running.{run-append}
-use Rattle.segment_rules.proofs.Accepting.{all-append}
+use Rattle.refusal.proofs.Verdicts.{all-append}
 use Rattle.mux_rules.specs.declared.Channel.{Channel}
 use Rattle.mux_rules.specs.declared.Written.{Written}
 use Rattle.packet.proofs.Packets.{Whole, packets-flatten}

@@ -17,7 +17,7 @@ use Rattle.psi.specs.Writing.{sectionPayload}
 use Rattle.psi.proofs.Writing.{length-payload}
 use Rattle.queue.specs.Queue.{TimedUnit}
 use Rattle.segment_rules.specs.Check.{rule20, segmentLengthWrong}
-use Rattle.segment_rules.proofs.Accepting.{all-append}
+use Rattle.refusal.proofs.Verdicts.{all-append}
 use Rattle.mux_rules.specs.declared.Channel.{Channel}
 use Rattle.mux_rules.specs.Packets.{othersFor, firstPart, otherParts, firstFlags, others, packetsFor, unitPackets, unitsPackets}
 use Rattle.mux_rules.specs.Packets.{sectionPacket, segmentPackets, packetsForUnits}

@@ -3,7 +3,7 @@ use Prim.Native.Nat.{ℕ, _+_, _≤_}
 use mathlib.Core.Bool.{Bool, true, false, not, _&&_, _||_, and-false}
 use mathlib.Core.Path.{_≡_, refl, ap, _∙_}
 use mathlib.Core.List.{List, [], _∷_}
-use mathlib.Core.Option.{Option, none, some}
+use mathlib.Core.Option.{none, some}
 use native.Mathlib.Omega.{arith}
 use borrow.Author.Tests.{eq-eqb, ne-eqb}
 use lib.Dec.{eqb}
@@ -26,6 +26,7 @@ use Rattle.segment_rules.specs.State.{FirstPat, FirstPmt, Tables, State, Kind, 
 use Rattle.segment_rules.specs.Rules.{Rooms, onTables, countingPcr, lastPcr, checked, lastRepeats, packetRules}
 use Rattle.segment_rules.specs.Check.{Progress, step, run}
 use Rattle.segment_rules.proofs.ByKind.{counted}
+use Rattle.lists.proofs.Picks.{either}
 use Rattle.mux_rules.specs.declared.Channel.{Channel}
 
 -- a packet with its index in the segment
@@ -142,20 +143,10 @@ module _ (i : ℕ) (r r′ : StreamRecord) (records : List StreamRecord) (p : By
   checked-later after n f = rw (ne-eqb (r .pid) (pid p) n, f)
 
 -- ---- the PCR
-either : (b : Bool) → pick b clock.None clock.None ≡ clock.None
-unfolding pick
-either true = refl
-either false = refl
-
 -- a packet without PCR_flag has none
 pub no-clock : (p : Bytes) → pcrFlag p ≡ false → pcr p ≡ clock.None
 unfolding pcr pick
-no-clock p e = rw e (either (eqb (pid p) nullPid))
-
-pub uncounted : (p : Bytes) (pmt : Option FirstPmt) → pcr p ≡ clock.None → countingPcr pmt p ≡ clock.None
-unfolding countingPcr
-uncounted p none e = refl
-uncounted p (some pmt) e = rw e (either (eqb (pid p) (pmt .says .pcrPid)))
+no-clock p e = rw e (either (eqb (pid p) nullPid) clock.None)
 
 -- ---- both: the counter is checked by these records, and the last PCR is then this
 pub counted-by : (i : ℕ) (p : Bytes) (st : State) (after : List StreamRecord) (t : Clock)

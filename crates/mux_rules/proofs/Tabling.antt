@@ -37,7 +37,8 @@ use Rattle.segment_rules.proofs.ByKind.{counted, pat-packet, map-packet, av1-em
 use Rattle.mux_rules.specs.declared.Channel.{Channel}
 use Rattle.mux_rules.specs.Packets.{sectionPacket}
 use Rattle.mux_rules.proofs.States.{Laid, laid, seen, firstPat, firstPmt, afterPat, afterPmt, inTables, first-check, next-check}
-use Rattle.mux_rules.proofs.States.{none-repeats, checked-first, checked-later, no-clock, uncounted, counted-by}
+use Rattle.mux_rules.proofs.States.{none-repeats, checked-first, checked-later, no-clock, counted-by}
+use Rattle.segment_rules.proofs.Clocks.{uncounted}
 
 -- ---- a section's packet
 -- of a section with so many bytes behind its eight fixed ones, on this PID

@@ -13,7 +13,8 @@ use lib.Seq.{take-all, take-suc}
 use Rattle.lists.specs.Lists.{any}
 use Rattle.lists.proofs.Tests.{case}
 use Rattle.lists.proofs.Tables.{allBelow, below}
-use Rattle.refusal.specs.Verdict.{Verdict, passed, refused, NoValue}
+use Rattle.refusal.specs.Verdict.{Verdict, passed, refused, NoValue, passes}
+use Rattle.refusal.proofs.Verdicts.{passes-passed}
 use Rattle.obu.specs.Order.{Kind, temporalDelimiter, frameHeader, tileGroup, frame, is, headKind, tileKind, lastKind, kindOfNumber}
 use Rattle.obu.specs.Order.{OrderLegal, afterFrame, inTiles, atFrame, beforeFrame, orderRefusal}
 use Rattle.obu.specs.Table.{Position, start, front, tiles, ended, whole, broken, positionOf, MayFollow, Reach, LeadsTo, IsOrderTable}
@@ -60,10 +61,6 @@ mayEnd whole = true
 mayEnd broken = false
 
 -- ---- the rule passes a list exactly where the unit may end at the position after it
-abbrev passes : Verdict NoValue → Bool
-passes (passed a) = true
-passes (refused number place) = false
-
 broken-stays : (s : List Kind) → mayEnd (run broken s) ≡ false
 unfolding run after
 broken-stays [] = refl
@@ -124,15 +121,11 @@ start-runs (k ∷ s) =
     (λ e. by (afterFront k) (afterStart k) s (not-delimited k s e) (front-runs 0 (k ∷ s)) (rw (e, afterStart)))
 
 -- ---- what may follow at a position is what ends in order from there
-passed-only : (v : Verdict NoValue) → passes v ≡ true → v ≡ passed tt
-passed-only (passed a) e = refl
-passed-only (refused number place) e = absurd (true≢false (sym e))
-
 legal-passes : (l : List Kind) → OrderLegal l → passes (orderRefusal l) ≡ true
 legal-passes l h = ap passes (legal-order l h)
 
 passes-legal : (l : List Kind) → passes (orderRefusal l) ≡ true → OrderLegal l
-passes-legal l e = order-legal l (passed-only (orderRefusal l) e)
+passes-legal l e = order-legal l (passes-passed (orderRefusal l) e)
 
 -- a list that reaches each position but the broken one leads there
 behind : (p : Position) (rest : List Kind) → MayFollow p rest → mayEnd (run p rest) ≡ true

@@ -4,7 +4,7 @@ use mathlib.Core.Bool.{Bool, true, false}
 use mathlib.Core.Path.{_≡_, refl, sym, ap, ap₂, _∙_}
 use mathlib.Core.List.{[], _∷_, _++_, append-assoc}
 use native.Mathlib.Omega.{arith}
-use lib.ListN.{length, take, drop, getD, set, length-append, length-drop, getD-replicate}
+use lib.ListN.{length, take, drop, getD, set, length-append, getD-replicate}
 use lib.Seq.{drop-drop, take-append-seam, drop-append-seam}
 use Rattle.lists.specs.Lists.{Bytes, over, placed, pick}
 use borrow.Rule.Slice.PartMut.{midOf, putMid}
@@ -16,6 +16,7 @@ use Rattle.packet.specs.Writing.{flag, stuffing, header, most, control, adaptat
 use Rattle.psi.specs.Writing.{sectionPayload}
 use Rattle.psi.proofs.Writing.{length-payload}
 use Rattle.ticks.specs.Writing.{pcrBytes}
+use Rattle.lists.proofs.Writing.{length-over}
 use Rattle.packet_writer.specs.Parts.{baseBytes}
 use Rattle.packet.proofs.Writing.{length-stuffing}
 
@@ -27,9 +28,6 @@ behind-put w v out s n e o =
     ∙ ap₂ (λ (x y : Bytes). x ++ over v y) (take-append-seam w r) (drop-append-seam w r)
     ∙ ap (λ (x : Bytes). w ++ (v ++ x)) (drop-drop (length v) (length w) out ∙ ap (λ (k : ℕ). drop k out) (sym (length-append w v)))
     ∙ sym (append-assoc w v (drop (length (w ++ v)) out))
-
-pub length-over : (w out : Bytes) → length w ≤ length out → length (over w out) ≡ length out
-length-over w out h = omega (arith, length-append w (drop (length w) out), length-drop (length w) out)
 
 -- one byte at the front
 pub first-set : (out : Bytes) (b : ℕ) → 0 < length out → set out 0 b ≡ over (b ∷ []) out

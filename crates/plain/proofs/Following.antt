@@ -11,6 +11,7 @@ use Rattle.lists.specs.Lists.{Bytes, pick, over, placed}
 use Rattle.lists.proofs.Placed.{placed-twice}
 use Rattle.lists.proofs.Tests.{case}
 use Rattle.packet.specs.Header.{packetLength, packets, packetAt, payload}
+use Rattle.lists.proofs.Writing.{length-over}
 use Rattle.plain.specs.Runs.{isNull, nullsIn, nextCounter, countsOn, countingOn, goesOn, payloadLength, goingOn, payloads}
 use Rattle.plain.proofs.Places.{next-from, none-from, packet-length}
 use Rattle.plain.proofs.Plains.{counts-too, payload-behind}
@@ -106,9 +107,6 @@ module _ (s : Bytes) (from q last : ℕ) where
       counts-stop e = omega (arith, inv, ap (countingOn q counter) here ∙ counting-stop q counter p _ e)
 
 -- ---- one list behind another in an output
-length-over : (w out : List ℕ) → length w ≤ length out → length (over w out) ≡ length out
-length-over w out h = omega (arith, length-append w (drop (length w) out), length-drop (length w) out)
-
 -- ---- packets that go on
 module _ (room n last : ℕ) where
   pub going-none : goingOn room n last [] ≡ 0

@@ -17,6 +17,7 @@ use Rattle.packet.specs.Header.{pid, nullPid, syncLost, transportErrorIndicator
 use Rattle.packet.specs.Header.{transportScramblingControl, adaptationFieldControl, continuityCounter}
 use Rattle.packet.specs.Header.{hasAdaptationField, hasPayload, adaptationFlags, discontinuityIndicator, pcrFlag}
 use Rattle.packet.specs.Header.{clockReference, headerLength, payload, fieldsWrong, fields, headerOf}
+use Rattle.lists.proofs.Picks.{either}
 use Rattle.plain.specs.Runs.{isNull, nextCounter, countsOn, goesOn}
 
 -- ---- a null packet
@@ -84,15 +85,10 @@ module _ (n last : ℕ) (p : Bytes) (h : countsOn n last p ≡ true) where
   pub no-break : discontinuityIndicator p ≡ false
   no-break = ap (bit 7) no-flags
 
-  either : (x : Bool) → pick x clock.None clock.None ≡ clock.None
-  unfolding pick
-  either true = refl
-  either false = refl
-
   pub no-pcr : pcr p ≡ clock.None
   unfolding pcr pick
   no-pcr = ap (λ (x : Bool). pick (eqb (pid p) nullPid) clock.None (pick x (clockReference p) clock.None)) no-pcr-flag
-      ∙ either (eqb (pid p) nullPid)
+      ∙ either (eqb (pid p) nullPid) clock.None
 
   -- the payload is all behind the header
   pub payload-behind : payload p ≡ drop 4 p

@@ -8,7 +8,7 @@ use native.Mathlib.Omega.{arith}
 use lib.Dec.{eqb}
 use Rattle.lists.specs.Lists.{pick, any, those}
 use Rattle.lists.proofs.Elements.{those-first, those-others, any-now, any-later}
-use Rattle.lists.proofs.Picks.{by-true}
+use Rattle.lists.proofs.Picks.{by-true, either}
 use Rattle.lists.proofs.Tests.{case}
 use Rattle.refusal.specs.Verdict.{Verdict, passed, refused, _>>=_, _>>_, given}
 use Rattle.descriptor.specs.Edition.{Edition}
@@ -112,11 +112,6 @@ module _ (edition : Edition) where
   alone [] a = a
   alone (e ∷ es) a = Wrong
 
-  pick-same : (t : Bool) (a : Av1) → a ≡ pick t a a
-  unfolding pick
-  pick-same true a = refl
-  pick-same false a = refl
-
   abbrev misplacedIn : List MapEntry → Bool
   misplacedIn es = any misplaced es
 
@@ -140,7 +135,8 @@ module _ (edition : Edition) where
       (λ p. ap (λ (k : Kind). withAll edition es (suc slot) (withKind k slot (One at v))) (kind-misplaced e p) ∙ wrong-stays es (suc slot)
       ∙ by-true (alone (av1In (e ∷ es)) (One at v)) (sym (any-now misplaced e es p)) refl)
       (λ p. case (av1 e)
-      (λ q. ap (withAll edition es (suc slot)) (second e slot at v p q) ∙ wrong-stays es (suc slot) ∙ pick-same (misplacedIn (e ∷ es)) Wrong
+      (λ q. ap (withAll edition es (suc slot)) (second e slot at v p q) ∙ wrong-stays es (suc slot)
+      ∙ sym (either (misplacedIn (e ∷ es)) Wrong)
       ∙ ap (λ (l : List MapEntry). pick (misplacedIn (e ∷ es)) Wrong (alone l (One at v))) (sym (those-first av1 e es q)))
       (λ q. ap (λ (k : Kind). withAll edition es (suc slot) (withKind k slot (One at v))) (kind-other e p q) ∙ one-then es (suc slot) at v
       ∙ ap₂ (λ (b : Bool) (l : List MapEntry). pick b Wrong (alone l (One at v))) (any-later misplaced e es p)

@@ -7,9 +7,9 @@ use native.Mathlib.Omega.{arith}
 use borrow.Author.Tests.{eqb-true, eqb-false, ltb-true, ltb-false, not-false}
 use lib.Dec.{eqb, ltb}
 use lib.ListN.{length, take, drop, getD, length-append, List·getD-append, List·getD-map}
-use lib.Seq.{take-append-le, take-append-seam, getD-append-add, getD-take, getD-drop, length-take-le}
+use lib.Seq.{take-append-le, take-append-seam, getD-append-add, getD-take, length-take-le}
 use Rattle.lists.specs.Lists.{Bytes, any, those}
-use Rattle.lists.specs.Bytes.{byte}
+use Rattle.lists.specs.Bytes.{byte, Octets}
 use Rattle.lists.proofs.Elements.{those-first, those-others}
 use Rattle.lists.proofs.Tests.{case, or-neither}
 use Rattle.refusal.specs.Verdict.{Verdict, passed, refused, _>>_, given}
@@ -17,6 +17,7 @@ use Rattle.refusal.proofs.Verdicts.{passed-then, passed-after, passed-same, giv
 use Rattle.psi.specs.Section.{commonWrong, beforeCrc, upToCrc, tableIdExtension}
 use Rattle.descriptor.specs.Edition.{Edition}
 use Rattle.packet.specs.Header.{nullPid}
+use Rattle.lists.proofs.Parts.{octets-drop, octets-take}
 use Rattle.pmt.specs.Pmt.{MapEntry, MapContent, elementaryPid, entrySize, pidWrong, entry, pids, mostEntries, entriesAfter, entries}
 use Rattle.pmt.specs.Pmt.{isAv1, oneAv1, av1Entry, pcrPid, programInfoLength, entryBytes, readPmt}
 use Rattle.pmt.specs.Answer.{firstOf, mapOf, mapped}
@@ -120,19 +121,6 @@ unfolding any
 not-among p [] e i h q = omega arith
 not-among p (a ∷ l) e zero h q = eqb-false p a (or-neither (eqb p a) (any (eqb p) l) e .0) q
 not-among p (a ∷ l) e (suc i) h q = not-among p l (or-neither (eqb p a) (any (eqb p) l) e .1) i (omega arith) q
-
--- the numbers that come in a section's bytes
-abbrev pub Octets : Bytes → Type 0
-Octets s = (i : ℕ) → byte s i < 256
-
-pub octets-drop : (s : Bytes) (k : ℕ) → Octets s → Octets (drop k s)
-octets-drop s k o i = omega (arith, getD-drop k s i 0, o (k + i))
-
-pub octets-take : (k : ℕ) (s : Bytes) → Octets s → Octets (take k s)
-octets-take zero s o i = omega arith
-octets-take (suc k) [] o i = omega arith
-octets-take (suc k) (a ∷ s) o zero = o 0
-octets-take (suc k) (a ∷ s) o (suc i) = octets-take k s (λ n. o (suc n)) i
 
 abbrev Small : List ℕ → Type 0
 Small ps = (j : ℕ) → byte ps j < 8192

@@ -20,9 +20,9 @@ use Rattle.obu.specs.declared.ordering.Ordered.the-variants as ordered
 use Rattle.unit.specs.Unit.{mostObus, mostObuBytes, readUnit, carried}
 use Rattle.unit.proofs.Theorem.{Fits, fits, accepts-carried}
 use Rattle.unit.proofs.Accepted.{accepted-by, carried-accepted}
-use Rattle.salvage.specs.Salvage.{passes}
+use Rattle.refusal.specs.Verdict.{passes}
 use Rattle.salvage.specs.Parts.{kindsOf, bytesOf, acceptable}
-use Rattle.salvage.proofs.Forms.{passes-true}
+use Rattle.refusal.proofs.Verdicts.{passes-passed}
 
 -- ---- by the tests of the code
 module _ (count bytes : ℕ) (kinds : List ℕ) where
@@ -69,7 +69,7 @@ module _ (l : List Bytes) (most : length l ≤ mostObus) (fine : All (λ b. obuR
         most = most;
         bytes = ltb-false mostObuBytes (bytesOf l) (not-true (ltb mostObuBytes (bytesOf l)) (b .1));
         obus = fine;
-        order = ap orderRefusal (sym (kinds-said l)) ∙ passes-true (orderRefusal (map kindOfNumber (kindsOf l))) (a .1);
+        order = ap orderRefusal (sym (kinds-said l)) ∙ passes-passed (orderRefusal (map kindOfNumber (kindsOf l))) (a .1);
       }
 
   by-fits : Fits l → acceptable (length l) (bytesOf l) (kindsOf l) ≡ true

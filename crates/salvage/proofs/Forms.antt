@@ -13,7 +13,7 @@ use Rattle.lists.proofs.Elements.{those-first, those-others}
 use Rattle.lists.proofs.Parts.{tail-prefix}
 use Rattle.lists.proofs.Picks.{by-true, by-false}
 use Rattle.lists.proofs.Tests.{case, clash}
-use Rattle.refusal.specs.Verdict.{Verdict, passed, refused, NoValue, given}
+use Rattle.refusal.specs.Verdict.{Verdict, passed, refused, NoValue, given, passes}
 use Rattle.refusal.proofs.Verdicts.{follows, stops, not-given, passed-after, given-passed, All}
 use Rattle.refusal.specs.Number.{numberOf}
 use Rattle.refusal.specs.declared.Refused.{Refused}
@@ -32,7 +32,8 @@ use Rattle.unit.proofs.Writings.{code-over}
 use Rattle.unit.proofs.Theorem.{tsobu-legal}
 use Rattle.unit.proofs.Accepted.{tsobu-obu}
 use Rattle.tsobu.proofs.TsObus.{Passes, tsobu-refused, tsobu-passed}
-use Rattle.salvage.specs.Salvage.{salvageRefusal, passes, keeps, salvaged, closes, markBy, mark}
+use Rattle.refusal.proofs.Verdicts.{all-append, passes-passed}
+use Rattle.salvage.specs.Salvage.{salvageRefusal, keeps, salvaged, closes, markBy, mark}
 use Rattle.salvage.specs.declared.One.{One}
 use Rattle.salvage.specs.Parts.{form, forms, keptOf, kindsOf, bytesOf, droppedOne, keptOne, OneOf}
 use Rattle.salvage.proofs.Closing.{rewritten}
@@ -223,16 +224,8 @@ kept-few p =
     (λ e. omega (arith, ap length (kept-none p e)))
 
 -- each passes by itself
-pub passes-true : (v : Verdict NoValue) → passes v ≡ true → v ≡ passed tt
-passes-true (passed a) e = refl
-passes-true (refused number place) e = clash e refl
-
 pub keeps-passed : (p : Bytes) → keeps p ≡ true → salvageRefusal p ≡ passed tt
-keeps-passed p = passes-true (salvageRefusal p)
-
-all-joined : (P : Bytes → Type 0) (a b : List Bytes) → All P a → All P b → All P (a ++ b)
-all-joined P [] b h k = k
-all-joined P (x ∷ a) b h k = (h .0, all-joined P a b (h .1) k)
+keeps-passed p = passes-passed (salvageRefusal p)
 
 one-fine : (p : Bytes) → All (λ b. obuRefusal b ≡ passed tt) (keptOf (p ∷ []))
 one-fine p =
@@ -246,7 +239,7 @@ unfolding those
 kept-fine [] = tt
 kept-fine (p ∷ ps) =
     subst (All (λ b. obuRefusal b ≡ passed tt)) (sym (kept-next p ps))
-    (all-joined (λ b. obuRefusal b ≡ passed tt) (keptOf (p ∷ [])) (keptOf ps) (one-fine p) (kept-fine ps))
+    (all-append (λ b. obuRefusal b ≡ passed tt) (keptOf (p ∷ [])) (keptOf ps) (one-fine p) (kept-fine ps))
 
 -- ---- one tsOBU, by the answer on its payload
 module _ (p : Bytes) (q : TsObu) (e : tsobuSays q ≡ tsobuFigures p) where

@@ -14,42 +14,13 @@ use Rattle.lists.specs.Lists.{Bytes, those, over}
 use Rattle.lists.proofs.Parts.{tail-lent, tail-placed}
 use Rattle.lists.proofs.Writing.{Part, start, counted, put-all, done}
 use Rattle.unit.specs.Unit.{mostObus, sum}
-use Rattle.tsobu.specs.StartCodes.{atStartCode, payloads}
-use Rattle.tsobu.proofs.Places.{Place, nextCode, payloadAt, payload-length, code-fits, next-fits}
-use Rattle.tsobu.proofs.Places.{next-place, payloads-from, payloads-end, place-code}
+use Rattle.tsobu.specs.StartCodes.{payloads}
+use Rattle.tsobu.proofs.Places.{Place, nextCode, payloadAt, payload-length, payloads-end}
+pub use Rattle.tsobu.proofs.Places.{At, at-start, code-here, code-room, next-at, next-payloads, end-room, lent-is}
 use Rattle.salvage.specs.Salvage.{mark}
 use Rattle.salvage.specs.declared.One.{One}
 use Rattle.salvage.specs.Parts.{form, forms, keptOf, kindsOf, bytesOf, OneOf, MeasuredOf}
 use Rattle.salvage.proofs.Forms.{kept-next, kept-few}
-
--- ---- a place where a tsOBU begins
-pub record At (s : Bytes) (code : ℕ) : Type 0 where
-  pub place : Place s code
-  pub within : code ≤ length s
-
-pub at-start : (s : Bytes) → Place s 0 → At s 0
-at-start s p = record { place = p; within = omega arith }
-
-module _ {s : Bytes} {code : ℕ} (a : At s code) (h : code < length s) where
-  pub code-here : atStartCode (drop code s) ≡ true
-  code-here = place-code s code (a .place) h
-
-  pub code-room : code + 3 ≤ length s
-  code-room = code-fits s code code-here
-
-  pub next-at : At s (nextCode s code)
-  next-at = record { place = next-place s code code-here; within = next-fits s code code-here }
-
-  pub next-payloads : payloads (drop code s) ≡ payloadAt s code ∷ payloads (drop (nextCode s code) s)
-  next-payloads = payloads-from s code code-here
-
-  -- the payload as it is lent, up to where the next start code was found
-  module _ (end : ℕ) (e : end ≡ nextCode s code) where
-    pub end-room : (code + 3 ≤ end) × (end ≤ length s)
-    end-room = (omega arith, omega (arith, next-fits s code code-here))
-
-    pub lent-is : take (end - (code + 3)) (drop (code + 3) s) ≡ payloadAt s code
-    lent-is = ap (λ (n : ℕ). take (n - (code + 3)) (drop (code + 3) s)) e
 
 -- ---- measuring
 -- the k numbers (none or one) that a turn puts behind n of them

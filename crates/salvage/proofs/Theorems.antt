@@ -27,7 +27,8 @@ use Rattle.unit.proofs.Carried.{split-carried}
 use Rattle.unit.proofs.Acceptance.{reads}
 use Rattle.unit.proofs.Theorem.{accepts-carried, obus-carried, tsobu-fine, tsobu-legal, unescape-all}
 use Rattle.unit.proofs.Accepted.{accepted-list, carried-accepted, tsobu-obu}
-use Rattle.salvage.specs.Salvage.{salvageRefusal, passes, keeps, kept, salvaged, closes, markBy, mark}
+use Rattle.refusal.specs.Verdict.{passes}
+use Rattle.salvage.specs.Salvage.{salvageRefusal, keeps, kept, salvaged, closes, markBy, mark}
 use Rattle.salvage.specs.Parts.{form, forms, keptOf}
 use Rattle.salvage.specs.Theorems.{AcceptedWhole, KeptOf, none, keep, drop, KeptInOrder, EndsIn000003, ClosingRemoved, NeverLonger}
 use Rattle.salvage.specs.Theorems.{AcceptedByLaw, KeptAgain}

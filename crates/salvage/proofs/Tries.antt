@@ -14,7 +14,8 @@ use Rattle.refusal.proofs.Verdicts.{refuse, pass-on, refused-leaves}
 use Rattle.unit.specs.Unit.{mostObus, mostCarried, readUnit, carried}
 use Rattle.tsobu.specs.StartCodes.{atStartCode, payloads}
 use Rattle.tsobu.proofs.Places.{before, before-ends, before-rest}
-use Rattle.salvage.specs.Salvage.{passes, kept, salvaged, mark, marks, leading, accepted, figures, salvaging}
+use Rattle.refusal.specs.Verdict.{passes}
+use Rattle.salvage.specs.Salvage.{kept, salvaged, mark, marks, leading, accepted, figures, salvaging}
 use Rattle.salvage.specs.declared.Figures.{Figures}
 use Rattle.salvage.specs.declared.Measured.{Measured}
 use Rattle.salvage.specs.Parts.{Begins, forms, keptOf, MeasuredOf, acceptable, Ready}

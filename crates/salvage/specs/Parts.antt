@@ -12,7 +12,8 @@ use Rattle.obu.specs.Header.{headerOf}
 use Rattle.obu.specs.Order.{numberSaid, kindOfNumber, orderRefusal}
 use Rattle.unit.specs.Unit.{mostObus, mostObuBytes, sum}
 use Rattle.tsobu.specs.StartCodes.{atStartCode, payloads}
-use Rattle.salvage.specs.Salvage.{passes, keeps, closes, mark}
+use Rattle.refusal.specs.Verdict.{passes}
+use Rattle.salvage.specs.Salvage.{keeps, closes, mark}
 use Rattle.salvage.specs.declared.One.{One}
 use Rattle.salvage.specs.declared.Measured.{Measured}
 

@@ -1,12 +1,12 @@
 -- Request 2026-10, "Salvage a damaged unit. After line errors the archive wants the good OBUs back." The words of the
 -- request stand over each definition. Assumes nothing.
 use Prim.Native.Nat.{ℕ}
-use mathlib.Core.Bool.{Bool, true, false, _||_}
+use mathlib.Core.Bool.{Bool, false, _||_}
 use mathlib.Core.List.{List, [], _∷_, map}
 use lib.Dec.{ltb}
 use lib.ListN.{length}
 use Rattle.lists.specs.Lists.{Bytes, pick, those}
-use Rattle.refusal.specs.Verdict.{Verdict, passed, refused, _>>_, NoValue, given}
+use Rattle.refusal.specs.Verdict.{Verdict, passed, refused, _>>_, NoValue, given, passes}
 use Rattle.refusal.specs.Number.{refusedBy}
 use Rattle.emulation.specs.Payload.{unescape, marked3}
 use Rattle.unit.specs.Unit.{mostObus, mostObuBytes, mostCarried, readUnit, carried}
@@ -22,10 +22,6 @@ unfoldable pub salvageRefusal : Bytes → Verdict NoValue
 salvageRefusal payload = do
   tsobuRefusal payload
   given 2 (ltb mostObuBytes (length (unescape payload)))
-
-abbrev pub passes : {A : Type 0} → Verdict A → Bool
-passes (passed a) = true
-passes (refused number place) = false
 
 abbrev pub keeps : Bytes → Bool
 keeps payload = passes (salvageRefusal payload)

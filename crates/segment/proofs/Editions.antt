@@ -1,13 +1,13 @@
 -- The check in the edition of a number: 44, then 20, then the packets of the segment in the known edition. Assumes nothing.
 use Prim.Native.Nat.{ℕ}
 use mathlib.Core.Bool.{Bool, true, false}
-use mathlib.Core.Path.{_≡_, refl, sym, ap, ap₂, _∙_}
+use mathlib.Core.Path.{_≡_, refl, sym, ap, _∙_}
 use mathlib.Core.List.{List}
 use Rattle.lists.specs.Lists.{Bytes, zeros, pick}
 use Rattle.refusal.specs.Verdict.{Verdict, passed, refused, _>>=_, _>>_, given}
 use Rattle.refusal.specs.Number.{refusedBy}
 use Rattle.refusal.specs.declared.Refused.{Refused}
-use Rattle.refusal.proofs.Verdicts.{never, passed-same, refuse, pass-on}
+use Rattle.refusal.proofs.Verdicts.{never, passed-same, refuse, pass-on, same-refusal}
 use Rattle.descriptor.specs.Edition.{Edition, editionOf}
 use Rattle.descriptor.specs.Naming.{namedSays}
 use Rattle.descriptor.specs.declared.edition.Named.{Named}
@@ -48,10 +48,6 @@ known (passed x) false e h = (ap passed (sym (passed-same e x h)), refl)
 known (refused m i) b e h = never (sym h)
 
 -- and one that is
-same-refusal : {A B : Type 0} (m i n j : ℕ) → _≡_ {A = Verdict A} (refused m i) (refused n j)
-    → _≡_ {A = Verdict B} (refused m i) (refused n j)
-same-refusal m i n j h = let a : m ≡ n = cc in let b : i ≡ j = cc in ap₂ refused a b
-
 unknown : (v : Verdict Edition) (b : Bool) (m i : ℕ) → refused m i ≡ (v >>= λ x. given 20 b >> passed x)
     → (k : Edition → Verdict Accepted) → refused m i ≡ (v >>= λ x. given 20 b >> k x)
 unfolding _>>=_ _>>_ given pick

@@ -23,24 +23,18 @@ use Rattle.pes.specs.declared.header.Times.{Times}
 use Rattle.pes.specs.declared.header.Times.the-variants.{Absent, Stamps}
 use Rattle.pes.specs.Pes.{pesPacketLength, lengthByte, headerSize, headerWrong, headerOf, noTimes, timesOf}
 use Rattle.pes.proofs.Headers.{pts-width, dts-width}
-use Rattle.pmt.proofs.Passed.{Octets, octets-drop, octets-take}
 use Rattle.unit.specs.Unit.{mostCarried, readUnit}
+use Rattle.lists.specs.Bytes.{Octets}
+use Rattle.lists.proofs.Parts.{octets-drop, octets-take}
 use Rattle.segment_rules.specs.State.{OpenPes, AccessUnit, Extraction}
 use Rattle.segment_rules.specs.Rules.{Rooms, lengthDiffers, unitOf}
 use Rattle.segment_rules.specs.Check.{Accepted, firstPackets, checkSegment}
 use Rattle.segment_rules.proofs.Moving.{Moved, stays, starting, adding, Closes}
 use Rattle.segment_rules.proofs.Moving.{none-open, one-open, close-passed, Kept, accepted-keeps}
 use Rattle.segment_rules.proofs.Running.{length-packets}
+use Rattle.refusal.proofs.Verdicts.{all-and-one}
 
 -- ---- lists
--- all of two lists, all of a list and one more
-pub all-append : {A : Type 0} (P : A → Type 0) (l m : List A) → All P l → All P m → All P (l ++ m)
-all-append P [] m h k = k
-all-append P (a ∷ l) m h k = (h .0, all-append P l m (h .1) k)
-
-pub all-and-one : {A : Type 0} (P : A → Type 0) (l : List A) (a : A) → All P l → P a → All P (l ++ (a ∷ []))
-all-and-one P l a h p = all-append P l (a ∷ []) h (p, tt)
-
 last-of : (ps : List Bytes) (p : Bytes) → getD (ps ++ (p ∷ [])) (length ps) [] ≡ p
 last-of [] p = refl
 last-of (q ∷ ps) p = last-of ps p

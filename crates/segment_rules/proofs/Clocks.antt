@@ -4,10 +4,13 @@ use mathlib.Core.Bool.{Bool}
 use mathlib.Core.Path.{_≡_, refl, ap, _∙_}
 use mathlib.Core.List.{List}
 use mathlib.Core.Option.{Option, none, some}
+use lib.Dec.{eqb}
 use Rattle.lists.specs.Lists.{Bytes}
+use Rattle.lists.proofs.Picks.{either}
 use Rattle.refusal.specs.Verdict.{passed}
 use Rattle.descriptor.specs.Edition.{Edition}
 use Rattle.packet.specs.declared.header.Clock.the-variants as clock
+use Rattle.packet.specs.Header.{pid, pcr}
 use Rattle.packet.proofs.Counters.{some-not-none}
 use Rattle.segment_rules.specs.State.{FirstPat, FirstPmt, Tables, Kind, Null, Pat, Map, Av1, Listed, Unlisted}
 use Rattle.segment_rules.specs.Rules.{Rooms, countingPcr, lastPcr}
@@ -16,6 +19,12 @@ use Rattle.segment_rules.specs.Rules.{clocked, checked}
 use Rattle.segment_rules.specs.Check.{Progress, run, start}
 use Rattle.segment_rules.proofs.Lasting.{AnyPacket, any-packets, run-lasts}
 use Rattle.segment_rules.proofs.Keeping.{Holds, holds-then, holds-each}
+
+-- a packet without a PCR has none that counts
+pub uncounted : (p : Bytes) (pmt : Option FirstPmt) → pcr p ≡ clock.None → countingPcr pmt p ≡ clock.None
+unfolding countingPcr
+uncounted p none e = refl
+uncounted p (some pmt) e = rw e (either (eqb (pid p) (pmt .says .pcrPid)) clock.None)
 
 abbrev NoneEarly : Tables → Type 0
 NoneEarly t = t .pmt ≡ none → t .pcr ≡ clock.None

@@ -28,14 +28,17 @@ use Rattle.pes.specs.declared.header.Times.the-variants.{Absent, Stamps}
 use Rattle.pes.specs.Pes.{noTimes}
 use Rattle.pmt.specs.Pmt.{MapEntry, MapContent, elementaryPid, entrySize, pidWrong, entry}
 use Rattle.pmt.specs.Pmt.{pids, mostEntries, entriesAfter, entryBytes, readPmt}
-use Rattle.pmt.proofs.Passed.{says, at-most-twelve, Octets, octets-drop, octets-take, entry-octets}
+use Rattle.pmt.proofs.Passed.{says, at-most-twelve, entry-octets}
+use Rattle.lists.specs.Bytes.{Octets}
+use Rattle.lists.proofs.Parts.{octets-drop, octets-take}
 use Rattle.segment_rules.specs.State.{FirstPat, FirstPmt, Tables, AccessUnit, Kind, Null, Pat, Map, Av1, Listed, Unlisted}
 use Rattle.segment_rules.specs.declared.Totals.{Totals}
 use Rattle.segment_rules.specs.Rules as rules
 use Rattle.segment_rules.specs.Rules.{Rooms}
 use Rattle.segment_rules.specs.Check.{Accepted, start, run, rule20, accepted, ending, checkSegment, ptsAndDts}
 use Rattle.segment_rules.specs.Content.{ObuPlace, placeOf, placesFrom, placesIn, placesOf}
-use Rattle.segment_rules.proofs.Accepting.{all-and-one, octets-payload, Timed, units-accepted}
+use Rattle.segment_rules.proofs.Accepting.{octets-payload, Timed, units-accepted}
+use Rattle.refusal.proofs.Verdicts.{all-and-one}
 use Rattle.segment_rules.proofs.Editions.{TimesBy, times-where}
 use Rattle.segment_rules.proofs.Keeping.{Holds, holds-then, holds-each}
 use Rattle.segment_rules.proofs.Lasting.{each-all, run-lasts}
@@ -71,7 +74,7 @@ InOrder unit at end [] = at ≤ end
 InOrder unit at end (o ∷ os) =
     (o .unit ≡ unit) × (at + 3 ≡ o .offset) × (0 < o .size) × (o .obuType ≤ 15) × InOrder unit (o .offset + o .size) end os
 
-length-places : (unit at : ℕ) (ws : List Bytes) → length (placesFrom unit at ws) ≡ length ws
+pub length-places : (unit at : ℕ) (ws : List Bytes) → length (placesFrom unit at ws) ≡ length ws
 unfolding placesFrom
 length-places unit at [] = refl
 length-places unit at (w ∷ ws) = ap suc (length-places unit (at + 3 + length w) ws)
@@ -163,7 +166,7 @@ each-right index (u ∷ units) h =
       each-right (suc index) units (h .1),
     )
 
-count-most : (index : ℕ) (units : List AccessUnit) → PlacesRight index units → length (placesOf index units) ≤ 64 * length units
+pub count-most : (index : ℕ) (units : List AccessUnit) → PlacesRight index units → length (placesOf index units) ≤ 64 * length units
 unfolding placesOf
 count-most index [] h = omega arith
 count-most index (u ∷ units) h =

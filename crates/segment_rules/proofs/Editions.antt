@@ -24,7 +24,7 @@ use Rattle.pes.specs.Pes.{noTimes, timesOf}
 use Rattle.psi.specs.Section.{sectionOf, commonWrong, upToCrc, tableIdExtension}
 use Rattle.pmt.specs.Pmt.{MapEntry, MapContent, pcrPid, pids, descriptors, programInfo, programInfoLength, entries, entryBytes}
 use Rattle.pmt.specs.Pmt.{isRegistration, registrationFirst, registrationLater, isAv1, misplacedRegistration, oneAv1, av1Entry, readPmt}
-use Rattle.pmt.proofs.Passed.{Octets}
+use Rattle.lists.specs.Bytes.{Octets}
 use Rattle.segment_rules.specs.State as state
 use Rattle.segment_rules.specs.State.{FirstPat, FirstPmt, Tables, State, Kind, kindOf, listedAs, isMapPid, withTables, withPmt}
 use Rattle.segment_rules.specs.Rules as rules

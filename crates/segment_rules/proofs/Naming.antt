@@ -51,6 +51,12 @@ checked-named i p t h =
       null = checked-record i nullPid p (t .records) records k ∙ ap (λ (o : Option StreamRecord). recordAfter i nullPid p o) (h .null);
     })
 
+-- a PMT comes after a PAT
+pub pat-before : (pat : Option FirstPat) (pmt : Option FirstPmt) → pat ≡ none → PatFirst pat pmt → pmt ≡ none
+pat-before none none e f = refl
+pat-before none (some pmt) e f = absurd f
+pat-before (some pat) pmt e f = let z : _≡_ {A = ℕ} 0 1 = cc in absurd (omega arith)
+
 module _ (t : Tables) (h : Named t) where
   -- more PIDs are named, of which none is 0x1FFF
   also-named : (new : List ℕ) → All (λ n. eqb n nullPid ≡ false) new → recordOf nullPid (t .records ++ map named new) ≡ none
@@ -67,18 +73,13 @@ module _ (t : Tables) (h : Named t) where
   later-named number first section = holds-then Named _ _ (λ _ _. h)
 
   -- the first PAT names the map PID
-  no-pmt : (pat : Option FirstPat) (pmt : Option FirstPmt) → pat ≡ none → PatFirst pat pmt → pmt ≡ none
-  no-pmt none none e f = refl
-  no-pmt none (some pmt) e f = absurd f
-  no-pmt (some pat) pmt e f = let z : _≡_ {A = ℕ} 0 1 = cc in absurd (omega arith)
-
   pat-named : (pat : Option FirstPat) → t .pat ≡ pat → (section : Bytes) → (i : ℕ) → Holds Named (patSection i pat section t)
   unfolding patSection
   pat-named none e section i =
       holds-each Named _ _
       (λ program r. let first : FirstPat = record { packet = i; section = section; says = program } in
       let m = program .«map_pid» in
-      let nonePmt = no-pmt (t .pat) (t .pmt) e (h .patFirst) in
+      let nonePmt = pat-before (t .pat) (t .pmt) e (h .patFirst) in
       record {
         patFirst = tt;
         pids =

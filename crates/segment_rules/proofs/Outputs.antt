@@ -1,7 +1,7 @@
 -- What the three outputs hold after the check: after a refusal as many zeros as they had elements (`refused-outputs`); after acceptance the
 -- units, their lengths and times in front, and the rest as it was (`accepted-outputs`), since they fit. Assumes nothing.
 use Prim.Native.Nat.{ℕ, _*_, _<_, _≤_}
-use mathlib.Core.Path.{_≡_, refl}
+use mathlib.Core.Path.{_≡_, refl, ap}
 use mathlib.Core.List.{List, [], _∷_, flatten}
 use native.Mathlib.Omega.{arith}
 use lib.ListN.{length, take, drop, getD, length-append, length-drop, length-map, length-replicate, getD-replicate}
@@ -47,15 +47,16 @@ in-front w out h =
       long = omega (arith, length-append w (drop (length w) out), length-drop (length w) out);
     }
 
-two-times : (t : Times) → length (ptsAndDts t) ≡ 2
+pub two-times : (t : Times) → ptsAndDts t ≡ getD (ptsAndDts t) 0 0 ∷ getD (ptsAndDts t) 1 0 ∷ []
 unfolding ptsAndDts
 two-times Absent = refl
 two-times (Stamps pts dts) = refl
 
-count-times : (units : List AccessUnit) → length (timesInTurn units) ≡ 2 * length units
+pub count-times : (units : List AccessUnit) → length (timesInTurn units) ≡ 2 * length units
 unfolding flatten
 count-times [] = omega arith
-count-times (u ∷ units) = omega (arith, length-append (ptsAndDts (u .times)) (timesInTurn units), two-times (u .times), count-times units)
+count-times (u ∷ units) =
+    omega (arith, length-append (ptsAndDts (u .times)) (timesInTurn units), ap length (two-times (u .times)), count-times units)
 
 module _ (edition : Edition) (s : Bytes) (o : Outputs) (a : Accepted) (e : checkSegment edition (roomsOf o) s ≡ passed a) where
   pub accepted-outputs : InFront (carriedUnits (a .units)) (o .bytes) (outputsAfter (passed a) o .bytes)

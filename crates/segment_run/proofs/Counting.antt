@@ -1,6 +1,6 @@
 -- A packet that counts on after the last one of its PID: its counter is right and it is no copy (`checks`), so that it becomes the last
 -- packet in its slot (`kept-so`), and nothing else of the tables changes, since it has no PCR (`counted-so`). Assumes nothing.
-use Prim.Native.Nat.{ℕ, _+_, _*_, _%_, _<_, _≤_}
+use Prim.Native.Nat.{ℕ, _+_, _*_, _%_, _≤_}
 use mathlib.Core.Bool.{Bool, true, false, not, _&&_, _||_, or-true, and-false}
 use mathlib.Core.Path.{_≡_, refl, sym, ap, ap₂, _∙_}
 use mathlib.Core.List.{List}
@@ -8,16 +8,15 @@ use mathlib.Core.Option.{Option, none, some}
 use native.Mathlib.Omega.{arith}
 use borrow.Author.Tests.{eq-eqb}
 use lib.Dec.{eqb, ltb}
-use lib.ListN.{length, getD, set, length-map, List·getD-map}
+use lib.ListN.{length, getD, set, List·getD-map}
 use lib.Seq.{getD-set-same, set-set, set-comm}
 use Rattle.lists.specs.Lists.{Bytes, pick}
 use Rattle.lists.proofs.Tests.{case, clash, apart}
 use Rattle.refusal.specs.Verdict.{Verdict, passed, _>>=_, atPlace}
 use Rattle.refusal.proofs.Verdicts.{pass-on}
 use Rattle.descriptor.specs.Naming.{editionSays}
-use Rattle.packet.specs.Header.{packetAt, pid, pcr, continuityCounter, hasPayload, discontinuityIndicator}
+use Rattle.packet.specs.Header.{packetAt, pid, continuityCounter, hasPayload, discontinuityIndicator}
 use Rattle.packet.specs.declared.header.Clock.{Clock}
-use Rattle.packet.specs.declared.header.Clock.the-variants as clock
 use Rattle.packet.specs.declared.counter.Last.{Last}
 use Rattle.packet.specs.declared.counter.Last.the-variants as last
 use Rattle.packet.specs.declared.streams.Slot.the-variants as slots
@@ -32,12 +31,14 @@ use Rattle.packet.proofs.Keeping.{last-kept, put-kept}
 use Rattle.plain.specs.Runs.{nextCounter, countsOn}
 use Rattle.plain.proofs.Plains.{of-pid, counter-next, with-payload, no-break, no-pcr}
 use Rattle.segment_rules.specs.State as state
-use Rattle.segment_rules.specs.State.{FirstPmt, withTables, withRecords}
-use Rattle.segment_rules.specs.Rules.{onTables, countingPcr, lastPcr, clocked, checked, lastRepeats, isRepeat}
+use Rattle.segment_rules.specs.State.{withTables, withRecords}
+use Rattle.segment_rules.specs.Rules.{onTables, lastPcr, clocked, checked, lastRepeats, isRepeat}
 use Rattle.segment_rules.proofs.ByKind.{counted}
 use Rattle.segment_rules.proofs.Lying.{few-records, valid-checked}
 use Rattle.tables.specs.declared.tables.Tables.{Tables}
 use Rattle.tables.specs.Tables.{Kept}
+use Rattle.segment_rules.proofs.Clocks.{uncounted}
+use Rattle.tables.proofs.Counting.{slot-within}
 
 -- ---- the counter
 -- a packet with payload whose counter is the next one is right
@@ -76,15 +77,12 @@ checks-right i r q p e f g =
 
 -- ---- the record in a slot
 module _ (records : List StreamRecord) (n k : ℕ) (e : lookUp n (pidsOf records) ≡ slots.At k) where
-  slot-there : k < length records
-  slot-there = omega (arith, look-up-at n (pidsOf records) k e .within, length-map records (λ (r : StreamRecord). r .pid))
-
   record-found : recordOf n records ≡ some (getD records k (named 0))
   record-found =
       let f = look-up-at n (pidsOf records) k e in
       let at : (j : ℕ) → getD (pidsOf records) j 0 ≡ getD records j (named 0) .pid = λ j. List·getD-map (λ (r : StreamRecord). r .pid)
       records j (named 0) in
-      record-first n records k slot-there (sym (at k) ∙ f .has) (λ j h z. f .first j h (at j ∙ z))
+      record-first n records k (slot-within n records k e) (sym (at k) ∙ f .has) (λ j h z. f .first j h (at j ∙ z))
 
 -- a PID has its record in this slot, and its last packet had this counter
 pub record Due (records : List StreamRecord) (n slot counter : ℕ) : Type 0 where
@@ -102,7 +100,7 @@ module _ (segment : Bytes) (c : Tables) (numbers : List ℕ) (t : state.Tables) 
   due-kept n slot counter i repeat e seen =
       let r = getD (t .records) slot (named 0) in
       let same : lastOf r ≡ last.Packet counter i repeat =
-      sym (last-kept (t .records) slot (slot-there (t .records) n slot e) few)
+      sym (last-kept (t .records) slot (slot-within n (t .records) slot e) few)
       ∙ ap (λ (l : List ℕ). lastIn l slot) (sym (kept .records)) ∙ seen in
       record { found = e; before = go (r .last) (r .lies) (r .repeat) same }
     where
@@ -161,7 +159,7 @@ module _ (segment : Bytes) (records : List StreamRecord) (n slot counter : ℕ) 
   still = ap (lookUp n) (checked-pids k p records after records-so) ∙ d .found
 
   there : getD after slot (named 0) ≡ new
-  there = getD-set-same records slot new (named 0) (slot-there records n slot (d .found))
+  there = getD-set-same records slot new (named 0) (slot-within n records slot (d .found))
 
   -- the next one is due after it
   pub next-due : Due after n slot (nextCounter counter)
@@ -171,17 +169,6 @@ module _ (segment : Bytes) (records : List StreamRecord) (n slot counter : ℕ) 
   no-repeat =
       ap (λ (m : ℕ). lastRepeats (recordOf m after)) (of-pid n counter p g)
       ∙ ap lastRepeats (record-found after n slot still ∙ ap some there)
-
--- no PCR counts
-none-counts : (m : Option FirstPmt) (p : Bytes) → pcr p ≡ clock.None → countingPcr m p ≡ clock.None
-unfolding countingPcr pick
-none-counts none p e = refl
-none-counts (some m) p e =
-    ap (λ (x : Clock). pick (eqb (pid p) (m .says .pcrPid)) x clock.None) e ∙ either (eqb (pid p) (m .says .pcrPid))
-  where
-    either : (b : Bool) → pick b clock.None clock.None ≡ clock.None
-    either true = refl
-    either false = refl
 
 -- ---- by its rules
 module _ (segment : Bytes) (c : Tables) (numbers : List ℕ) (st : state.State) (kept : Kept segment c numbers (st .tables))
@@ -198,7 +185,7 @@ module _ (segment : Bytes) (c : Tables) (numbers : List ℕ) (st : state.State) 
 
   unclocked : clocked k it (st .tables) ≡ st .tables
   unclocked = ap (λ (x : Clock). state.withPcr (lastPcr (st .tables .pcr) x) (st .tables))
-      (none-counts (st .tables .pmt) it (no-pcr n counter it g))
+      (uncounted it (st .tables .pmt) (no-pcr n counter it g))
 
   checked-so : checked k it (st .tables) ≡ passed tablesAfter
   unfolding checked atPlace _>>=_
@@ -220,5 +207,5 @@ module _ (segment : Bytes) (c : Tables) (numbers : List ℕ) (st : state.State) 
         records =
             ap₂ (λ (l : List ℕ) (m : ℕ). withLast l slot (last.Packet m k false)) (kept .records) (sym (counter-next n counter it g))
             ∙ put-kept (st .tables .records) slot (new segment (st .tables .records) n slot counter d k g)
-            (slot-there (st .tables .records) n slot (d .found)) (few segment c numbers (st .tables) kept) refl;
+            (slot-within n (st .tables .records) slot (d .found)) (few segment c numbers (st .tables) kept) refl;
       }

@@ -2,7 +2,7 @@
 -- segment's content, so that what is put is the segment's sheet. Assumes nothing.
 use Prim.Native.Nat.{ℕ}
 use mathlib.Core.Bool.{Bool, true, false}
-use mathlib.Core.Path.{_≡_, refl, sym, ap, ap₂, _∙_}
+use mathlib.Core.Path.{_≡_, refl, sym, ap, _∙_}
 use mathlib.Core.List.{List, _++_}
 use native.Mathlib.Omega.{arith}
 use lib.Dec.{ltb}
@@ -12,7 +12,7 @@ use Rattle.lists.specs.Lists.{Bytes, over, pick}
 use Rattle.refusal.specs.Verdict.{Verdict, passed, refused, _>>=_, _>>_, given, leaves}
 use Rattle.refusal.specs.Number.{refusedBy}
 use Rattle.refusal.specs.declared.Refused.{Refused}
-use Rattle.refusal.proofs.Verdicts.{never, passed-same, passed-then, go-on}
+use Rattle.refusal.proofs.Verdicts.{never, passed-same, passed-then, go-on, same-refusal}
 use Rattle.descriptor.specs.Edition.{Edition, editionOf}
 use Rattle.pmt.specs.Answer.{mapOf}
 use Rattle.pmt.specs.declared.section.ProgramMap.{ProgramMap}
@@ -30,13 +30,6 @@ use Rattle.segment_sheet.proofs.Handed.{handed-content, handed-out}
 use Rattle.segment_sheet.proofs.Theorems.{in-edition}
 
 -- ---- the check refused
-same-refusal : {A B : Type 0} (n i number place : ℕ) → _≡_ {A = Verdict A} (refused n i) (refused number place)
-    → _≡_ {A = Verdict B} (refused n i) (refused number place)
-same-refusal n i number place e =
-    let h : n ≡ number = cc in
-    let k : i ≡ place = cc in
-    ap₂ refused h k
-
 module _ (r : Refused) where
   refused-by : (v : Verdict Accepted) (f : Accepted → Verdict ℕ) → refusedBy r ≡ summarised v → refusedBy r ≡ (v >>= f)
   unfolding summarised _>>=_

@@ -8,9 +8,8 @@ use lib.ListN.{length, take, drop, length-append}
 use lib.Seq.{length-take-le, take-append-le, take-take, drop-drop, drop-at}
 use Rattle.lists.specs.Lists.{Bytes, placed}
 use Rattle.lists.proofs.Writing.{Part, counted, put-all, done}
-use Rattle.sheet.specs.Sheet.{bigEndian, numbersOf, section}
-use Rattle.sheet.proofs.BigEndian.{bytes-long}
-use Rattle.segment_sheet.specs.Parts.{inBytes}
+use Rattle.sheet.specs.Sheet.{bigEndian, numbersOf, section, inBytes}
+use Rattle.sheet.proofs.BigEndian.{bytes-long, eight-long}
 
 -- ---- putting
 pub record Filling (out₀ : Bytes) (at : ℕ) (w : Bytes) (n : ℕ) (rest out : Bytes) : Type 0 where
@@ -62,11 +61,6 @@ unfolding flatten
 bytes-append [] ys = refl
 bytes-append (x ∷ xs) ys =
     ap (λ (l : Bytes). bigEndian 8 x ++ l) (bytes-append xs ys) ∙ sym (append-assoc (bigEndian 8 x) (inBytes xs) (inBytes ys))
-
--- one number, and one more
-pub one-long : (n : ℕ) → length (bigEndian 8 n) ≡ 8
-unfolding bigEndian
-one-long n = refl
 
 module _ {A : Type 0} (numbers : A → List ℕ) where
   -- the bytes of rows
@@ -134,9 +128,9 @@ pub two-placed : (out out1 out2 : Bytes) (at a b : ℕ) → at + 16 ≤ length o
     → out2 ≡ placed out1 (at + 8) (bigEndian 8 b) → out2 ≡ placed out at (inBytes (a ∷ b ∷ []))
 unfolding flatten
 two-placed out out1 out2 at a b h o1 o2 =
-    then-placed out out1 out2 at (at + 8) (bigEndian 8 a) (bigEndian 8 b) (omega (arith, one-long a, one-long b)) (omega (
+    then-placed out out1 out2 at (at + 8) (bigEndian 8 a) (bigEndian 8 b) (omega (arith, eight-long a, eight-long b)) (omega (
       arith,
-      one-long
+      eight-long
           a,
     )) o1 o2
     ∙ ap (λ (x : Bytes). placed out at (bigEndian 8 a ++ x)) (sym (append-nil (bigEndian 8 b)))

@@ -1,6 +1,6 @@
 -- What the check of an accepted segment hands out, its map, the first packets, the lengths, the times and the bytes of its units, has the
 -- content of the segment (`handed-content`), and is as the code that puts the sheet needs it (`handed-out`). Assumes nothing.
-use Prim.Native.Nat.{ℕ, suc, _+_, _*_, _≤_, _<_}
+use Prim.Native.Nat.{ℕ, suc, _+_, _*_, _<_}
 use mathlib.Core.Path.{_≡_, refl, sym, ap, ap₂, subst, _∙_}
 use mathlib.Core.List.{List, [], _∷_, _++_, map, flatten, append-assoc, map-append}
 use native.Mathlib.Omega.{arith}
@@ -11,8 +11,6 @@ use Rattle.lists.specs.Lists.{Bytes}
 use Rattle.refusal.specs.Verdict.{passed}
 use Rattle.refusal.proofs.Verdicts.{All}
 use Rattle.descriptor.specs.Edition.{Edition}
-use Rattle.pes.specs.declared.header.Times.{Times}
-use Rattle.pes.specs.declared.header.Times.the-variants.{Absent, Stamps}
 use Rattle.pmt.specs.Pmt.{MapEntry}
 use Rattle.pmt.specs.Answer.{listed, noEntry, noEntries, slots, mapOf}
 use Rattle.pmt.specs.declared.entries.Entry.{Entry}
@@ -22,12 +20,14 @@ use Rattle.segment_rules.specs.Rules.{Rooms, carriedUnits}
 use Rattle.segment_rules.specs.Check.{Accepted, checkSegment, lengths, ptsAndDts, timesInTurn, firstPackets}
 use Rattle.segment_rules.specs.Content.{placesIn, placesOf}
 use Rattle.segment_rules.proofs.Accepting.{units-accepted}
-use Rattle.segment_rules.proofs.Contents.{PlacesRight, places-right, streams-few}
+use Rattle.segment_rules.proofs.Contents.{places-right, streams-few, count-most}
 use Rattle.segment_rules.proofs.Fitting.{accepted-fits}
 use Rattle.sheet.specs.declared.rows.StreamRow.{StreamRow}
 use Rattle.sheet.specs.declared.rows.UnitRow.{UnitRow}
 use Rattle.sheet.specs.declared.rows.ObuRow.{ObuRow}
 use Rattle.sheet.specs.Reading.{rows}
+use Rattle.segment_rules.proofs.Outputs.{two-times, count-times}
+use Rattle.segment_rules.proofs.Repeating.{carriedOf}
 use Rattle.segment_sheet.specs.Content.{streamOf, unitOf, obuOf, contentOf}
 use Rattle.segment_sheet.specs.Parts.{streamAt, unitAt, cuts, Readable, CutsRight, obusIn, obusFrom, contentIn, HandedOut}
 
@@ -56,11 +56,6 @@ streams-rows (x ∷ es) entries r i e =
     (streams-rows es entries r (i + 1) (h .1))
 
 -- ---- the units
-pub two-times : (t : Times) → ptsAndDts t ≡ getD (ptsAndDts t) 0 0 ∷ getD (ptsAndDts t) 1 0 ∷ []
-unfolding ptsAndDts
-two-times Absent = refl
-two-times (Stamps pts dts) = refl
-
 units-rows : (units : List AccessUnit) (firsts lens times rf rl rt : List ℕ) (i : ℕ) → drop i firsts ≡ firstPackets units ++ rf
     → drop i lens ≡ lengths units ++ rl → drop (2 * i) times ≡ timesInTurn units ++ rt
     → rows (unitAt firsts lens times) 1 (length units) i ≡ map unitOf units
@@ -80,9 +75,6 @@ units-rows (u ∷ units) firsts lens times rf rl rt i ef el et =
     (units-rows units firsts lens times rf rl rt (i + 1) (f .1) (l .1) (ap (λ (k : ℕ). drop k times) n ∙ t1 .1))
 
 -- ---- the bytes of the units
-abbrev carriedOf : List AccessUnit → List Bytes
-carriedOf units = map (λ u. u .carried) units
-
 module _ (u : AccessUnit) (units : List AccessUnit) (r : Bytes) where
   apart : carriedUnits (u ∷ units) ++ r ≡ u .carried ++ (carriedUnits units ++ r)
   unfolding flatten
@@ -116,13 +108,6 @@ obus-units index (u ∷ units) =
     ap (λ (l : List ObuRow). obusIn index (u .carried) ++ l) (obus-units (suc index) units)
     ∙ sym (map-append obuOf (placesIn index (u .carried)) (placesOf (suc index) units))
 
--- each of the units has at most 64 OBUs
-units-few : (index : ℕ) (units : List AccessUnit) → PlacesRight index units → length (placesOf index units) ≤ 64 * length units
-unfolding placesOf
-units-few index [] h = omega arith
-units-few index (u ∷ units) h =
-    omega (arith, length-append (placesIn index (u .carried)) (placesOf (suc index) units), h .3, units-few (suc index) units (h .4))
-
 -- ---- of an accepted segment
 module _ (edition : Edition) (rooms : Rooms) (s : Bytes) (a : Accepted) (e : checkSegment edition rooms s ≡ passed a) (m : ProgramMap)
     (count : ℕ) (firsts lens times bytes rf rl rt rb : List ℕ) (em : m ≡ mapOf edition (a .map)) (ec : count ≡ length (a .units))
@@ -153,12 +138,6 @@ module _ (edition : Edition) (rooms : Rooms) (s : Bytes) (a : Accepted) (e : che
   pub handed-content : contentIn m count firsts lens times bytes ≡ contentOf a
   handed-content = rw (streams-are, rows-are, obus-are)
 
-  times-long : (units : List AccessUnit) → length (timesInTurn units) ≡ 2 * length units
-  unfolding flatten
-  times-long [] = refl
-  times-long (u ∷ units) =
-      omega (arith, length-append (ptsAndDts (u .times)) (timesInTurn units), ap length (two-times (u .times)), times-long units)
-
   pub handed-out : HandedOut m count firsts lens times bytes
   handed-out =
       let few = streams-few edition rooms s a e in
@@ -175,7 +154,7 @@ module _ (edition : Edition) (rooms : Rooms) (s : Bytes) (a : Accepted) (e : che
           length-map (a .units) (λ u. length (u
               .carried)),
         );
-        times-there = omega (arith, ec, ap length et, length-append (timesInTurn (a .units)) rt, times-long (a .units));
+        times-there = omega (arith, ec, ap length et, length-append (timesInTurn (a .units)) rt, count-times (a .units));
         cut =
             subst (λ (l : List ℕ). CutsRight l bytes) (sym lengths-are)
             (subst (CutsRight (lengths (a .units))) (sym eb)
@@ -185,7 +164,7 @@ module _ (edition : Edition) (rooms : Rooms) (s : Bytes) (a : Accepted) (e : che
               arith,
               ap length obus-are,
               length-map (placesOf 0 (a .units)) obuOf,
-              units-few 0 (a .units) (places-right edition rooms s a e),
+              count-most 0 (a .units) (places-right edition rooms s a e),
               ec,
             );
       }

@@ -7,11 +7,10 @@ use lib.ListN.{length, length-append}
 use Rattle.lists.specs.Lists.{Bytes, placed}
 use Rattle.sheet.specs.declared.rows.StreamRow.{StreamRow}
 use Rattle.sheet.specs.declared.rows.UnitRow.{UnitRow}
-use Rattle.sheet.specs.Sheet.{streamNumbers, unitNumbers}
+use Rattle.sheet.specs.Sheet.{streamNumbers, unitNumbers, inBytes}
 use Rattle.sheet.proofs.BigEndian.{bytes-long as eight-long}
 use Rattle.sheet.specs.Reading.{rows}
 use Rattle.sheet.proofs.RowByRow.{rows-next, rows-none, length-rows}
-use Rattle.segment_sheet.specs.Parts.{inBytes}
 use Rattle.segment_sheet.proofs.Filling.{Filling, filling-start, filling-as, filling-next, filling-room, filling-done, filling-long}
 use Rattle.segment_sheet.proofs.Filling.{rowBytes, row-none, row-next}
 

@@ -17,7 +17,6 @@ use Rattle.unit.specs.Unit.{mostCarried}
 use Rattle.descriptor.specs.Edition.{Edition}
 use Rattle.packet.specs.Header.{packetLength}
 use Rattle.pmt.specs.Pmt.{MapEntry}
-use Rattle.pmt.proofs.Passed.{Octets}
 use Rattle.segment_rules.specs.State.{AccessUnit}
 use Rattle.segment_rules.specs.Rules.{Rooms}
 use Rattle.segment_rules.specs.Check.{Accepted, segmentLengthWrong, rule20, checkSegment, mostPackets, ptsAndDts, firstPackets}
@@ -31,9 +30,11 @@ use Rattle.sheet.specs.Passing.{streamWrong, unitWrong, unitsWrong, atFirst, ob
 use Rattle.sheet.proofs.Pairs.{neither}
 use Rattle.sheet.proofs.Groups.{Stand, Groups, groups-pass}
 use Rattle.sheet.proofs.Conditions.{passes-content}
+use Rattle.segment_rules.proofs.Outputs.{two-times}
+use Rattle.lists.specs.Bytes.{Octets}
 use Rattle.segment_sheet.specs.Content.{streamOf, unitOf, obuOf, contentOf}
 use Rattle.segment_sheet.specs.Parts.{obusIn}
-use Rattle.segment_sheet.proofs.Handed.{cons-same, head-of, two-times}
+use Rattle.segment_sheet.proofs.Handed.{cons-same, head-of}
 
 -- ---- streams
 streams-fine : (es : List MapEntry) → All EntryRight es → any streamWrong (map streamOf es) ≡ false

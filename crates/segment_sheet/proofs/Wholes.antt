@@ -11,12 +11,13 @@ use Rattle.lists.specs.Lists.{Bytes, over, placed}
 use Rattle.refusal.specs.Verdict.{passed, refused}
 use Rattle.refusal.proofs.Verdicts.{refuse, pass-on}
 use Rattle.pmt.specs.declared.section.ProgramMap.{ProgramMap}
-use Rattle.sheet.specs.Sheet.{Content, bigEndian, section, streamNumbers, unitNumbers, obuNumbers, sheetNumbers, sheetOf}
+use Rattle.sheet.specs.Sheet.{Content, bigEndian, section, streamNumbers, unitNumbers, obuNumbers, sheetNumbers, sheetOf, inBytes}
 use Rattle.sheet.proofs.RowByRow.{length-rows}
 use Rattle.sheet.proofs.RoundTrip.{length-of-sheet}
-use Rattle.segment_sheet.specs.Parts.{inBytes, streamAt, unitAt, contentIn, putting}
+use Rattle.segment_sheet.specs.Parts.{streamAt, unitAt, contentIn, putting}
 use Rattle.segment_sheet.proofs.Filling.{filling-start, filling-as, filling-next, filling-done, filling-long}
-use Rattle.segment_sheet.proofs.Filling.{before-placed, bytes-append, one-long, rowBytes, section-is}
+use Rattle.segment_sheet.proofs.Filling.{before-placed, bytes-append, rowBytes, section-is}
+use Rattle.sheet.proofs.BigEndian.{eight-long}
 use Rattle.segment_sheet.proofs.Rowing.{whole-long, stream-size, unit-size}
 use Rattle.segment_sheet.proofs.Walking.{obuBytes}
 
@@ -97,11 +98,11 @@ module _ (m : ProgramMap) (count : ℕ) (firsts lens times : List ℕ) (bytes : 
     sheet-put o1 o2 o3 o4 o5 o6 obus′ p1 p2 p3 p4 p5 same p6 =
         let room = ltb-false (length out) (before-obus + 8 + 32 * total) h in
         let f0 = filling-as (filling-start out 0 (sheetOf content) (omega (arith, sheet-size))) pieces sheet-is in
-        let f1 = filling-next (bigEndian 8 (m .count)) _ f0 8 o1 (omega (arith, one-long (m .count))) p1 in
+        let f1 = filling-next (bigEndian 8 (m .count)) _ f0 8 o1 (omega (arith, eight-long (m .count))) p1 in
         let f2 = filling-next streams _ f1 (8 + 16 * m .count) o2 (omega (arith, streams-long)) p2 in
-        let f3 = filling-next (bigEndian 8 count) _ f2 (8 + 16 * m .count + 8) o3 (omega (arith, one-long count)) p3 in
+        let f3 = filling-next (bigEndian 8 count) _ f2 (8 + 16 * m .count + 8) o3 (omega (arith, eight-long count)) p3 in
         let f4 = filling-next units _ f3 before-obus o4 (omega (arith, units-long)) p4 in
-        let both = before-placed o4 o5 o6 before-obus (before-obus + 8) (bigEndian 8 total) obus (omega (arith, one-long total))
+        let both = before-placed o4 o5 o6 before-obus (before-obus + 8) (bigEndian 8 total) obus (omega (arith, eight-long total))
         (omega (arith, filling-long f4)) p5
         (p6 ∙ ap (λ (k : ℕ). placed o5 before-obus (bigEndian 8 k)) same) in
         filling-done (filling-next (bigEndian 8 total ++ obus) [] f4 _ o6 refl both) refl

@@ -2,7 +2,7 @@
 -- Assumes nothing.
 use Prim.Native.Nat.{ℕ, suc, _+_, _*_, _≤_}
 use mathlib.Core.Path.{_≡_}
-use mathlib.Core.List.{List, [], _∷_, _++_, map, flatten}
+use mathlib.Core.List.{List, [], _∷_, _++_, map}
 use lib.Dec.{ltb}
 use lib.ListN.{length, take, drop, getD}
 use Rattle.lists.specs.Lists.{Bytes}
@@ -15,13 +15,9 @@ use Rattle.segment_rules.specs.Content.{placesIn}
 use Rattle.sheet.specs.declared.rows.StreamRow.{StreamRow}
 use Rattle.sheet.specs.declared.rows.UnitRow.{UnitRow}
 use Rattle.sheet.specs.declared.rows.ObuRow.{ObuRow}
-use Rattle.sheet.specs.Sheet.{Content, bigEndian, numbersOf, obuNumbers, sheetOf}
+use Rattle.sheet.specs.Sheet.{Content, numbersOf, obuNumbers, sheetOf, inBytes}
 use Rattle.sheet.specs.Reading.{rows}
 use Rattle.segment_sheet.specs.Content.{obuOf}
-
--- the bytes of numbers, one behind the other
-abbrev pub inBytes : List ℕ → Bytes
-inBytes ns = flatten (map (bigEndian 8) ns)
 
 -- the stream in a slot of the map
 abbrev pub streamAt : List Entry → ℕ → StreamRow

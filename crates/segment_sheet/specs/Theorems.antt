@@ -1,6 +1,6 @@
 -- What holds of the sheet of an accepted segment, as statements; they are proved in proofs/Theorems.antt. The words of
 -- document 02, request 2026-09, stand over each. Assumes nothing.
-use Prim.Native.Nat.{ℕ, zero, suc, _≤_, _<_}
+use Prim.Native.Nat.{ℕ, zero, suc, _≤_}
 use mathlib.Core.Bool.{false}
 use mathlib.Core.Path.{_≡_}
 use mathlib.Core.Logic.{_↔_}
@@ -9,7 +9,7 @@ use mathlib.Core.List.{List, [], _∷_, map}
 use lib.Dec.{eqb}
 use lib.ListN.{length, take, drop}
 use Rattle.lists.specs.Lists.{Bytes, those}
-use Rattle.lists.specs.Bytes.{byte}
+use Rattle.lists.specs.Bytes.{Octets}
 use Rattle.refusal.specs.Verdict.{passed}
 use Rattle.tsobu.specs.StartCodes.{payloads}
 use Rattle.unit.specs.Unit.{sum}
@@ -21,15 +21,11 @@ use Rattle.sheet.specs.Reading.{wrong, finding}
 use Rattle.sheet.specs.Reading.{contentOf as contentRead}
 use Rattle.segment_sheet.specs.Content.{unitOf, contentOf, sheetBeside}
 
--- a segment of bytes
-abbrev pub OfBytes : Bytes → Type 0
-OfBytes s = (i : ℕ) → byte s i < 256
-
 -- "The reader gives back what was written": the sheet of an accepted segment is read without 45, and the content read
 -- is the segment's
 abbrev pub WrittenIsRead : Type 0
 WrittenIsRead =
-    (n : ℕ) (rooms : Rooms) (s : Bytes) (a : Accepted) → OfBytes s → checkIn n rooms s ≡ passed a
+    (n : ℕ) (rooms : Rooms) (s : Bytes) (a : Accepted) → Octets s → checkIn n rooms s ≡ passed a
     → (wrong (sheetBeside a) ≡ false) × (contentRead (sheetBeside a) ≡ contentOf a)
 
 -- the unit with this number, and its row
@@ -45,7 +41,7 @@ rowOf (some u) = some (unitOf u)
 -- "a unit found by number, from 0, is the one extraction gives, or none exactly from the unit count on"
 abbrev pub FoundIsExtracted : Type 0
 FoundIsExtracted =
-    (n : ℕ) (rooms : Rooms) (s : Bytes) (a : Accepted) → OfBytes s → checkIn n rooms s ≡ passed a → (number : ℕ)
+    (n : ℕ) (rooms : Rooms) (s : Bytes) (a : Accepted) → Octets s → checkIn n rooms s ≡ passed a → (number : ℕ)
     → (finding (sheetBeside a) number ≡ passed (rowOf (numbered (a .units) number)))
     × ((numbered (a .units) number ≡ none) ↔ (length (a .units) ≤ number))
 

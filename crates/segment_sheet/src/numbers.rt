@@ -4,8 +4,7 @@ ghost use mathlib.Core.List.{[], _∷_};
 ghost use Prim.Native.Nat.{_+_, _≤_};
 ghost use lib.ListN.{length};
 ghost use Rattle.lists.specs.Lists.{placed};
-ghost use Rattle.sheet.specs.Sheet.{bigEndian};
-ghost use Rattle.segment_sheet.specs.Parts.{inBytes};
+ghost use Rattle.sheet.specs.Sheet.{bigEndian, inBytes};
 use lists::copy;
 
 // A number from a place on.

@@ -1,13 +1,12 @@
 -- Numbers of eight bytes, and the i-th of a row of them. Assumes nothing.
 use Prim.Native.Nat.{ℕ, zero, suc, _+_, _*_, _/_, _%_, _<_}
 use mathlib.Core.Path.{_≡_, refl, ap, _∙_}
-use mathlib.Core.List.{List, [], _∷_, _++_, map, flatten}
+use mathlib.Core.List.{List, [], _∷_, _++_, flatten}
 use native.Mathlib.Omega.{arith}
 use lib.ListN.{length, take, drop, getD, length-append}
 use lib.Seq.{drop-append-add, take-at}
-use Rattle.lists.specs.Lists.{Bytes}
 use Rattle.refusal.proofs.Verdicts.{All}
-use Rattle.sheet.specs.Sheet.{bigEndian}
+use Rattle.sheet.specs.Sheet.{bigEndian, inBytes}
 use Rattle.sheet.specs.Reading.{valueFrom, number}
 
 -- digits to the base 256, put together again
@@ -32,27 +31,23 @@ eight-back n h =
     (n / 1 % 256) (n / 256 % 256) (n / 65536 % 256) (n / 16777216 % 256) (n / 4294967296 % 256) (n / 1099511627776 % 256)
     (n / 281474976710656 % 256) (n / 72057594037927936 % 256) (omega arith) q2 q3 q4 q5 q6 q7 q8
 
-eight-long : (n : ℕ) → length (bigEndian 8 n) ≡ 8
+pub eight-long : (n : ℕ) → length (bigEndian 8 n) ≡ 8
 unfolding bigEndian
 eight-long n = refl
 
--- the bytes of numbers, one behind the other
-abbrev pub bytesOf : List ℕ → Bytes
-bytesOf ns = flatten (map (bigEndian 8) ns)
-
-pub bytes-long : (ns : List ℕ) → length (bytesOf ns) ≡ 8 * length ns
+pub bytes-long : (ns : List ℕ) → length (inBytes ns) ≡ 8 * length ns
 unfolding flatten
 bytes-long [] = refl
-bytes-long (n ∷ ns) = omega (arith, length-append (bigEndian 8 n) (bytesOf ns), eight-long n, bytes-long ns)
+bytes-long (n ∷ ns) = omega (arith, length-append (bigEndian 8 n) (inBytes ns), eight-long n, bytes-long ns)
 
-bytes-at : (ns : List ℕ) (i : ℕ) → i < length ns → take 8 (drop (8 * i) (bytesOf ns)) ≡ bigEndian 8 (getD ns i 0)
+bytes-at : (ns : List ℕ) (i : ℕ) → i < length ns → take 8 (drop (8 * i) (inBytes ns)) ≡ bigEndian 8 (getD ns i 0)
 unfolding flatten
 bytes-at [] i h = absurd (omega arith)
-bytes-at (n ∷ ns) zero h = take-at (bigEndian 8 n) (bytesOf ns) 8 (eight-long n)
+bytes-at (n ∷ ns) zero h = take-at (bigEndian 8 n) (inBytes ns) 8 (eight-long n)
 bytes-at (n ∷ ns) (suc i) h =
     let e : 8 * suc i ≡ length (bigEndian 8 n) + 8 * i = omega (arith, eight-long n) in
-    ap (λ (k : ℕ). take 8 (drop k (bigEndian 8 n ++ bytesOf ns))) e
-    ∙ ap (take 8) (drop-append-add (bigEndian 8 n) (bytesOf ns) (8 * i))
+    ap (λ (k : ℕ). take 8 (drop k (bigEndian 8 n ++ inBytes ns))) e
+    ∙ ap (take 8) (drop-append-add (bigEndian 8 n) (inBytes ns) (8 * i))
     ∙ bytes-at ns i (omega arith)
 
 -- the number with an index
@@ -64,6 +59,6 @@ small-at [] i a h = absurd (omega arith)
 small-at (n ∷ ns) zero a h = a .0
 small-at (n ∷ ns) (suc i) a h = small-at ns i (a .1) (omega arith)
 
-pub number-at : (ns : List ℕ) (i : ℕ) → Small ns → i < length ns → number (bytesOf ns) i ≡ getD ns i 0
+pub number-at : (ns : List ℕ) (i : ℕ) → Small ns → i < length ns → number (inBytes ns) i ≡ getD ns i 0
 unfolding number
 number-at ns i a h = ap (valueFrom 0) (bytes-at ns i h) ∙ eight-back (getD ns i 0) (small-at ns i a h)

@@ -5,11 +5,10 @@ use mathlib.Core.Bool.{true, false}
 use mathlib.Core.Path.{_≡_, refl}
 use mathlib.Core.List.{List, [], _∷_, _++_, map, flatten}
 use Rattle.lists.specs.Lists.{any, those}
-use Rattle.sheet.specs.Sheet.{Content, bigEndian, sheetNumbers, sheetOf, numbersOf}
+use Rattle.sheet.specs.Sheet.{Content, bigEndian, sheetNumbers, sheetOf, numbersOf, inBytes}
 use Rattle.sheet.specs.Reading.{wrong, lengthWrong, contentOf, contentWrong, rows, number, valueFrom, anyTwo, anyBelow, countPast}
 use Rattle.sheet.specs.Reading.{pidPast, streamTypePast, firstsNotAscending, firstsReach, lengthPast, timePast, obusOf, fewOrMany}
 use Rattle.sheet.specs.Reading.{notInUnitOrder, namesNoUnit, obuTypePast, overlap, empty, notAscending, passesLength}
-use Rattle.sheet.proofs.BigEndian.{bytesOf}
 
 abbrev small : Content
 small =
@@ -75,7 +74,7 @@ accepted =
     ∷ sheetBy stream unit (2 ∷ 0 ∷ 2 ∷ 3 ∷ 2 ∷ 0 ∷ 6 ∷ 5 ∷ 2 ∷ [])  -- payloads that touch
     ∷ []
 
-answers : (map (λ ns. wrong (bytesOf ns)) accepted ++ map (λ ns. wrong (bytesOf ns)) refusals)
+answers : (map (λ ns. wrong (inBytes ns)) accepted ++ map (λ ns. wrong (inBytes ns)) refusals)
     ≡ false ∷ false ∷ false ∷ false ∷ true ∷ true
     ∷ true ∷ true ∷ true ∷ true ∷ true ∷ true ∷ true ∷ true ∷ true ∷ true ∷ true ∷ true ∷ true ∷ true ∷ true ∷ true ∷ true ∷ []
 unfolding wrong lengthWrong contentOf contentWrong rows number valueFrom anyTwo anyBelow countPast

@@ -17,7 +17,7 @@ use Rattle.refusal.proofs.Verdicts.{All, all-so, none-holds, pass-on}
 use Rattle.sheet.specs.declared.rows.StreamRow.{StreamRow}
 use Rattle.sheet.specs.declared.rows.UnitRow.{UnitRow}
 use Rattle.sheet.specs.declared.rows.ObuRow.{ObuRow}
-use Rattle.sheet.specs.Sheet.{Content, streamNumbers, unitNumbers, obuNumbers, numbersOf, section, sheetNumbers, sheetOf}
+use Rattle.sheet.specs.Sheet.{Content, streamNumbers, unitNumbers, obuNumbers, numbersOf, section, sheetNumbers, sheetOf, inBytes}
 use Rattle.sheet.specs.Reading.{number, rows, streamRow, unitRow, obuRow, streamCount, unitSection, unitCount, obuSection, obuCount}
 use Rattle.sheet.specs.Reading.{contentOf, lengthGiven, lengthWrong, contentWrong, wrong, outputsShort, countsOf, reading}
 use Rattle.sheet.specs.Reading.{rowAt, finding}
@@ -30,14 +30,14 @@ use Rattle.sheet.proofs.Ascending as ascending
 use Rattle.sheet.proofs.Payloads.{obus-right}
 use Rattle.sheet.proofs.Payloads as payloads
 use Rattle.sheet.proofs.Conditions.{content-passes}
-use Rattle.sheet.proofs.BigEndian.{bytesOf, bytes-long, Small, number-at}
+use Rattle.sheet.proofs.BigEndian.{bytes-long, Small, number-at}
 
 -- ---- numbers that stand in a sheet from number i on
 pub record Represents (s : Bytes) (i : ℕ) (ns : List ℕ) : Type 0 where
   pub at : (j k : ℕ) → j < length ns → k ≡ i + j → number s k ≡ getD ns j 0
 
-stands-all : (ns : List ℕ) → Small ns → Represents (bytesOf ns) 0 ns
-stands-all ns a = record { at = λ j k h e. let f : k ≡ j = omega arith in ap (number (bytesOf ns)) f ∙ number-at ns j a h }
+stands-all : (ns : List ℕ) → Small ns → Represents (inBytes ns) 0 ns
+stands-all ns a = record { at = λ j k h e. let f : k ≡ j = omega arith in ap (number (inBytes ns)) f ∙ number-at ns j a h }
 
 module _ {s : Bytes} {i : ℕ} where
   stands-left : (xs ys : List ℕ) → Represents s i (xs ++ ys) → Represents s i xs

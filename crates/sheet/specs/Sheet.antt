@@ -43,6 +43,10 @@ unfoldable pub bigEndian : ℕ → ℕ → Bytes
 bigEndian zero n = []
 bigEndian (suc k) n = n / 256 ^ k % 256 ∷ bigEndian k n
 
+-- the bytes of numbers, one behind the other
+abbrev pub inBytes : List ℕ → Bytes
+inBytes ns = flatten (map (bigEndian 8) ns)
+
 -- the sheet of a content
 unfoldable pub sheetOf : Content → Bytes
-sheetOf c = flatten (map (bigEndian 8) (sheetNumbers c))
+sheetOf c = inBytes (sheetNumbers c)

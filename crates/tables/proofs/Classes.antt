@@ -28,6 +28,7 @@ use Rattle.segment_rules.specs.State as state
 use Rattle.segment_rules.specs.State.{FirstPat, FirstPmt, isMapPid, listedAs, kindOf}
 use Rattle.segment_rules.specs.Rules.{countingPcr, lastPcr}
 use Rattle.segment_rules.specs.Named.{namedPids}
+use Rattle.segment_rules.proofs.Naming.{pat-before}
 use Rattle.tables.specs.declared.state.Kind.{Kind}
 use Rattle.tables.specs.declared.state.Kind.the-variants as slot
 use Rattle.tables.specs.declared.state.PatFound.{PatFound}
@@ -37,7 +38,7 @@ use Rattle.tables.specs.declared.state.PmtSeen.the-variants as pmt
 use Rattle.tables.specs.declared.tables.Tables.{Tables}
 use Rattle.tables.specs.Tables.{tablesKept, Kept, kindSays, slotIn}
 use Rattle.tables.proofs.Seeing.{no-pat-yet, pat-yet, no-pmt-yet, pmt-yet, no-pat-pids, no-pmt-pids, all-pids, all-records}
-use Rattle.tables.proofs.Seeing.{pat-before, pmt-says, few-entries}
+use Rattle.tables.proofs.Seeing.{pmt-says, few-entries}
 use Rattle.packet.proofs.Keeping.{listed-kept, look-behind-two}
 
 -- ---- the lookup among the PIDs that are named

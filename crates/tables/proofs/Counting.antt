@@ -81,8 +81,8 @@ slot-there (slot.Av1 i) h = refl
 slot-there (slot.Listed i) h = refl
 slot-there slot.Unlisted h = absurd (omega arith)
 
-within : (n : ℕ) (records : List StreamRecord) (j : ℕ) → lookUp n (pidsOf records) ≡ slots.At j → j < length records
-within n records j e = omega (arith, look-up-at n (pidsOf records) j e .within, length-map records (λ (r : StreamRecord). r .pid))
+pub slot-within : (n : ℕ) (records : List StreamRecord) (j : ℕ) → lookUp n (pidsOf records) ≡ slots.At j → j < length records
+slot-within n records j e = omega (arith, look-up-at n (pidsOf records) j e .within, length-map records (λ (r : StreamRecord). r .pid))
 
 -- a slot beyond the last is not found
 slot-away : (k : Kind) (n : ℕ) (records : List StreamRecord) → length records ≤ mostRecords → lookUp n (pidsOf records) ≡ slotIn k
@@ -90,8 +90,8 @@ slot-away : (k : Kind) (n : ℕ) (records : List StreamRecord) → length record
 slot-away slot.Null n records few e h = e
 slot-away slot.Pat n records few e h = absurd (omega arith)
 slot-away slot.Map n records few e h = absurd (omega arith)
-slot-away (slot.Av1 i) n records few e h = absurd (omega (arith, within n records i e))
-slot-away (slot.Listed i) n records few e h = absurd (omega (arith, within n records i e))
+slot-away (slot.Av1 i) n records few e h = absurd (omega (arith, slot-within n records i e))
+slot-away (slot.Listed i) n records few e h = absurd (omega (arith, slot-within n records i e))
 slot-away slot.Unlisted n records few e h = e
 
 -- ---- the record in it
@@ -150,7 +150,7 @@ module _ (segment : Bytes) (k : Packet) (numbers : List ℕ) (p : Bytes) (record
     s = getD records n (named 0)
 
     there : n < length records
-    there = within (pid p) records n found
+    there = slot-within (pid p) records n found
 
     same-pid : s .pid ≡ pid p
     same-pid = sym (pid-at records n) ∙ look-up-at (pid p) (pidsOf records) n found .has

@@ -14,7 +14,7 @@ use Rattle.pmt.specs.Pmt.{pids}
 use Rattle.pmt.proofs.Passed.{Says, says, at-most-twelve}
 use Rattle.segment_rules.specs.State as state
 use Rattle.segment_rules.specs.State.{FirstPat, FirstPmt}
-use Rattle.segment_rules.specs.Named.{namedPids, PatFirst}
+use Rattle.segment_rules.specs.Named.{namedPids}
 use Rattle.segment_rules.specs.Lying.{sectionIn, PatLies, PmtLies, Valid}
 use Rattle.tables.specs.declared.state.PatFound.{PatFound}
 use Rattle.tables.specs.declared.state.PatSeen.the-variants as pat
@@ -77,12 +77,6 @@ two-pids : (l : List StreamRecord) (x y : ℕ) (more : List ℕ) → pidsOf l �
 two-pids [] x y more e = absurd (omega (arith, ap length e))
 two-pids (a ∷ []) x y more e = absurd (omega (arith, ap length e))
 two-pids (a ∷ b ∷ rest) x y more e = (a, b, rest, refl, cc)
-
--- a PMT comes after a PAT
-pub pat-before : (q : Option FirstPat) (m : Option FirstPmt) → q ≡ none → PatFirst q m → m ≡ none
-pat-before none none e f = refl
-pat-before none (some m) e f = absurd f
-pat-before (some q) m e f = apart (cc)
 
 module _ {edition : Edition} {segment : Bytes} {t : state.Tables} (v : Valid edition segment t) where
   pids-by : (q : Option FirstPat) (m : Option FirstPmt) → t .pat ≡ q → t .pmt ≡ m → pidsOf (t .records) ≡ namedPids q m

@@ -159,6 +159,35 @@ pub place-code : (s : Bytes) (at : ℕ) → Place s at → at < length s → atS
 place-code s at (inl e) h = absurd (omega arith)
 place-code s at (inr c) h = c
 
+-- ---- a place where a tsOBU begins, or the end: where a loop over the tsOBUs stands
+pub record At (s : Bytes) (code : ℕ) : Type 0 where
+  pub place : Place s code
+  pub within : code ≤ length s
+
+pub at-start : (s : Bytes) → Place s 0 → At s 0
+at-start s p = record { place = p; within = omega arith }
+
+module _ {s : Bytes} {code : ℕ} (a : At s code) (h : code < length s) where
+  pub code-here : atStartCode (drop code s) ≡ true
+  code-here = place-code s code (a .place) h
+
+  pub code-room : code + 3 ≤ length s
+  code-room = code-fits s code code-here
+
+  pub next-at : At s (nextCode s code)
+  next-at = record { place = next-place s code code-here; within = next-fits s code code-here }
+
+  pub next-payloads : payloads (drop code s) ≡ payloadAt s code ∷ payloads (drop (nextCode s code) s)
+  next-payloads = payloads-from s code code-here
+
+  -- the payload as it is lent, up to where the next start code was found
+  module _ (end : ℕ) (e : end ≡ nextCode s code) where
+    pub end-room : (code + 3 ≤ end) × (end ≤ length s)
+    end-room = (omega arith, omega (arith, next-fits s code code-here))
+
+    pub lent-is : take (end - (code + 3)) (drop (code + 3) s) ≡ payloadAt s code
+    lent-is = ap (λ (n : ℕ). take (n - (code + 3)) (drop (code + 3) s)) e
+
 -- ---- the OBU index of a place: start codes before it, counted a place at a time
 -- the start codes before `at` among those of s from its place `i` on
 abbrev pub codesBefore : ℕ → ℕ → Bytes → ℕ

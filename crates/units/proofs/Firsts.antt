@@ -21,7 +21,8 @@ use Rattle.units.specs.declared.state.PesSeen.{PesSeen}
 use Rattle.units.specs.declared.state.PesSeen.the-variants as seen
 use Rattle.units.specs.declared.units.Extraction.{Extraction}
 use Rattle.units.specs.Extraction.{openPes, pesOf, firstOf, firstNoted, UnitsRepresent}
-use Rattle.units.proofs.Holding.{length-over, over-one, map-last}
+use Rattle.units.proofs.Holding.{over-one, map-last}
+use Rattle.lists.proofs.Writing.{length-over}
 
 -- ---- as much of a list as there is room for
 length-held : (old w : List ℕ) → length (over (take (length old) w) old) ≡ length old

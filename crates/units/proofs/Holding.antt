@@ -7,15 +7,15 @@ use mathlib.Core.Path.{_≡_, refl, sym, ap, ap₂, subst, _∙_}
 use mathlib.Core.List.{List, [], _∷_, _++_, map, flatten, append-nil, append-assoc}
 use mathlib.Core.Option.{Option, none}
 use native.Mathlib.Omega.{arith}
-use lib.ListN.{length, take, drop, set, getD, length-append, length-drop, length-set}
+use lib.ListN.{length, take, drop, set, getD, length-append, length-set}
 use lib.Seq.{take-append-seam, drop-append-seam, drop-drop, drop-cons, set-append-seam}
 use Rattle.lists.specs.Lists.{Bytes, over, placed}
-use Rattle.pes.specs.declared.header.Times.{Times}
-use Rattle.pes.specs.declared.header.Times.the-variants.{Absent, Stamps}
 use Rattle.segment_rules.specs.State as state
 use Rattle.segment_rules.specs.State.{OpenPes, AccessUnit, withPes, withUnit, noUnits}
 use Rattle.segment_rules.specs.Rules.{openBytes, carriedUnits, carriedSoFar, unitOf}
 use Rattle.segment_rules.specs.Check.{Outputs, outputsOf, roomsOf, lengths, ptsAndDts, timesInTurn, holding}
+use Rattle.segment_rules.proofs.Outputs.{two-times, count-times}
+use Rattle.lists.proofs.Writing.{length-over}
 use Rattle.units.specs.declared.state.PesFound.{PesFound}
 use Rattle.units.specs.declared.state.PesSeen.{PesSeen}
 use Rattle.units.specs.declared.state.PesSeen.the-variants as seen
@@ -24,9 +24,6 @@ use Rattle.units.specs.Extraction.{openPes, pesOf, freshExtraction, unit
 use Rattle.units.specs.Parts.{closedUnits, lensPut, timesPut, lensClosed, timesClosed}
 
 -- ---- what stands over the front of an output
-pub length-over : (w b : List ℕ) → length w ≤ length b → length (over w b) ≡ length b
-length-over w b h = omega (arith, length-append w (drop (length w) b), length-drop (length w) b)
-
 -- more behind it
 over-more : (w v b : List ℕ) → placed (over w b) (length w) v ≡ over (w ++ v) b
 over-more w v b =
@@ -55,16 +52,6 @@ flatten-last f (b ∷ l) a = ap (λ (x : List ℕ). f b ++ x) (flatten-last f l 
 pub map-last : {A : Type 0} (f : A → ℕ) (l : List A) (a : A) → map f (l ++ (a ∷ [])) ≡ map f l ++ (f a ∷ [])
 map-last f [] a = refl
 map-last f (b ∷ l) a = ap (λ (x : List ℕ). f b ∷ x) (map-last f l a)
-
-two-times : (t : Times) → length (ptsAndDts t) ≡ 2
-unfolding ptsAndDts
-two-times Absent = refl
-two-times (Stamps pts dts) = refl
-
-length-times : (l : List AccessUnit) → length (timesInTurn l) ≡ 2 * length l
-unfolding flatten
-length-times [] = refl
-length-times (u ∷ l) = omega (arith, length-append (ptsAndDts (u .times)) (timesInTurn l), two-times (u .times), length-times l)
 
 length-lengths : (l : List AccessUnit) → length (lengths l) ≡ length l
 length-lengths [] = refl
@@ -95,7 +82,7 @@ module _ {before now : Outputs} {e : Extraction} {x : state.Extraction} (s : Uni
   pub same-times : length (now .times) ≡ length (before .times)
   same-times =
       ap (λ (o : Outputs). length (o .times)) (s .outputs)
-      ∙ length-over (timesInTurn (x .units)) (before .times) (omega (arith, length-times (x .units), closed-units, s .fits .inTimes))
+      ∙ length-over (timesInTurn (x .units)) (before .times) (omega (arith, count-times (x .units), closed-units, s .fits .inTimes))
 
   -- the code's places lie within the outputs
   pub stands-fits : Fits e (roomsOf now)
@@ -245,7 +232,7 @@ module _ {before : Outputs} {out lens times : List ℕ} {e : Extraction} {x : st
   put-times : set (set times (2 * e .units) p) (2 * e .units + 1) d ≡ over (timesInTurn (x .units ++ (unit ∷ []))) (before .times)
   put-times =
       let t = timesInTurn (x .units) in
-      let first : 2 * e .units ≡ length t = omega (arith, s .units, length-times (x .units)) in
+      let first : 2 * e .units ≡ length t = omega (arith, s .units, count-times (x .units)) in
       let second : 2 * e .units + 1 ≡ length (t ++ (p ∷ [])) = omega (arith, first, length-append t (p ∷ [])) in
       ap₂ (λ (l : List ℕ) (n : ℕ). set (set l n p) (2 * e .units + 1) d) (ap (λ (q : Outputs). q .times) (s .outputs)) first
       ∙ ap (λ (l : List ℕ). set l (2 * e .units + 1) d) (over-one t (before .times) p (omega (arith, first, begun, s .fits .inTimes)))
@@ -280,11 +267,6 @@ module _ {before : Outputs} {out lens times : List ℕ} {e : Extraction} {x : st
       }
 
 -- the same as the code has it
-two-of : (t : Times) → getD (ptsAndDts t) 0 0 ∷ getD (ptsAndDts t) 1 0 ∷ [] ≡ ptsAndDts t
-unfolding ptsAndDts
-two-of Absent = refl
-two-of (Stamps pts dts) = refl
-
 pub stands-put : {before : Outputs} {out lens times : List ℕ} {e : Extraction} {x : state.Extraction}
     → UnitsRepresent before (outputsOf out lens times) e x → (f : PesFound) → e .pes ≡ seen.Open f
     → UnitsRepresent before (outputsOf out (lensClosed e lens) (timesClosed e times)) (closedUnits e)
@@ -293,7 +275,8 @@ stands-put {before} {out} {lens} {times} {e} {x} s f o =
     subst (λ (p : PesSeen). UnitsRepresent before (outputsOf out (lensPut p (e .units) (e .bytes) lens) (timesPut p (e .units) times))
     (record { pes = seen.Closed; units = unitsBegun p (e .units); start = e .start + e .bytes; bytes = 0 })
     (withUnit (unitOf (openPes f (openBytes (x .pes)))) x)) (sym o)
-    (stands-closed s f o (getD (ptsAndDts (f .header .times)) 0 0) (getD (ptsAndDts (f .header .times)) 1 0) (two-of (f .header .times)))
+    (stands-closed s f o (getD (ptsAndDts (f .header .times)) 0 0) (getD (ptsAndDts (f .header .times)) 1 0)
+    (sym (two-times (f .header .times))))
 
 -- what the code puts in place is that
 module _ (e : Extraction) (f : PesFound) (o : e .pes ≡ seen.Open f) where

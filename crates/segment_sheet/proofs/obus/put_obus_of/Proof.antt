@@ -6,7 +6,8 @@ use mathlib.Core.Path.{refl, ap, _∙_}
 use lib.ListN.{length}
 use Rattle.obu.specs.Header.{typeBits}
 use Rattle.segment_sheet.proofs.Filling.{filling-long}
-use Rattle.segment_sheet.proofs.Walking.{code-room, payload-passes, end-room}
+use Rattle.segment_sheet.proofs.Walking.{payload-passes}
+use Rattle.tsobu.proofs.Places.{code-room, end-room}
 use Rattle.segment_sheet.proofs.Walking.{Putting, putting-start, putting-room, putting-next, putting-done}
 use Rattle.segment_sheet.proofs.obus.put_obus_of.Statement.{statement}
 use Rattle.segment_sheet.proofs.obus.put_obus_of.Tie as tie
@@ -24,13 +25,13 @@ loop-holds c =
     .before .before .pre .1)
 
 add-start : tie.Need-add-start Inv-loop μ-loop
-add-start c = omega (arith, code-room (c .before .loop .inv .here) (c .loop-test .taken))
+add-start c = omega (arith, code-room (c .before .loop .inv .here .at) (c .loop-test .taken))
 
 end-of-requires : tie.Need-end-of-requires Inv-loop μ-loop
 end-of-requires c κs = payload-passes (c .before .loop .inv .here) (c .loop-test .taken)
 
 sub-part : tie.Need-sub-part Inv-loop μ-loop
-sub-part c = end-room (c .before .before .loop .inv .here) (c .before .loop-test .taken) _ (c .end-of .ensures) .0
+sub-part c = end-room (c .before .before .loop .inv .here .at) (c .before .loop-test .taken) _ (c .end-of .ensures) .0
 
 part-requires : tie.Need-part-requires Inv-loop μ-loop
 part-requires c κs = search needs
@@ -55,7 +56,7 @@ loop-less : tie.Need-loop-less Inv-loop μ-loop
 loop-less c =
     let found = c .before .before .before .before .before .before .before in
     let turn = found .before in
-    omega (arith, end-room (turn .before .loop .inv .here) (turn .loop-test .taken) _ (found .end-of .ensures) .0)
+    omega (arith, end-room (turn .before .loop .inv .here .at) (turn .loop-test .taken) _ (found .end-of .ensures) .0)
 
 loop-again : tie.Need-loop-again Inv-loop μ-loop
 loop-again c =
