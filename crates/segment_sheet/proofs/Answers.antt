@@ -59,78 +59,78 @@ sheet-left c sheet = go (ltb (length sheet) (length (sheetOf c)))
 
 module _ (n : ℕ) (s : Bytes) (before : Outputs) (firsts₀ : List ℕ) (long : length firsts₀ ≡ 1024) (x : Summary) (m : ProgramMap)
     (after : Outputs) (firsts : List ℕ) (ex : passed x ≡ checking n (roomsOf before) s) (em : m ≡ mapChecked n (roomsOf before) s)
-    (eo : after ≡ outputsAfter (checkIn n (roomsOf before) s) before) (ef : firsts ≡ firstsAfter (checkIn n (roomsOf before) s) firsts₀)
-  where
-    abbrev rooms : Rooms
-    rooms = roomsOf before
+    (eo : after ≡ outputsAfter (checkIn n (roomsOf before) s) before)
+    (ef : firsts ≡ firstsAfter (checkIn n (roomsOf before) s) firsts₀) where
+  abbrev rooms : Rooms
+  rooms = roomsOf before
 
-    found : (a : Accepted) × (checkIn n rooms s ≡ passed a) × (passed (summaryOf a) ≡ passed x)
-    unfolding summarised
-    found = passed-then (checkIn n rooms s) (λ a. passed (summaryOf a)) x (sym ex)
+  found : (a : Accepted) × (checkIn n rooms s ≡ passed a) × (passed (summaryOf a) ≡ passed x)
+  unfolding summarised
+  found = passed-then (checkIn n rooms s) (λ a. passed (summaryOf a)) x (sym ex)
 
-    abbrev a : Accepted
-    a = found .0
+  abbrev a : Accepted
+  a = found .0
 
-    abbrev units : List AccessUnit
-    units = a .units
+  abbrev units : List AccessUnit
+  units = a .units
 
-    named : (edition : Edition) × (editionOf n ≡ passed edition) × (checkSegment edition rooms s ≡ passed a)
-    named = in-edition n rooms s a (found .1)
+  named : (edition : Edition) × (editionOf n ≡ passed edition) × (checkSegment edition rooms s ≡ passed a)
+  named = in-edition n rooms s a (found .1)
 
-    map-is : m ≡ mapOf (named .0) (a .map)
-    unfolding mapIn mapAfter
-    map-is = em ∙ ap (λ (v : Verdict Edition). mapIn v rooms s) (named .1) ∙ ap (mapAfter (named .0)) (named .2)
+  map-is : m ≡ mapOf (named .0) (a .map)
+  unfolding mapIn mapAfter
+  map-is = em ∙ ap (λ (v : Verdict Edition). mapIn v rooms s) (named .1) ∙ ap (mapAfter (named .0)) (named .2)
 
-    count-is : x .units ≡ length units
-    count-is = ap (λ (y : Summary). y .units) (sym (passed-same (summaryOf a) x (found .2)))
+  count-is : x .units ≡ length units
+  count-is = ap (λ (y : Summary). y .units) (sym (passed-same (summaryOf a) x (found .2)))
 
-    after-is : after ≡ outputsAfter (passed a) before
-    after-is = eo ∙ ap (λ (v : Verdict Accepted). outputsAfter v before) (found .1)
+  after-is : after ≡ outputsAfter (passed a) before
+  after-is = eo ∙ ap (λ (v : Verdict Accepted). outputsAfter v before) (found .1)
 
-    bytes-are : after .bytes ≡ carriedUnits units ++ drop (length (carriedUnits units)) (before .bytes)
-    unfolding outputsAfter
-    bytes-are = ap (λ (o : Outputs). o .bytes) after-is
+  bytes-are : after .bytes ≡ carriedUnits units ++ drop (length (carriedUnits units)) (before .bytes)
+  unfolding outputsAfter
+  bytes-are = ap (λ (o : Outputs). o .bytes) after-is
 
-    lens-are : after .lens ≡ lengths units ++ drop (length (lengths units)) (before .lens)
-    unfolding outputsAfter
-    lens-are = ap (λ (o : Outputs). o .lens) after-is
+  lens-are : after .lens ≡ lengths units ++ drop (length (lengths units)) (before .lens)
+  unfolding outputsAfter
+  lens-are = ap (λ (o : Outputs). o .lens) after-is
 
-    times-are : after .times ≡ timesInTurn units ++ drop (length (timesInTurn units)) (before .times)
-    unfolding outputsAfter
-    times-are = ap (λ (o : Outputs). o .times) after-is
+  times-are : after .times ≡ timesInTurn units ++ drop (length (timesInTurn units)) (before .times)
+  unfolding outputsAfter
+  times-are = ap (λ (o : Outputs). o .times) after-is
 
-    firsts-are : firsts ≡ firstPackets units ++ drop (length (firstPackets units)) firsts₀
-    unfolding firstsAfter
-    firsts-are =
-        let few = accepted-fits (named .0) rooms s a (named .2) .few in
-        ef ∙ ap (λ (v : Verdict Accepted). firstsAfter v firsts₀) (found .1)
-        ∙ ap (λ (w : List ℕ). over w firsts₀)
-        (take-all (length firsts₀) (firstPackets units) (omega (arith, long, few, length-map units (λ u. u .first))))
+  firsts-are : firsts ≡ firstPackets units ++ drop (length (firstPackets units)) firsts₀
+  unfolding firstsAfter
+  firsts-are =
+      let few = accepted-fits (named .0) rooms s a (named .2) .few in
+      ef ∙ ap (λ (v : Verdict Accepted). firstsAfter v firsts₀) (found .1)
+      ∙ ap (λ (w : List ℕ). over w firsts₀)
+      (take-all (length firsts₀) (firstPackets units) (omega (arith, long, few, length-map units (λ u. u .first))))
 
-    abbrev content : Content
-    content = contentIn m (x .units) firsts (after .lens) (after .times) (after .bytes)
+  abbrev content : Content
+  content = contentIn m (x .units) firsts (after .lens) (after .times) (after .bytes)
 
-    pub ready : HandedOut m (x .units) firsts (after .lens) (after .times) (after .bytes)
-    ready =
-        handed-out (named .0) rooms s a (named .2) m (x .units) firsts (after .lens) (after .times) (after .bytes) _ _ _ _ map-is count-is
-        firsts-are
-        lens-are times-are bytes-are
+  pub ready : HandedOut m (x .units) firsts (after .lens) (after .times) (after .bytes)
+  ready =
+      handed-out (named .0) rooms s a (named .2) m (x .units) firsts (after .lens) (after .times) (after .bytes) _ _ _ _ map-is count-is
+      firsts-are
+      lens-are times-are bytes-are
 
-    content-is : content ≡ contentOf a
-    content-is =
-        handed-content (named .0) rooms s a (named .2) m (x .units) firsts (after .lens) (after .times) (after .bytes) _ _ _ _ map-is
-        count-is
-        firsts-are lens-are times-are bytes-are
+  content-is : content ≡ contentOf a
+  content-is =
+      handed-content (named .0) rooms s a (named .2) m (x .units) firsts (after .lens) (after .times) (after .bytes) _ _ _ _ map-is
+      count-is
+      firsts-are lens-are times-are bytes-are
 
-    pub accepted-writes : (v : Verdict ℕ) (room : ℕ) → v ≡ putting content room → v ≡ sheetWriting n rooms s room
-    unfolding sheetWriting putting
-    accepted-writes v room e = go-on a _ (found .1) (e ∙ ap (λ (c : Content). putting c room) content-is)
+  pub accepted-writes : (v : Verdict ℕ) (room : ℕ) → v ≡ putting content room → v ≡ sheetWriting n rooms s room
+  unfolding sheetWriting putting
+  accepted-writes v room e = go-on a _ (found .1) (e ∙ ap (λ (c : Content). putting c room) content-is)
 
-    pub accepted-leaves : (v : Verdict ℕ) (sheet sheet′ : Bytes) → v ≡ putting content (length sheet)
-        → sheet′ ≡ leaves v (sheetOf content) sheet → sheet′ ≡ sheetAfter (checkIn n rooms s) sheet
-    unfolding sheetAfter
-    accepted-leaves v sheet sheet′ e f =
-        f ∙ ap (λ (w : Verdict ℕ). leaves w (sheetOf content) sheet) e
-        ∙ ap (λ (c : Content). leaves (putting c (length sheet)) (sheetOf c) sheet) content-is
-        ∙ sheet-left (contentOf a) sheet
-        ∙ ap (λ (w : Verdict Accepted). sheetAfter w sheet) (sym (found .1))
+  pub accepted-leaves : (v : Verdict ℕ) (sheet sheet′ : Bytes) → v ≡ putting content (length sheet)
+      → sheet′ ≡ leaves v (sheetOf content) sheet → sheet′ ≡ sheetAfter (checkIn n rooms s) sheet
+  unfolding sheetAfter
+  accepted-leaves v sheet sheet′ e f =
+      f ∙ ap (λ (w : Verdict ℕ). leaves w (sheetOf content) sheet) e
+      ∙ ap (λ (c : Content). leaves (putting c (length sheet)) (sheetOf c) sheet) content-is
+      ∙ sheet-left (contentOf a) sheet
+      ∙ ap (λ (w : Verdict Accepted). sheetAfter w sheet) (sym (found .1))

@@ -92,25 +92,25 @@ module _ {before : Outputs} {out lens times : List ℕ} {e : Extraction} {x : st
 
     -- the verdict on its unit
     module _ (judged : Outcome) (bytes : Bytes) (lent : bytes ≡ take (e .bytes) (drop (e .start) out))
-        (says : (y : state.Extraction) → Refines judged (closeOpen (openPes f bytes) y) (λ z. z ≡ withUnit (unitOf (openPes f bytes)) y))
-      where
-        closes : Refines judged (closePes x) (λ z. z ≡ withUnit (unitOf (openPes f (openBytes (x .pes)))) x)
-        unfolding closeIfOpen
-        closes =
-            refines-as (closeOpen (openPes f (openBytes (x .pes))) x) (λ z. z ≡ withUnit (unitOf (openPes f (openBytes (x .pes)))) x)
-            (closePes x) judged
-            (sym (ap (λ (p : Option OpenPes). closeIfOpen p x) is-open))
-            (subst (λ (b : Bytes). Refines judged (closeOpen (openPes f b) x) (λ z. z ≡ withUnit (unitOf (openPes f b)) x))
-            (lent ∙ unit-bytes s) (says x))
+        (says : (y : state.Extraction) → Refines judged (closeOpen (openPes f bytes) y)
+        (λ z. z ≡ withUnit (unitOf (openPes f bytes)) y)) where
+      closes : Refines judged (closePes x) (λ z. z ≡ withUnit (unitOf (openPes f (openBytes (x .pes)))) x)
+      unfolding closeIfOpen
+      closes =
+          refines-as (closeOpen (openPes f (openBytes (x .pes))) x) (λ z. z ≡ withUnit (unitOf (openPes f (openBytes (x .pes)))) x)
+          (closePes x) judged
+          (sym (ap (λ (p : Option OpenPes). closeIfOpen p x) is-open))
+          (subst (λ (b : Bytes). Refines judged (closeOpen (openPes f b) x) (λ z. z ≡ withUnit (unitOf (openPes f b)) x))
+          (lent ∙ unit-bytes s) (says x))
 
-        -- is that on the closing; where it passes, its length and times are in their places
-        pub unit-closes : Refines judged (closePes x)
-            (UnitsRepresent before (outputsOf out (lensClosed e lens) (timesClosed e times)) (closedUnits e))
-        unit-closes =
-            refines-also (closePes x) (λ z. z ≡ withUnit (unitOf (openPes f (openBytes (x .pes)))) x)
-            (UnitsRepresent before (outputsOf out (lensClosed e lens) (timesClosed e times)) (closedUnits e)) judged closes
-            (λ z _ k. subst (UnitsRepresent before (outputsOf out (lensClosed e lens) (timesClosed e times)) (closedUnits e)) (sym k)
-            (stands-put s f o))
+      -- is that on the closing; where it passes, its length and times are in their places
+      pub unit-closes : Refines judged (closePes x)
+          (UnitsRepresent before (outputsOf out (lensClosed e lens) (timesClosed e times)) (closedUnits e))
+      unit-closes =
+          refines-also (closePes x) (λ z. z ≡ withUnit (unitOf (openPes f (openBytes (x .pes)))) x)
+          (UnitsRepresent before (outputsOf out (lensClosed e lens) (timesClosed e times)) (closedUnits e)) judged closes
+          (λ z _ k. subst (UnitsRepresent before (outputsOf out (lensClosed e lens) (timesClosed e times)) (closedUnits e)) (sym k)
+          (stands-put s f o))
 
 -- its verdict; where that passes, the unit's length and times stand in their places
 module _ {e : Extraction} {out : Bytes} (o : Outcome) (says : JudgedRefines e out o) (before : Outputs) (lens times : List ℕ)

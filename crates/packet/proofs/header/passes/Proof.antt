@@ -6,8 +6,9 @@ use borrow.Author.Needs.{needs}
 use borrow.Author.Tests.{eq-eqb, ne-eqb}
 use Rattle.lists.specs.Lists.{Bytes}
 use Rattle.lists.proofs.Tests.{case}
+use Rattle.refusal.specs.Verdict as verdict
 use Rattle.refusal.proofs.Verdicts.{refuse, pass-on}
-use Rattle.packet.specs.Header.{syncLost, transportErrorIndicator, headerWrong, headerOf, accepted, passes}
+use Rattle.packet.specs.Header.{syncLost, transportErrorIndicator, headerWrong, headerOf, passes}
 use Rattle.packet.proofs.Plain.{plain-right}
 use Rattle.packet.proofs.header.passes.Statement.{statement}
 use Rattle.packet.proofs.header.passes.Tie as tie
@@ -26,15 +27,15 @@ module _ (p : Bytes) (s : syncLost p ≡ false) (t : transportErrorIndicator p �
   unfolding headerOf
   by-fields =
       case (headerWrong p)
-      (λ w. ap not w ∙ ap accepted (pass-on 21 s (pass-on 22 t (refuse 23 _ w))))
-      (λ w. ap not w ∙ ap accepted (pass-on 21 s (pass-on 22 t (pass-on 23 w refl))))
+      (λ w. ap not w ∙ ap verdict.passes (pass-on 21 s (pass-on 22 t (refuse 23 _ w))))
+      (λ w. ap not w ∙ ap verdict.passes (pass-on 21 s (pass-on 22 t (pass-on 23 w refl))))
 
 byte-at-requires : tie.Need-byte-at-requires
 byte-at-requires c κs = search needs
 
 returns : tie.Need-returns
 unfolding headerOf
-returns c = ap accepted (refuse 21 _ (ap not (ne-eqb _ _ (λ e. c .if1 .taken (c .before .byte-at .ensures ∙ e)))))
+returns c = ap verdict.passes (refuse 21 _ (ap not (ne-eqb _ _ (λ e. c .if1 .taken (c .before .byte-at .ensures ∙ e)))))
 
 transport-error-indicator-requires : tie.Need-transport-error-indicator-requires
 transport-error-indicator-requires c κs = search needs
@@ -42,7 +43,7 @@ transport-error-indicator-requires c κs = search needs
 returns-2 : tie.Need-returns-2
 unfolding headerOf
 returns-2 c =
-    ap accepted (pass-on 21 (in-sync (c .before .before))
+    ap verdict.passes (pass-on 21 (in-sync (c .before .before))
     (refuse 22 _ (sym (c .before .transport-error-indicator .ensures) ∙ c .if2 .taken)))
 
 byte-at-requires-2 : tie.Need-byte-at-requires-2
@@ -62,7 +63,7 @@ returns-4 c =
     let right = c .before .before in
     let start = right .before .before .before .before .before in
     let plain = ap (λ (n : ℕ). n / 16) (sym (c .before .byte-at2 .ensures)) ∙ c .if3 .left in
-    ap accepted (pass-on 21 (in-sync (right .before .before))
+    ap verdict.passes (pass-on 21 (in-sync (right .before .before))
     (pass-on 22 (no-error right)
     (pass-on 23 (plain-right (start .args .packet .now) plain) refl)))
 
