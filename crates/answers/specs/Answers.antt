@@ -20,46 +20,46 @@ use Rattle.answers.specs.declared.segments.SegmentAnswer.{SegmentAnswer}
 use Rattle.answers.specs.declared.video_descriptor.VideoDescriptor.{VideoDescriptor}
 use Rattle.answers.specs.declared.walk.WalkStep.{WalkStep}
 
-abbrev pub refusalAnswer : ℕ → ℕ → Answer
-refusalAnswer number place = record { number = number; place = place; count = 0; bytes = 0; dropped = 0 }
+abbrev pub refusal_answer : ℕ → ℕ → Answer
+refusal_answer number place = record { number = number; place = place; count = 0; bytes = 0; dropped = 0 }
 
 -- escaping, and writing a unit. count: the bytes written
-abbrev pub countAnswer : Verdict ℕ → Answer
-countAnswer (passed n) = record { number = 0; place = 0; count = n; bytes = 0; dropped = 0 }
-countAnswer (refused number place) = refusalAnswer number place
+abbrev pub count_answer : Verdict ℕ → Answer
+count_answer (passed n) = record { number = 0; place = 0; count = n; bytes = 0; dropped = 0 }
+count_answer (refused number place) = refusal_answer number place
 
 -- count: the bytes written; dropped: the bytes dropped
-abbrev pub unescapeAnswer : Verdict UnescapedCounts → Answer
-unescapeAnswer (passed n) = record { number = 0; place = 0; count = n.written; bytes = 0; dropped = n.dropped }
-unescapeAnswer (refused number place) = refusalAnswer number place
+abbrev pub unescape_answer : Verdict UnescapedCounts → Answer
+unescape_answer (passed n) = record { number = 0; place = 0; count = n.written; bytes = 0; dropped = n.dropped }
+unescape_answer (refused number place) = refusal_answer number place
 
 -- count: the OBUs; bytes: their bytes together; dropped: the bytes dropped in all
-abbrev pub unitAnswer : Verdict UnitCounts → Answer
-unitAnswer (passed n) = record { number = 0; place = 0; count = n.obus; bytes = n.bytes; dropped = n.dropped }
-unitAnswer (refused number place) = refusalAnswer number place
+abbrev pub unit_answer : Verdict UnitCounts → Answer
+unit_answer (passed n) = record { number = 0; place = 0; count = n.obus; bytes = n.bytes; dropped = n.dropped }
+unit_answer (refused number place) = refusal_answer number place
 
 -- ---- the walk
-abbrev pub noPayload : ℕ → ℕ → ℕ → ℕ → WalkStep
-noPayload number place ended at =
+abbrev pub no_payload : ℕ → ℕ → ℕ → ℕ → WalkStep
+no_payload number place ended at =
     record { number = number; place = place; end = ended; start = 0; length = 0; next_at = at }
 
 -- «next_at»: the place of the first step
-abbrev pub startAnswer : Verdict ℕ → WalkStep
-startAnswer (passed at) = noPayload 0 0 0 at
-startAnswer (refused number place) = noPayload number place 0 0
+abbrev pub start_answer : Verdict ℕ → WalkStep
+start_answer (passed at) = no_payload 0 0 0 at
+start_answer (refused number place) = no_payload number place 0 0
 
 -- a payload's start, length and the place of the next step; at the end, and where a step refused, the walk stays at its
 -- place
-abbrev pub stepAnswer : ℕ → Verdict Found → WalkStep
-stepAnswer at (passed (payload p)) =
+abbrev pub step_answer : ℕ → Verdict Found → WalkStep
+step_answer at (passed (payload p)) =
     record { number = 0; place = 0; end = 0; start = p.start; length = p.bytes; next_at = p.next }
-stepAnswer at (passed end) = noPayload 0 0 1 at
-stepAnswer at (refused number place) = noPayload number place 0 at
+step_answer at (passed end) = no_payload 0 0 1 at
+step_answer at (refused number place) = no_payload number place 0 at
 
 -- ---- the video descriptor
 -- the ten fields, in descriptor order
-abbrev pub fieldList : Fields → List ℕ
-fieldList f =
+abbrev pub field_list : Fields → List ℕ
+field_list f =
     f.seq_profile
     ∷ f.seq_level_idx_0
     ∷ f.seq_tier_0
@@ -73,13 +73,13 @@ fieldList f =
     ∷ []
 
 -- the fields; «delay_present» 1 and the delay, or 0 and 0
-abbrev pub videoAnswer : Fields → Delay → VideoDescriptor
-videoAnswer f Absent = record { number = 0; place = 0; field = fieldList f; delay_present = 0; delay = 0 }
-videoAnswer f (Present n) = record { number = 0; place = 0; field = fieldList f; delay_present = 1; delay = n }
+abbrev pub video_answer : Fields → Delay → VideoDescriptor
+video_answer f Absent = record { number = 0; place = 0; field = field_list f; delay_present = 0; delay = 0 }
+video_answer f (Present n) = record { number = 0; place = 0; field = field_list f; delay_present = 1; delay = n }
 
-abbrev pub descriptorAnswer : Verdict Video → VideoDescriptor
-descriptorAnswer (passed v) = videoAnswer v.fields v.delay
-descriptorAnswer (refused number place) =
+abbrev pub descriptor_answer : Verdict Video → VideoDescriptor
+descriptor_answer (passed v) = video_answer v.fields v.delay
+descriptor_answer (refused number place) =
     record {
       number = number;
       place = place;
@@ -89,8 +89,8 @@ descriptorAnswer (refused number place) =
     }
 
 -- what is handed in for writing: the fields in descriptor order
-abbrev pub fieldsFrom : Bytes → Fields
-fieldsFrom field =
+abbrev pub fields_from : Bytes → Fields
+fields_from field =
     record {
       seq_profile = byte field 0;
       seq_level_idx_0 = byte field 1;
@@ -107,13 +107,13 @@ fieldsFrom field =
 -- ---- a segment
 -- 2026-04: "the answer gains the unit of the first header in stream order that disagrees or is cut short .., with its
 -- first differing field in descriptor order, or none", and "43 in place of the field": compared is 1 where there is one
-abbrev pub comparisonAnswer : Option Disagreement → Comparison
-comparisonAnswer none = record { compared = 0; unit = 0; field = 0 }
-comparisonAnswer (some d) = record { compared = 1; unit = d.unit; field = d.field }
+abbrev pub comparison_answer : Option Disagreement → Comparison
+comparison_answer none = record { compared = 0; unit = 0; field = 0 }
+comparison_answer (some d) = record { compared = 1; unit = d.unit; field = d.field }
 
 -- what acceptance gives
-abbrev pub acceptedWith : Comparison → Summary → SegmentAnswer
-acceptedWith c s =
+abbrev pub accepted_with : Comparison → Summary → SegmentAnswer
+accepted_with c s =
     record {
       number = 0;
       place = 0;
@@ -130,12 +130,12 @@ acceptedWith c s =
       field = c.field;
     }
 
-abbrev pub acceptedAnswer : Summary → Option Disagreement → SegmentAnswer
-acceptedAnswer s d = acceptedWith (comparisonAnswer d) s
+abbrev pub accepted_answer : Summary → Option Disagreement → SegmentAnswer
+accepted_answer s d = accepted_with (comparison_answer d) s
 
 -- "A refused segment returns number and place, all else 0"
-abbrev pub refusedAnswer : ℕ → ℕ → SegmentAnswer
-refusedAnswer number place =
+abbrev pub refused_answer : ℕ → ℕ → SegmentAnswer
+refused_answer number place =
     record {
       number = number;
       place = place;
@@ -152,6 +152,6 @@ refusedAnswer number place =
       field = 0;
     }
 
-abbrev pub segmentAnswer : Verdict Summary → Option Disagreement → SegmentAnswer
-segmentAnswer (passed s) d = acceptedAnswer s d
-segmentAnswer (refused number place) d = refusedAnswer number place
+abbrev pub segment_answer : Verdict Summary → Option Disagreement → SegmentAnswer
+segment_answer (passed s) d = accepted_answer s d
+segment_answer (refused number place) d = refused_answer number place

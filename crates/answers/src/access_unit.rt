@@ -1,13 +1,13 @@
 // Reading, checking and writing an access unit.
 ghost use Rattle.std.specs.Prelude.{◌≡◌};
 ghost use Rattle.unit.specs.Answer.{read_says, written_says};
-ghost use Rattle.answers.specs.Answers.{countAnswer, unitAnswer};
+ghost use Rattle.answers.specs.Answers.{count_answer, unit_answer};
 
 use crate::answer::{Answer, counted, refusal};
 use unit::{UnitRead, Written};
 
 pub fn unit_answer(read: UnitRead) -> Answer
-    ensures { result ≡ unitAnswer (read_says read) }
+    ensures { result ≡ unit_answer (read_says read) }
 {
     match read {
         UnitRead::Obus(counts) => Answer {
@@ -22,7 +22,7 @@ pub fn unit_answer(read: UnitRead) -> Answer
 }
 
 pub fn unit_written(written: Written) -> Answer
-    ensures { result ≡ countAnswer (written_says written) }
+    ensures { result ≡ count_answer (written_says written) }
 {
     match written {
         Written::Bytes(n) => counted(n),

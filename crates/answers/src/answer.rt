@@ -2,7 +2,7 @@
 ghost use Rattle.std.specs.Prelude.{◌≡◌};
 ghost use Rattle.refusal.specs.Verdict.{passed};
 ghost use Rattle.refusal.specs.Number.{number_of};
-ghost use Rattle.answers.specs.Answers.{refusalAnswer, countAnswer};
+ghost use Rattle.answers.specs.Answers.{refusal_answer, count_answer};
 
 use refusal::Refused;
 
@@ -25,7 +25,7 @@ pub(crate) fn number_of(r: Refused) -> u64
 }
 
 pub(crate) fn refusal(r: Refused) -> Answer
-    ensures { result ≡ refusalAnswer (number_of r.why) r.place }
+    ensures { result ≡ refusal_answer (number_of r.why) r.place }
 {
     Answer {
         number: number_of(r),
@@ -38,7 +38,7 @@ pub(crate) fn refusal(r: Refused) -> Answer
 
 // So many bytes were written.
 pub(crate) fn counted(n: usize) -> Answer
-    ensures { result ≡ countAnswer (passed n) }
+    ensures { result ≡ count_answer (passed n) }
 {
     Answer {
         number: 0,

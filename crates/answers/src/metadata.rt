@@ -2,7 +2,7 @@
 ghost use Rattle.std.specs.Prelude.{◌≡◌};
 ghost use Rattle.mastering.specs.Figures.{read_says};
 ghost use Rattle.mastering.specs.Steps.{written_says};
-ghost use Rattle.answers.specs.Answers.{countAnswer};
+ghost use Rattle.answers.specs.Answers.{count_answer};
 ghost use Rattle.answers.specs.Metadata.{figure_list, mastering_answer, steps_from};
 
 use crate::answer::{Answer, counted, number_of, refusal};
@@ -71,7 +71,7 @@ pub fn steps_from(value: &[u64; 10]) -> Steps
 }
 
 pub fn mastering_written(written: Written) -> Answer
-    ensures { result ≡ countAnswer (written_says written) }
+    ensures { result ≡ count_answer (written_says written) }
 {
     match written {
         Written::Bytes(n) => counted(n),

@@ -2,14 +2,14 @@
 ghost use Rattle.std.specs.Prelude.{◌≡◌};
 ghost use Rattle.emulation.specs.Answer.{unescaped_says};
 ghost use Rattle.escaping.specs.Answer.{escaped_says};
-ghost use Rattle.answers.specs.Answers.{countAnswer, unescapeAnswer};
+ghost use Rattle.answers.specs.Answers.{count_answer, unescape_answer};
 
 use crate::answer::{Answer, counted, refusal};
 use emulation::Unescaped;
 use escaping::Escaped;
 
 pub fn escape_answer(escaped: Escaped) -> Answer
-    ensures { result ≡ countAnswer (escaped_says escaped) }
+    ensures { result ≡ count_answer (escaped_says escaped) }
 {
     match escaped {
         Escaped::Bytes(n) => counted(n),
@@ -18,7 +18,7 @@ pub fn escape_answer(escaped: Escaped) -> Answer
 }
 
 pub fn unescape_answer(unescaped: Unescaped) -> Answer
-    ensures { result ≡ unescapeAnswer (unescaped_says unescaped) }
+    ensures { result ≡ unescape_answer (unescaped_says unescaped) }
 {
     match unescaped {
         Unescaped::Bytes(counts) => Answer {

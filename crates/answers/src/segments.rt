@@ -3,7 +3,7 @@ ghost use Rattle.std.specs.Prelude.{◌≡◌};
 ghost use Rattle.refusal.specs.Number.{number_of};
 ghost use Rattle.comparison.specs.Comparison.{disagreed_says};
 ghost use Rattle.segment.specs.Answer.{check_says};
-ghost use Rattle.answers.specs.Answers.{comparisonAnswer, acceptedAnswer, refusedAnswer, segmentAnswer};
+ghost use Rattle.answers.specs.Answers.{comparison_answer, accepted_answer, refused_answer, segment_answer};
 
 use crate::answer::number_of;
 use comparison::Disagreed;
@@ -38,7 +38,7 @@ struct Comparison {
 }
 
 fn compared(disagreement: Disagreed) -> Comparison
-    ensures { result ≡ comparisonAnswer (disagreed_says disagreement) }
+    ensures { result ≡ comparison_answer (disagreed_says disagreement) }
 {
     match disagreement {
         Disagreed::None => Comparison {
@@ -55,7 +55,7 @@ fn compared(disagreement: Disagreed) -> Comparison
 }
 
 fn accepted(summary: Summary, disagreement: Disagreed) -> SegmentAnswer
-    ensures { result ≡ acceptedAnswer summary (disagreed_says disagreement) }
+    ensures { result ≡ accepted_answer summary (disagreed_says disagreement) }
 {
     let totals = summary.totals;
     let last = compared(disagreement);
@@ -77,7 +77,7 @@ fn accepted(summary: Summary, disagreement: Disagreed) -> SegmentAnswer
 }
 
 fn segment_refusal(r: Refused) -> SegmentAnswer
-    ensures { result ≡ refusedAnswer (number_of r.why) r.place }
+    ensures { result ≡ refused_answer (number_of r.why) r.place }
 {
     SegmentAnswer {
         number: number_of(r),
@@ -97,7 +97,7 @@ fn segment_refusal(r: Refused) -> SegmentAnswer
 }
 
 fn answer_of(checked: SegmentCheck, disagreement: Disagreed) -> SegmentAnswer
-    ensures { result ≡ segmentAnswer (check_says checked) (disagreed_says disagreement) }
+    ensures { result ≡ segment_answer (check_says checked) (disagreed_says disagreement) }
 {
     match checked {
         SegmentCheck::Accepted(summary) => accepted(summary, disagreement),
@@ -106,7 +106,7 @@ fn answer_of(checked: SegmentCheck, disagreement: Disagreed) -> SegmentAnswer
 }
 
 pub fn segment_answer(answered: Answered) -> SegmentAnswer
-    ensures { result ≡ segmentAnswer (check_says answered.answer) (disagreed_says answered.disagreement) }
+    ensures { result ≡ segment_answer (check_says answered.answer) (disagreed_says answered.disagreement) }
 {
     let checked = answered.answer;
     let disagreement = answered.disagreement;

@@ -1,7 +1,7 @@
 // Reading and writing the AV1 video descriptor.
 ghost use Rattle.std.specs.Prelude.{◌≡◌};
 ghost use Rattle.descriptor.specs.Descriptor.{read_says, written_says};
-ghost use Rattle.answers.specs.Answers.{countAnswer, fieldList, videoAnswer, descriptorAnswer, fieldsFrom};
+ghost use Rattle.answers.specs.Answers.{count_answer, field_list, video_answer, descriptor_answer, fields_from};
 
 use crate::answer::{Answer, counted, number_of, refusal};
 use descriptor::{Delay, Fields, VideoRead, Written};
@@ -19,7 +19,7 @@ pub struct VideoDescriptor {
 
 // The ten fields, in descriptor order.
 fn field_list(fields: Fields) -> [u64; 10]
-    ensures { result ≡ fieldList fields }
+    ensures { result ≡ field_list fields }
 {
     [
         fields.seq_profile as u64,
@@ -36,7 +36,7 @@ fn field_list(fields: Fields) -> [u64; 10]
 }
 
 fn video_answer(fields: Fields, delay: Delay) -> VideoDescriptor
-    ensures { result ≡ videoAnswer fields delay }
+    ensures { result ≡ video_answer fields delay }
 {
     let field = field_list(fields);
     match delay {
@@ -58,7 +58,7 @@ fn video_answer(fields: Fields, delay: Delay) -> VideoDescriptor
 }
 
 pub fn descriptor_answer(read: VideoRead) -> VideoDescriptor
-    ensures { result ≡ descriptorAnswer (read_says read) }
+    ensures { result ≡ descriptor_answer (read_says read) }
 {
     match read {
         VideoRead::Video(video) => {
@@ -78,7 +78,7 @@ pub fn descriptor_answer(read: VideoRead) -> VideoDescriptor
 
 // The fields, from an array of them.
 pub fn fields_from(field: &[u8; 10]) -> Fields
-    ensures { result ≡ fieldsFrom field.now }
+    ensures { result ≡ fields_from field.now }
 {
     Fields {
         seq_profile: field[0],
@@ -95,7 +95,7 @@ pub fn fields_from(field: &[u8; 10]) -> Fields
 }
 
 pub fn descriptor_written(written: Written) -> Answer
-    ensures { result ≡ countAnswer (written_says written) }
+    ensures { result ≡ count_answer (written_says written) }
 {
     match written {
         Written::Bytes(n) => counted(n),

@@ -1,7 +1,7 @@
 // The walk over a carried unit, a step a call.
 ghost use Rattle.std.specs.Prelude.{◌≡◌};
 ghost use Rattle.tsobu.specs.Walk.{started_says, step_says};
-ghost use Rattle.answers.specs.Answers.{noPayload, startAnswer, stepAnswer};
+ghost use Rattle.answers.specs.Answers.{no_payload, start_answer, step_answer};
 
 use crate::answer::number_of;
 use tsobu::{Started, Step};
@@ -20,7 +20,7 @@ pub struct WalkStep {
 }
 
 fn no_payload(number: u64, place: u64, end: u64, next_at: u64) -> WalkStep
-    ensures { result ≡ noPayload number place end next_at }
+    ensures { result ≡ no_payload number place end next_at }
 {
     WalkStep {
         number,
@@ -33,7 +33,7 @@ fn no_payload(number: u64, place: u64, end: u64, next_at: u64) -> WalkStep
 }
 
 pub fn start_answer(started: Started) -> WalkStep
-    ensures { result ≡ startAnswer (started_says started) }
+    ensures { result ≡ start_answer (started_says started) }
 {
     match started {
         Started::At(at) => no_payload(0, 0, 0, at as u64),
@@ -43,7 +43,7 @@ pub fn start_answer(started: Started) -> WalkStep
 
 // The step that was made at this place.
 pub fn step_answer(at: usize, step: Step) -> WalkStep
-    ensures { result ≡ stepAnswer at (step_says step) }
+    ensures { result ≡ step_answer at (step_says step) }
 {
     match step {
         Step::Payload(part) => WalkStep {

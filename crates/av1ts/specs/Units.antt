@@ -8,10 +8,10 @@ use Rattle.unit.specs.declared.reading.Counts.{Counts}
 use Rattle.unit.specs.Unit.{obus_in}
 use Rattle.unit.specs.Answer.{reading, reading_widths}
 use Rattle.salvage.specs.declared.Figures.{Figures}
-use Rattle.salvage.specs.Salvage.{salvaging, salvaged, marks as marksOf}
+use Rattle.salvage.specs.Salvage.{salvaging, salvaged, marks as marks_of}
 use Rattle.answers.specs.declared.answer.Answer.{Answer}
 use Rattle.answers.specs.declared.salvaging.SalvageAnswer.{SalvageAnswer}
-use Rattle.answers.specs.Answers.{unitAnswer}
+use Rattle.answers.specs.Answers.{unit_answer}
 use Rattle.answers.specs.Salvaging.{salvage_answer}
 
 -- the OBUs back to back over the front of out, and their lengths over the front of lengths, where this is the verdict
@@ -26,7 +26,7 @@ read_into unit out lengths = reading unit (length out) (length lengths)
 
 pub record ReadsUnit (unit out : Bytes) (lengths : List ℕ) (r : Answer) (out' : Bytes) (lengths' : List ℕ)
     : Type 0 where
-  pub answers : r ≡ unitAnswer (read_into unit out lengths)
+  pub answers : r ≡ unit_answer (read_into unit out lengths)
   pub outputs : LeavesObus (read_into unit out lengths) unit out lengths out' lengths'
 
 -- and with the widths of their sizes
@@ -35,7 +35,7 @@ read_widths_into unit out lengths widths = reading_widths unit (length out) (len
 
 pub record ReadsWidths (unit out : Bytes) (lengths widths : List ℕ) (r : Answer) (out' : Bytes)
     (lengths' widths' : List ℕ) : Type 0 where
-  pub answers : r ≡ unitAnswer (read_widths_into unit out lengths widths)
+  pub answers : r ≡ unit_answer (read_widths_into unit out lengths widths)
   pub outputs : LeavesObus (read_widths_into unit out lengths widths) unit out lengths out' lengths'
   pub sizes : widths' ≡ leaves (read_widths_into unit out lengths widths) (map size_width (obus_in unit)) widths
 
@@ -46,4 +46,4 @@ salvage_into unit out marks = salvaging unit (length out) (length marks)
 pub record Salvages (unit out marks : Bytes) (r : SalvageAnswer) (out' marks' : Bytes) : Type 0 where
   pub answers : r ≡ salvage_answer (salvage_into unit out marks)
   pub kept : out' ≡ leaves (salvage_into unit out marks) (salvaged unit) out
-  pub of_each : marks' ≡ leaves (salvage_into unit out marks) (marksOf unit) marks
+  pub of_each : marks' ≡ leaves (salvage_into unit out marks) (marks_of unit) marks

@@ -3,7 +3,7 @@ ghost use Rattle.std.specs.Prelude.{◌≡◌, length};
 ghost use Rattle.refusal.specs.Verdict.{leaves};
 ghost use Rattle.unit.specs.Unit.{obus_of, carried, write_unit};
 ghost use Rattle.unit.specs.Answer.{checking};
-ghost use Rattle.answers.specs.Answers.{countAnswer, unitAnswer};
+ghost use Rattle.answers.specs.Answers.{count_answer, unit_answer};
 ghost use Rattle.av1ts.specs.Units.{ReadsUnit, ReadsWidths};
 
 use answers::{Answer, unit_answer};
@@ -11,7 +11,7 @@ use answers::{Answer, unit_answer};
 #[unsafe(no_mangle)]
 pub extern "C" fn av1ts_write_unit(obus: &[u8], lengths: &[usize], out: &mut [u8]) -> Answer
     ensures value { result
-        ≡ countAnswer (write_unit lengths.now obus.now (length out.old)) }
+        ≡ count_answer (write_unit lengths.now obus.now (length out.old)) }
     ensures out_after { out.new
         ≡ leaves (write_unit lengths.now obus.now (length out.old))
         (carried (obus_of lengths.now obus.now)) out.old }
@@ -43,7 +43,7 @@ pub extern "C" fn av1ts_read_unit_widths(
 
 #[unsafe(no_mangle)]
 pub extern "C" fn av1ts_check_unit(unit: &[u8]) -> Answer
-    ensures { result ≡ unitAnswer (checking unit.now) }
+    ensures { result ≡ unit_answer (checking unit.now) }
 {
     unit_answer(unit::check(unit))
 }

@@ -3,13 +3,13 @@ ghost use Rattle.std.specs.Prelude.{◌≡◌, length};
 ghost use Rattle.refusal.specs.Verdict.{leaves};
 ghost use Rattle.emulation.specs.Payload.{escape, unescape};
 ghost use Rattle.emulation.specs.Answer.{escaping, unescaping};
-ghost use Rattle.answers.specs.Answers.{countAnswer, unescapeAnswer};
+ghost use Rattle.answers.specs.Answers.{count_answer, unescape_answer};
 
 use answers::Answer;
 
 #[unsafe(no_mangle)]
 pub extern "C" fn av1ts_escape(obu: &[u8], out: &mut [u8]) -> Answer
-    ensures value { result ≡ countAnswer (escaping obu.now (length out.old)) }
+    ensures value { result ≡ count_answer (escaping obu.now (length out.old)) }
     ensures out_after { out.new
         ≡ leaves (escaping obu.now (length out.old)) (escape obu.now)
         out.old }
@@ -19,7 +19,7 @@ pub extern "C" fn av1ts_escape(obu: &[u8], out: &mut [u8]) -> Answer
 
 #[unsafe(no_mangle)]
 pub extern "C" fn av1ts_unescape(payload: &[u8], out: &mut [u8]) -> Answer
-    ensures value { result ≡ unescapeAnswer (unescaping payload.now (length out.old)) }
+    ensures value { result ≡ unescape_answer (unescaping payload.now (length out.old)) }
     ensures out_after { out.new
         ≡ leaves (unescaping payload.now (length out.old)) (unescape payload.now)
         out.old }

@@ -2,23 +2,23 @@
 ghost use Rattle.std.specs.Prelude.{◌≡◌, length};
 ghost use Rattle.refusal.specs.Verdict.{leaves};
 ghost use Rattle.descriptor.specs.Descriptor.{descriptor_of, reading, writing};
-ghost use Rattle.answers.specs.Answers.{countAnswer, descriptorAnswer, fieldsFrom};
+ghost use Rattle.answers.specs.Answers.{count_answer, descriptor_answer, fields_from};
 
 use answers::{Answer, VideoDescriptor, fields_from};
 
 #[unsafe(no_mangle)]
 pub extern "C" fn av1ts_read_descriptor(bytes: &[u8]) -> VideoDescriptor
-    ensures { result ≡ descriptorAnswer (reading bytes.now) }
+    ensures { result ≡ descriptor_answer (reading bytes.now) }
 {
     answers::descriptor_answer(descriptor::read(bytes))
 }
 
 #[unsafe(no_mangle)]
 pub extern "C" fn av1ts_write_descriptor(field: &[u8; 10], out: &mut [u8]) -> Answer
-    ensures value { result ≡ countAnswer (writing (fieldsFrom field.now) (length out.old)) }
+    ensures value { result ≡ count_answer (writing (fields_from field.now) (length out.old)) }
     ensures out_after { out.new
-        ≡ leaves (writing (fieldsFrom field.now) (length out.old))
-        (descriptor_of (fieldsFrom field.now)) out.old }
+        ≡ leaves (writing (fields_from field.now) (length out.old))
+        (descriptor_of (fields_from field.now)) out.old }
 {
     answers::descriptor_written(descriptor::write(fields_from(field), out))
 }

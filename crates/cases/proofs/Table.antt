@@ -10,7 +10,7 @@ use Rattle.lists.specs.Lists.{Bytes, pick, same, all}
 use Rattle.lists.specs.Bytes.{byte}
 use Rattle.lists.proofs.Tests.{and_both, clash, same_bytes}
 use Rattle.lists.proofs.Tables.{each}
-use Rattle.refusal.specs.Verdict.{Verdict, passed, refused, ◌>>=◌, ◌>>◌, given, at_place, passes as isPassed}
+use Rattle.refusal.specs.Verdict.{Verdict, passed, refused, ◌>>=◌, ◌>>◌, given, at_place, passes as is_passed}
 use Rattle.emulation.specs.Payload.{escape, escape_after, unescape, dropped, legal, forbidden, above3, first_forbidden}
 use Rattle.emulation.specs.Answer.{unescaping}
 use Rattle.emulation.specs.declared.unescaping.Counts.{Counts}
@@ -76,7 +76,7 @@ test : Case → Bool
 test (escapes obu w) = same (escape obu) w
 test (unescapes payload w d) = is_unescaped (length w) d (unescaping payload (length w)) && same (unescape payload) w
 test (describes d video) = is_video video (reading d)
-test (passes obu) = isPassed (obu_refusal obu)
+test (passes obu) = is_passed (obu_refusal obu)
 test (refuses obu number) = is_refused number 0 (obu_refusal obu)
 test (illegal payload place) = is_refused 10 place (unescaping payload (length payload))
 

@@ -20,7 +20,7 @@ use Rattle.emulation.specs.Payload.{unescape}
 use Rattle.emulation.proofs.Steps.{unescaped_first}
 use Rattle.obu.specs.Header.{type_bits, forbidden_bit, extension_missing, fixed_bytes, size_bytes, size_of, header_with, sized_header, header_of}
 use Rattle.obu.specs.declared.header.Header.{Header}
-use Rattle.obu.specs.Order.{Kind, temporalDelimiter, frameHeader, is, head_kind, tile_kind, last_kind, kind_of_number, kind_number, number_said}
+use Rattle.obu.specs.Order.{Kind, temporal_delimiter, frame_header, is, head_kind, tile_kind, last_kind, kind_of_number, kind_number, number_said}
 use Rattle.obu.specs.Order.{kind_of, after_frame, in_tiles, at_frame, before_frame, order_refusal}
 use Rattle.obu.proofs.Steps.{tiles_on, tiles_stop, one_frame_lem, one_header, no_frame, head_on, head_stop, delimited, not_delimited}
 use Rattle.tsobu.specs.StartCodes.{start_code3, at_start_code, Split, split, payloads}
@@ -77,8 +77,8 @@ unfoldable fine : ℕ → Bool
 fine n =
     let k = kind_of_number n in
     not (head_kind k && frame_number n)
-    && (not (is k temporalDelimiter && frame_number n)
-    && ((frame_number n || not (last_kind k || is k frameHeader))
+    && (not (is k temporal_delimiter && frame_number n)
+    && ((frame_number n || not (last_kind k || is k frame_header))
     && (not (tile_kind k && eqb n 1) && not (frame_number n && eqb n 1))))
 
 all_fine : all_below fine 17 ≡ true
@@ -120,8 +120,8 @@ module _ (t : ℕ) (small : t < 16) where
 -- an OBU that has a header
 pub record Fine (obu : Bytes) : Type 0 where
   head : head_kind (kind_of obu) ≡ true → is_frame obu ≡ false
-  delimiter : is (kind_of obu) temporalDelimiter ≡ true → is_frame obu ≡ false
-  begins : (last_kind (kind_of obu) || is (kind_of obu) frameHeader) ≡ true → is_frame obu ≡ true
+  delimiter : is (kind_of obu) temporal_delimiter ≡ true → is_frame obu ≡ false
+  begins : (last_kind (kind_of obu) || is (kind_of obu) frame_header) ≡ true → is_frame obu ≡ true
   tile : tile_kind (kind_of obu) ≡ true → sequence_content (header_of obu) obu ≡ []
   none_in_frame : is_frame obu ≡ true → sequence_content (header_of obu) obu ≡ []
 
@@ -168,11 +168,11 @@ module _ (obu : Bytes) (h : Header) (e : header_of obu ≡ passed h) where
       record {
         head = λ x. frame_is ∙ not_both (head_kind k) (frame_number n) a.0 (ap head_kind (sym kind_is) ∙ x);
         delimiter = λ x.
-            frame_is ∙ not_both (is k temporalDelimiter) (frame_number n) b.0
-            (ap (λ (y : Kind). is y temporalDelimiter) (sym kind_is) ∙ x);
+            frame_is ∙ not_both (is k temporal_delimiter) (frame_number n) b.0
+            (ap (λ (y : Kind). is y temporal_delimiter) (sym kind_is) ∙ x);
         begins = λ x.
-            frame_is ∙ asks (last_kind k || is k frameHeader) (frame_number n) c.0
-            (ap (λ (y : Kind). last_kind y || is y frameHeader) (sym kind_is) ∙ x);
+            frame_is ∙ asks (last_kind k || is k frame_header) (frame_number n) c.0
+            (ap (λ (y : Kind). last_kind y || is y frame_header) (sym kind_is) ∙ x);
         tile = λ x. no_content (not_both (tile_kind k) (eqb n 1) d.0 (ap tile_kind (sym kind_is) ∙ x));
         none_in_frame = λ x. no_content (not_both (frame_number n) (eqb n 1) d.1 (sym frame_is ∙ x));
       }
@@ -211,7 +211,7 @@ frame_last i (o ∷ obus) f e =
     let ks = map kind_of obus in
     case (last_kind k)
     (λ t. stop o obus f.0 (f.0.begins (rw t refl)) (after_none (suc i) obus (sym (one_frame_lem i k ks t) ∙ e)))
-    (λ t. case (is k frameHeader)
+    (λ t. case (is k frame_header)
     (λ u. stop o obus f.0 (f.0.begins (rw (t, u) refl)) (tiles_none (suc i) false obus f.1 (sym (one_header i k ks t u) ∙ e)))
     (λ u. never (sym (no_frame i k ks t u) ∙ e)))
 
@@ -233,7 +233,7 @@ order_first [] f e = head_first 0 [] f e
 order_first (o ∷ obus) f e =
     let k = kind_of o in
     let ks = map kind_of obus in
-    case (is k temporalDelimiter)
+    case (is k temporal_delimiter)
     (λ t. go_on o obus f.0 (f.0.delimiter t) (head_first 1 obus f.1 (sym (delimited k ks t) ∙ e)))
     (λ t. head_first 0 (o ∷ obus) f (sym (not_delimited k ks t) ∙ e))
 

@@ -17,62 +17,62 @@ use Rattle.emulation.specs.declared.unescaping.Judged.{Judged}
 use Rattle.emulation.specs.declared.unescaping.Judged.TheVariants as judged
 use Rattle.emulation.proofs.Steps.{given_or_dropped}
 
-pub judging-legal : (p : Bytes) → legal p ≡ true → judging p ≡ passed (dropped p)
+pub judging_legal : (p : Bytes) → legal p ≡ true → judging p ≡ passed (dropped p)
 unfolding judging
-judging-legal p e = sym (pass_at (first_forbidden p) 10 (ap not e) refl)
+judging_legal p e = sym (pass_at (first_forbidden p) 10 (ap not e) refl)
 
-pub judging-illegal : (p : Bytes) → legal p ≡ false → judging p ≡ refused 10 (first_forbidden p)
+pub judging_illegal : (p : Bytes) → legal p ≡ false → judging p ≡ refused 10 (first_forbidden p)
 unfolding judging
-judging-illegal p e = sym (refuse_at (first_forbidden p) 10 (passed (dropped p)) (ap not e))
+judging_illegal p e = sym (refuse_at (first_forbidden p) 10 (passed (dropped p)) (ap not e))
 
-pub legal-judged : (p : Bytes) (d : ℕ) → passed d ≡ judging p → (legal p ≡ true) × (d ≡ dropped p)
-legal-judged p d e =
+pub legal_judged : (p : Bytes) (d : ℕ) → passed d ≡ judging p → (legal p ≡ true) × (d ≡ dropped p)
+legal_judged p d e =
     case (legal p)
-    (λ t. (t, passed_same d (dropped p) (e ∙ judging-legal p t)))
-    (λ t. never (sym (e ∙ judging-illegal p t)))
+    (λ t. (t, passed_same d (dropped p) (e ∙ judging_legal p t)))
+    (λ t. never (sym (e ∙ judging_illegal p t)))
 
-pub illegal-judged : (p : Bytes) (number place : ℕ) → refused number place ≡ judging p
+pub illegal_judged : (p : Bytes) (number place : ℕ) → refused number place ≡ judging p
     → (legal p ≡ false) × (number ≡ 10) × (place ≡ first_forbidden p)
-illegal-judged p number place e =
+illegal_judged p number place e =
     case (legal p)
-    (λ t. never (e ∙ judging-legal p t))
-    (λ t. let h = e ∙ judging-illegal p t in (t, (cc), (cc)))
+    (λ t. never (e ∙ judging_legal p t))
+    (λ t. let h = e ∙ judging_illegal p t in (t, (cc), (cc)))
 
 -- ---- unescaping, behind the judge's verdict
-pub unescaping-illegal : (p : Bytes) (room : ℕ) (q : Judged) (r : Refused) → length p ≤ most_unescaped → judged_says q ≡ judging p
+pub unescaping_illegal : (p : Bytes) (room : ℕ) (q : Judged) (r : Refused) → length p ≤ most_unescaped → judged_says q ≡ judging p
     → q ≡ judged.Illegal r
     → refused_by r ≡ unescaping p room
 unfolding unescaping
-unescaping-illegal p room q r h e k =
-    let j = illegal-judged p (number_of r.why) r.place (sym (ap judged_says k) ∙ e) in
+unescaping_illegal p room q r h e k =
+    let j = illegal_judged p (number_of r.why) r.place (sym (ap judged_says k) ∙ e) in
     pass_on 2 (le-ltb most_unescaped (length p) h)
     (ap₂ (λ (n i : ℕ). refused n i) j.1 j.2 ∙ refuse_at (first_forbidden p) 10 _ (ap not j.0))
 
-pub judged-legal : (p : Bytes) (q : Judged) (d : ℕ) → judged_says q ≡ judging p → q ≡ judged.Legal d → (legal p ≡ true) × (d ≡ dropped p)
-judged-legal p q d e k = legal-judged p d (sym (ap judged_says k) ∙ e)
+pub judged_legal : (p : Bytes) (q : Judged) (d : ℕ) → judged_says q ≡ judging p → q ≡ judged.Legal d → (legal p ≡ true) × (d ≡ dropped p)
+judged_legal p q d e k = legal_judged p d (sym (ap judged_says k) ∙ e)
 
-pub judged-illegal : (p : Bytes) (q : Judged) (r : Refused) → judged_says q ≡ judging p → q ≡ judged.Illegal r → legal p ≡ false
-judged-illegal p q r e k = (illegal-judged p (number_of r.why) r.place (sym (ap judged_says k) ∙ e)).0
+pub judged_illegal : (p : Bytes) (q : Judged) (r : Refused) → judged_says q ≡ judging p → q ≡ judged.Illegal r → legal p ≡ false
+judged_illegal p q r e k = (illegal_judged p (number_of r.why) r.place (sym (ap judged_says k) ∙ e)).0
 
 -- the length of what a legal payload unescapes to
 pub left_after : (p : Bytes) (q : Judged) (d : ℕ) → judged_says q ≡ judging p → q ≡ judged.Legal d
     → (d ≤ length p) × (length p - d ≡ length (unescape p))
 left_after p q d e k =
-    let j = judged-legal p q d e k in
+    let j = judged_legal p q d e k in
     (omega (arith, j.1, given_or_dropped p), omega (arith, j.1, given_or_dropped p))
 
-pub unescaping-short : (p : Bytes) (room : ℕ) → length p ≤ most_unescaped → legal p ≡ true → room < length (unescape p)
+pub unescaping_short : (p : Bytes) (room : ℕ) → length p ≤ most_unescaped → legal p ≡ true → room < length (unescape p)
     → refused 8 0 ≡ unescaping p room
 unfolding unescaping
-unescaping-short p room h l k =
+unescaping_short p room h l k =
     pass_on 2 (le-ltb most_unescaped (length p) h)
     (pass_at (first_forbidden p) 10 (ap not l) (refuse 8 _ (lt-ltb room (length (unescape p)) k)))
 
-pub unescaping-fits : (p : Bytes) (room n d : ℕ) → length p ≤ most_unescaped → legal p ≡ true → length (unescape p) ≤ room
+pub unescaping_fits : (p : Bytes) (room n d : ℕ) → length p ≤ most_unescaped → legal p ≡ true → length (unescape p) ≤ room
     → n ≡ length (unescape p) → d ≡ dropped p
     → passed (record { written = n; dropped = d }) ≡ unescaping p room
 unfolding unescaping
-unescaping-fits p room n d h l k e f =
+unescaping_fits p room n d h l k e f =
     pass_on 2 (le-ltb most_unescaped (length p) h)
     (pass_at (first_forbidden p) 10 (ap not l)
     (pass_on 8 (le-ltb room (length (unescape p)) k) (ap₂ (λ (x y : ℕ). passed (record { written = x; dropped = y })) e f)))

@@ -11,7 +11,7 @@ use lib.ListN.{length, take}
 use Rattle.lists.specs.Lists.{all, any}
 use Rattle.lists.proofs.Tests.{case, all_both}
 use Rattle.refusal.specs.Verdict.{Verdict, passed, refused, NoValue}
-use Rattle.obu.specs.Order.{Kind, temporalDelimiter, frameHeader, shownAgain, tileGroup, frame, is, head_kind, tile_kind, last_kind}
+use Rattle.obu.specs.Order.{Kind, temporal_delimiter, frame_header, shown_again, tile_group, frame, is, head_kind, tile_kind, last_kind}
 use Rattle.obu.specs.Order.{WholeFrame, one_frame, one_shown_again, header_and_tiles, OrderLegal}
 use Rattle.obu.specs.Order.{after_frame, in_tiles, at_frame, before_frame, order_refusal, BrokenAt, OrderMeans}
 use Rattle.refusal.proofs.Verdicts.{never}
@@ -105,7 +105,7 @@ open_after i = ([], refl)
 
 open_tiles : (ended : Bool) → Open (λ i. in_tiles i ended)
 unfolding in_tiles any
-open_tiles ended i = (tileGroup ∷ [], refl)
+open_tiles ended i = (tile_group ∷ [], refl)
 
 open_before : Open before_frame
 unfolding before_frame at_frame after_frame any
@@ -120,10 +120,10 @@ says_tiles : (i : ℕ) (ended : Bool) (l : List Kind) → Says (λ j. in_tiles j
 says_tiles i true [] = says_pass (λ j. in_tiles j true) i [] (unfold in_tiles in refl)
 says_tiles i false [] = says_end (λ j. in_tiles j false) i (unfold in_tiles in refl)
 says_tiles i ended (k ∷ s) =
-    let more = says_tiles (suc i) (is k tileGroup) s in
+    let more = says_tiles (suc i) (is k tile_group) s in
     case (tile_kind k)
-    (λ e. says_later (λ j. in_tiles j ended) (λ j. in_tiles j (is k tileGroup)) i k s (λ t. tiles_on i k t ended e)
-    (open_tiles (is k tileGroup)) more)
+    (λ e. says_later (λ j. in_tiles j ended) (λ j. in_tiles j (is k tile_group)) i k s (λ t. tiles_on i k t ended e)
+    (open_tiles (is k tile_group)) more)
     (λ e. says_head (λ j. in_tiles j ended) i k s (λ t. tiles_stop i k t ended e))
 
 says_frame : (i : ℕ) (l : List Kind) → Says at_frame i l (at_frame i l)
@@ -131,7 +131,7 @@ says_frame i [] = says_end at_frame i (unfold at_frame in refl)
 says_frame i (k ∷ s) =
     case (last_kind k)
     (λ e. says_later at_frame after_frame i k s (λ t. one_frame_lem i k t e) open_after (says_after (suc i) s))
-    (λ e. case (is k frameHeader)
+    (λ e. case (is k frame_header)
     (λ h. says_later at_frame (λ j. in_tiles j false) i k s (λ t. one_header i k t e h) (open_tiles false) (says_tiles (suc i) false s))
     (λ h. says_head at_frame i k s (λ t. no_frame i k t e h)))
 
@@ -149,7 +149,7 @@ order i l = order_refusal l
 says_order : (l : List Kind) → Says order 0 l (order_refusal l)
 says_order [] = says_end order 0 (unfold order_refusal before_frame at_frame in refl)
 says_order (k ∷ s) =
-    case (is k temporalDelimiter)
+    case (is k temporal_delimiter)
     (λ e. says_later order before_frame 0 k s (λ t. delimited k t e) open_before (says_before 1 s))
     (λ e. says_alike order before_frame 0 k s (λ t. not_delimited k t e) (says_before 0 (k ∷ s)))
 
@@ -164,27 +164,27 @@ after_legal i (k ∷ s) e = never e
 
 -- any of 4, 7, 15, ending in a 4; or nothing more, where a 4 came before
 abbrev Tiles : Bool → List Kind → Type 0
-Tiles ended l = ((ended ≡ true) × (l ≡ [])) ⊎ ((tiles : List Kind) × (all tile_kind tiles ≡ true) × (l ≡ tiles ++ (tileGroup ∷ [])))
+Tiles ended l = ((ended ≡ true) × (l ≡ [])) ⊎ ((tiles : List Kind) × (all tile_kind tiles ≡ true) × (l ≡ tiles ++ (tile_group ∷ [])))
 
-one_tile : (ended : Bool) (k : Kind) (s : List Kind) → tile_kind k ≡ true → Tiles (is k tileGroup) s → Tiles ended (k ∷ s)
+one_tile : (ended : Bool) (k : Kind) (s : List Kind) → tile_kind k ≡ true → Tiles (is k tile_group) s → Tiles ended (k ∷ s)
 unfolding all
-one_tile ended k s e (inl h) = inr ([], refl, cons (same_kind k tileGroup h.0) h.1)
+one_tile ended k s e (inl h) = inr ([], refl, cons (same_kind k tile_group h.0) h.1)
 one_tile ended k s e (inr h) = inr (k ∷ h.0, rw e h.1, cons refl h.2)
 
 tiles_legal : (i : ℕ) (ended : Bool) (l : List Kind) → in_tiles i ended l ≡ passed tt → Tiles ended l
 tiles_legal i true [] e = inl (refl, refl)
 tiles_legal i false [] e = unfold in_tiles in never e
 tiles_legal i ended (k ∷ s) e =
-    let more = tiles_legal (suc i) (is k tileGroup) s in
+    let more = tiles_legal (suc i) (is k tile_group) s in
     case (tile_kind k)
     (λ h. one_tile ended k s h (more (sym (tiles_on i k s ended h) ∙ e)))
     (λ h. never (sym (tiles_stop i k s ended h) ∙ e))
 
-with_tiles : (k : Kind) (s : List Kind) → is k frameHeader ≡ true → Tiles false s → WholeFrame (k ∷ s)
+with_tiles : (k : Kind) (s : List Kind) → is k frame_header ≡ true → Tiles false s → WholeFrame (k ∷ s)
 with_tiles k s e (inl h) = absurd (true≢false (sym h.0))
-with_tiles k s e (inr h) = header_and_tiles h.0 h.1 (cons (same_kind k frameHeader e) h.2)
+with_tiles k s e (inr h) = header_and_tiles h.0 h.1 (cons (same_kind k frame_header e) h.2)
 
-the_last : (k : Kind) (s : List Kind) → s ≡ [] → (k ≡ frame) ⊎ (k ≡ shownAgain) → WholeFrame (k ∷ s)
+the_last : (k : Kind) (s : List Kind) → s ≡ [] → (k ≡ frame) ⊎ (k ≡ shown_again) → WholeFrame (k ∷ s)
 the_last k s e (inl h) = one_frame (cons h e)
 the_last k s e (inr h) = one_shown_again (cons h e)
 
@@ -192,8 +192,8 @@ frame_legal : (i : ℕ) (l : List Kind) → at_frame i l ≡ passed tt → Whole
 frame_legal i [] e = unfold at_frame in never e
 frame_legal i (k ∷ s) e =
     case (last_kind k)
-    (λ h. the_last k s (after_legal (suc i) s (sym (one_frame_lem i k s h) ∙ e)) (one_of_two k frame shownAgain h))
-    (λ h. case (is k frameHeader)
+    (λ h. the_last k s (after_legal (suc i) s (sym (one_frame_lem i k s h) ∙ e)) (one_of_two k frame shown_again h))
+    (λ h. case (is k frame_header)
     (λ j. with_tiles k s j (tiles_legal (suc i) false s (sym (one_header i k s h j) ∙ e)))
     (λ j. never (sym (no_frame i k s h j) ∙ e)))
 
@@ -217,7 +217,7 @@ before_legal i (k ∷ s) e =
     (λ h. one_head k s h (more (sym (head_on i k s h) ∙ e)))
     (λ h. no_head (k ∷ s) (frame_legal i (k ∷ s) (sym (head_stop i k s h) ∙ e)))
 
-with_first : (first l : List Kind) → (first ≡ []) ⊎ (first ≡ temporalDelimiter ∷ []) → Headed l → OrderLegal (first ++ l)
+with_first : (first l : List Kind) → (first ≡ []) ⊎ (first ≡ temporal_delimiter ∷ []) → Headed l → OrderLegal (first ++ l)
 with_first first l f h =
     record {
       first = first;
@@ -232,17 +232,17 @@ with_first first l f h =
 pub order_legal : (l : List Kind) → order_refusal l ≡ passed tt → OrderLegal l
 order_legal [] e = with_first [] [] (inl refl) (before_legal 0 [] (unfold order_refusal in e))
 order_legal (k ∷ s) e =
-    case (is k temporalDelimiter)
-    (λ h. with_first (k ∷ []) s (inr (cons (same_kind k temporalDelimiter h) refl)) (before_legal 1 s (sym (delimited k s h) ∙ e)))
+    case (is k temporal_delimiter)
+    (λ h. with_first (k ∷ []) s (inr (cons (same_kind k temporal_delimiter h) refl)) (before_legal 1 s (sym (delimited k s h) ∙ e)))
     (λ h. with_first [] (k ∷ s) (inl refl) (before_legal 0 (k ∷ s) (sym (not_delimited k s h) ∙ e)))
 
 -- ---- a legal list passes
 tiles_fine : (i : ℕ) (ended : Bool) (tiles : List Kind) → all tile_kind tiles ≡ true
-    → in_tiles i ended (tiles ++ (tileGroup ∷ [])) ≡ passed tt
+    → in_tiles i ended (tiles ++ (tile_group ∷ [])) ≡ passed tt
 tiles_fine i ended [] e = unfold in_tiles any in refl
 tiles_fine i ended (k ∷ s) e =
     let h = all_both tile_kind k s e in
-    tiles_on i k (s ++ (tileGroup ∷ [])) ended h.0 ∙ tiles_fine (suc i) (is k tileGroup) s h.1
+    tiles_on i k (s ++ (tile_group ∷ [])) ended h.0 ∙ tiles_fine (suc i) (is k tile_group) s h.1
 
 frame_fine : (i : ℕ) (l : List Kind) → WholeFrame l → before_frame i l ≡ passed tt
 unfolding before_frame at_frame after_frame any
@@ -257,21 +257,21 @@ head_fine i (k ∷ s) l e w =
     head_on i k (s ++ l) h.0 ∙ head_fine (suc i) s l h.1 w
 
 -- no delimiter passes but as the first
-not_here : (s : List Kind) → before_frame 0 (temporalDelimiter ∷ s) ≡ refused 7 0
+not_here : (s : List Kind) → before_frame 0 (temporal_delimiter ∷ s) ≡ refused 7 0
 unfolding before_frame at_frame any
 not_here s = refl
 
 passes_too : (l : List Kind) → before_frame 0 l ≡ passed tt → order_refusal l ≡ passed tt
 passes_too [] e = unfold order_refusal in e
 passes_too (k ∷ s) e =
-    case (is k temporalDelimiter)
-    (λ h. never (sym (ap (λ (a : Kind). before_frame 0 (a ∷ s)) (same_kind k temporalDelimiter h) ∙ not_here s) ∙ e))
+    case (is k temporal_delimiter)
+    (λ h. never (sym (ap (λ (a : Kind). before_frame 0 (a ∷ s)) (same_kind k temporal_delimiter h) ∙ not_here s) ∙ e))
     (λ h. not_delimited k s h ∙ e)
 
-first_fine : (first l : List Kind) → (first ≡ []) ⊎ (first ≡ temporalDelimiter ∷ []) → ((i : ℕ) → before_frame i l ≡ passed tt)
+first_fine : (first l : List Kind) → (first ≡ []) ⊎ (first ≡ temporal_delimiter ∷ []) → ((i : ℕ) → before_frame i l ≡ passed tt)
     → order_refusal (first ++ l) ≡ passed tt
 first_fine first l (inl e) h = rw e (passes_too l (h 0))
-first_fine first l (inr e) h = rw e (delimited temporalDelimiter l refl ∙ h 1)
+first_fine first l (inr e) h = rw e (delimited temporal_delimiter l refl ∙ h 1)
 
 pub legal_order : (l : List Kind) → OrderLegal l → order_refusal l ≡ passed tt
 legal_order l h =

@@ -15,7 +15,7 @@ use Rattle.lists.proofs.Tests.{case}
 use Rattle.lists.proofs.Tables.{all_below, below}
 use Rattle.refusal.specs.Verdict.{Verdict, passed, refused, NoValue, passes}
 use Rattle.refusal.proofs.Verdicts.{passes_passed}
-use Rattle.obu.specs.Order.{Kind, temporalDelimiter, frameHeader, tileGroup, frame, is, head_kind, tile_kind, last_kind, kind_of_number}
+use Rattle.obu.specs.Order.{Kind, temporal_delimiter, frame_header, tile_group, frame, is, head_kind, tile_kind, last_kind, kind_of_number}
 use Rattle.obu.specs.Order.{OrderLegal, after_frame, in_tiles, at_frame, before_frame, order_refusal}
 use Rattle.obu.specs.Table.{Position, start, front, tiles, ended, whole, broken, position_of, MayFollow, Reach, LeadsTo, IsOrderTable}
 use Rattle.obu.proofs.Steps.{tiles_on, tiles_stop, one_frame_lem, one_header, no_frame, head_on, head_stop, delimited, not_delimited}
@@ -30,14 +30,14 @@ unfoldable pub after_front : Kind → Position
 after_front k =
     elim (head_kind k) [
       | true ↦ front
-      | false ↦ elim (last_kind k) [ true ↦ whole | false ↦ elim (is k frameHeader) [ true ↦ tiles | false ↦ broken ] ]
+      | false ↦ elim (last_kind k) [ true ↦ whole | false ↦ elim (is k frame_header) [ true ↦ tiles | false ↦ broken ] ]
     ]
 
 unfoldable pub after_tiles : Kind → Position
-after_tiles k = elim (tile_kind k) [ true ↦ tile_position (is k tileGroup) | false ↦ broken ]
+after_tiles k = elim (tile_kind k) [ true ↦ tile_position (is k tile_group) | false ↦ broken ]
 
 unfoldable pub after_start : Kind → Position
-after_start k = elim (is k temporalDelimiter) [ true ↦ front | false ↦ after_front k ]
+after_start k = elim (is k temporal_delimiter) [ true ↦ front | false ↦ after_front k ]
 
 unfoldable pub after : Position → Kind → Position
 after start k = after_start k
@@ -82,18 +82,18 @@ after_tile true k = refl
 after_tile false k = refl
 
 tiles_step : (i : ℕ) (t : Bool) (k : Kind) (s : List Kind)
-    → passes (in_tiles (suc i) (is k tileGroup) s) ≡ may_end (run (tile_position (is k tileGroup)) s)
+    → passes (in_tiles (suc i) (is k tile_group) s) ≡ may_end (run (tile_position (is k tile_group)) s)
     → passes (in_tiles i t (k ∷ s)) ≡ may_end (run (tile_position t) (k ∷ s))
 unfolding run after_tiles
 tiles_step i t k s more =
     case (tile_kind k)
-    (λ e. by (tile_position (is k tileGroup)) _ s (tiles_on i k s t e) more (after_tile t k ∙ rw (e, after_tiles)))
+    (λ e. by (tile_position (is k tile_group)) _ s (tiles_on i k s t e) more (after_tile t k ∙ rw (e, after_tiles)))
     (λ e. by broken _ s (tiles_stop i k s t e) (sym (broken_stays s)) (after_tile t k ∙ rw (e, after_tiles)))
 
 tiles_run : (i : ℕ) (t : Bool) (s : List Kind) → passes (in_tiles i t s) ≡ may_end (run (tile_position t) s)
 tiles_run i true [] = unfold in_tiles run in refl
 tiles_run i false [] = unfold in_tiles run in refl
-tiles_run i t (k ∷ s) = tiles_step i t k s (tiles_run (suc i) (is k tileGroup) s)
+tiles_run i t (k ∷ s) = tiles_step i t k s (tiles_run (suc i) (is k tile_group) s)
 
 front_step : (i : ℕ) (k : Kind) (s : List Kind) → passes (before_frame (suc i) s) ≡ may_end (run front s)
     → passes (before_frame i (k ∷ s)) ≡ may_end (run front (k ∷ s))
@@ -103,7 +103,7 @@ front_step i k s more =
     (λ e. by front (after_front k) s (head_on i k s e) more (rw (e, after_front)))
     (λ e. case (last_kind k)
     (λ f. by whole (after_front k) s (head_stop i k s e ∙ one_frame_lem i k s f) (after_runs (suc i) s) (rw (e, after_front) (rw f)))
-    (λ f. case (is k frameHeader)
+    (λ f. case (is k frame_header)
     (λ g. by tiles (after_front k) s (head_stop i k s e ∙ one_header i k s f g) (tiles_run (suc i) false s)
     (rw (e, after_front) (rw (f, g))))
     (λ g. by broken (after_front k) s (head_stop i k s e ∙ no_frame i k s f g) (sym (broken_stays s)) (rw (e, after_front) (rw (f, g))))))
@@ -116,7 +116,7 @@ start_runs : (s : List Kind) → passes (order_refusal s) ≡ may_end (run start
 unfolding order_refusal before_frame at_frame run after after_start
 start_runs [] = refl
 start_runs (k ∷ s) =
-    case (is k temporalDelimiter)
+    case (is k temporal_delimiter)
     (λ e. by front (after_start k) s (delimited k s e) (front_runs 1 s) (rw (e, after_start)))
     (λ e. by (after_front k) (after_start k) s (not_delimited k s e) (front_runs 0 (k ∷ s)) (rw (e, after_start)))
 
@@ -131,18 +131,18 @@ passes_legal l e = order_legal l (passes_passed (order_refusal l) e)
 behind : (p : Position) (rest : List Kind) → MayFollow p rest → may_end (run p rest) ≡ true
 unfolding MayFollow order_refusal before_frame at_frame in_tiles any
 behind start rest h = sym (start_runs rest) ∙ legal_passes rest h
-behind front rest h = sym (front_runs 1 rest) ∙ legal_passes (temporalDelimiter ∷ rest) h
-behind tiles rest h = sym (tiles_run 1 false rest) ∙ legal_passes (frameHeader ∷ rest) h
-behind ended rest h = sym (tiles_run 2 true rest) ∙ legal_passes (frameHeader ∷ tileGroup ∷ rest) h
+behind front rest h = sym (front_runs 1 rest) ∙ legal_passes (temporal_delimiter ∷ rest) h
+behind tiles rest h = sym (tiles_run 1 false rest) ∙ legal_passes (frame_header ∷ rest) h
+behind ended rest h = sym (tiles_run 2 true rest) ∙ legal_passes (frame_header ∷ tile_group ∷ rest) h
 behind whole rest h = sym (after_runs 1 rest) ∙ legal_passes (frame ∷ rest) h
 behind broken rest h = absurd h
 
 follows : (p : Position) (rest : List Kind) → may_end (run p rest) ≡ true → MayFollow p rest
 unfolding MayFollow order_refusal before_frame at_frame in_tiles any
 follows start rest e = passes_legal rest (start_runs rest ∙ e)
-follows front rest e = passes_legal (temporalDelimiter ∷ rest) (front_runs 1 rest ∙ e)
-follows tiles rest e = passes_legal (frameHeader ∷ rest) (tiles_run 1 false rest ∙ e)
-follows ended rest e = passes_legal (frameHeader ∷ tileGroup ∷ rest) (tiles_run 2 true rest ∙ e)
+follows front rest e = passes_legal (temporal_delimiter ∷ rest) (front_runs 1 rest ∙ e)
+follows tiles rest e = passes_legal (frame_header ∷ rest) (tiles_run 1 false rest ∙ e)
+follows ended rest e = passes_legal (frame_header ∷ tile_group ∷ rest) (tiles_run 2 true rest ∙ e)
 follows whole rest e = passes_legal (frame ∷ rest) (after_runs 1 rest ∙ e)
 follows broken rest e = absurd (true≢false (sym e ∙ broken_stays rest))
 
@@ -197,7 +197,7 @@ open_at : (p : ℕ) → p < 5 → (rest : List Kind) × MayFollow (position_of p
 unfolding position_of run after after_start after_front after_tiles any
 open_at zero h = (frame ∷ [], follows start (frame ∷ []) refl)
 open_at (suc zero) h = (frame ∷ [], follows front (frame ∷ []) refl)
-open_at (suc (suc zero)) h = (tileGroup ∷ [], follows tiles (tileGroup ∷ []) refl)
+open_at (suc (suc zero)) h = (tile_group ∷ [], follows tiles (tile_group ∷ []) refl)
 open_at (suc (suc (suc zero))) h = ([], follows ended [] refl)
 open_at (suc (suc (suc (suc zero)))) h = ([], follows whole [] refl)
 open_at (suc (suc (suc (suc (suc p))))) h = absurd (omega arith)

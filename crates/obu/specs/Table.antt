@@ -2,7 +2,7 @@
 -- position reached, and prove each entry to be what the order rule says". The table stands in src/ordering.rt; here
 -- stands what its entries say, in terms of the sentence of document 01 (`OrderLegal`). Assumes nothing.
 use Rattle.std.specs.Prelude.{ℕ, ◌<◌, cond, ◌↔◌, List, [], ◌∷◌, ◌++◌, eqb, get_or}
-use Rattle.obu.specs.Order.{Kind, temporalDelimiter, frameHeader, tileGroup, frame, kind_of_number, OrderLegal}
+use Rattle.obu.specs.Order.{Kind, temporal_delimiter, frame_header, tile_group, frame, kind_of_number, OrderLegal}
 
 -- the position reached: nothing yet; the front, where the frame may begin; a frame header, the last OBU being no tile
 -- group; a frame header, the last OBU being a tile group; the whole frame; or the order is broken
@@ -23,9 +23,9 @@ position_of n =
 -- behind a 3, behind a 3 and a 4, behind a 6; where the order is broken, none.
 unfoldable pub MayFollow : Position → List Kind → Type 0
 MayFollow start rest = OrderLegal rest
-MayFollow front rest = OrderLegal (temporalDelimiter ∷ rest)
-MayFollow tiles rest = OrderLegal (frameHeader ∷ rest)
-MayFollow ended rest = OrderLegal (frameHeader ∷ tileGroup ∷ rest)
+MayFollow front rest = OrderLegal (temporal_delimiter ∷ rest)
+MayFollow tiles rest = OrderLegal (frame_header ∷ rest)
+MayFollow ended rest = OrderLegal (frame_header ∷ tile_group ∷ rest)
 MayFollow whole rest = OrderLegal (frame ∷ rest)
 MayFollow broken rest = ⊥
 

@@ -35,23 +35,23 @@ packet_fit pid counter n room e =
     let f = fit pid counter room a.1 in
     (ltb-false most n a.0, f.0, f.1, f.2)
 
-pub pat_fit : (counter program mapPid room : ℕ) → pat_unfit counter program mapPid room ≡ false
-    → (program < 65536) × (mapPid < 8192) × (counter < 16) × (188 ≤ room)
+pub pat_fit : (counter program map_pid room : ℕ) → pat_unfit counter program map_pid room ≡ false
+    → (program < 65536) × (map_pid < 8192) × (counter < 16) × (188 ≤ room)
 unfolding pat_unfit
-pat_fit counter program mapPid room e =
+pat_fit counter program map_pid room e =
     let a = or_neither (ltb 65535 program) _ e in
-    let b = or_neither (ltb 8191 mapPid) _ a.1 in
+    let b = or_neither (ltb 8191 map_pid) _ a.1 in
     let f = fit 0 counter room b.1 in
-    (omega (arith, ltb-false 65535 program a.0), omega (arith, ltb-false 8191 mapPid b.0), f.1, f.2)
+    (omega (arith, ltb-false 65535 program a.0), omega (arith, ltb-false 8191 map_pid b.0), f.1, f.2)
 
-pub pmt_fit : (mapPid counter program pid n room : ℕ) → pmt_unfit mapPid counter program pid n room ≡ false
-    → (n ≡ 6) × (program < 65536) × (pid < 8192) × (mapPid < 8192) × (counter < 16) × (188 ≤ room)
+pub pmt_fit : (map_pid counter program pid n room : ℕ) → pmt_unfit map_pid counter program pid n room ≡ false
+    → (n ≡ 6) × (program < 65536) × (pid < 8192) × (map_pid < 8192) × (counter < 16) × (188 ≤ room)
 unfolding pmt_unfit
-pmt_fit mapPid counter program pid n room e =
+pmt_fit map_pid counter program pid n room e =
     let d = or_neither (not (eqb n 6)) _ e in
     let a = or_neither (ltb 65535 program) _ d.1 in
     let b = or_neither (ltb 8191 pid) _ a.1 in
-    let f = fit mapPid counter room b.1 in (
+    let f = fit map_pid counter room b.1 in (
       eqb-true n 6 (not-false (eqb n 6) d.0),
       omega (arith, ltb-false 65535 program a.0),
       omega (arith, ltb-false 8191 pid b.0),
@@ -101,20 +101,20 @@ unfolding packet_put packet_unfit
 packet_written pid counter part out p c n r =
     put_over _ _ out (or_by_false (le-ltb most (length part) n) (fits pid counter (length out) p c r))
 
-pub pat_written : (counter program mapPid : ℕ) (out : Bytes) → program < 65536 → mapPid < 8192 → counter < 16 → 188 ≤ length out
-    → pat_put counter program mapPid out ≡ over (carrying 0 true counter 0 (section_payload (pat program mapPid))) out
+pub pat_written : (counter program map_pid : ℕ) (out : Bytes) → program < 65536 → map_pid < 8192 → counter < 16 → 188 ≤ length out
+    → pat_put counter program map_pid out ≡ over (carrying 0 true counter 0 (section_payload (pat program map_pid))) out
 unfolding pat_put pat_unfit
-pat_written counter program mapPid out n m c r =
+pat_written counter program map_pid out n m c r =
     put_over _ _ out (or_by_false (le-ltb 65535 program (omega arith))
-    (or_by_false (le-ltb 8191 mapPid (omega arith)) (fits 0 counter (length out) (omega arith) c r)))
+    (or_by_false (le-ltb 8191 map_pid (omega arith)) (fits 0 counter (length out) (omega arith) c r)))
 
-pub pmt_written : (mapPid counter program pid : ℕ) (d out : Bytes) → length d ≡ 6 → program < 65536 → pid < 8192 → mapPid < 8192
+pub pmt_written : (map_pid counter program pid : ℕ) (d out : Bytes) → length d ≡ 6 → program < 65536 → pid < 8192 → map_pid < 8192
     → counter < 16 → 188 ≤ length out
-    → pmt_put mapPid counter program pid d out ≡ over (carrying mapPid true counter 0 (section_payload (pmt program pid d))) out
+    → pmt_put map_pid counter program pid d out ≡ over (carrying map_pid true counter 0 (section_payload (pmt program pid d))) out
 unfolding pmt_put pmt_unfit
-pmt_written mapPid counter program pid d out l n p m c r =
+pmt_written map_pid counter program pid d out l n p m c r =
     put_over _ _ out (or_by_false (ap not (eq-eqb (length d) 6 l)) (or_by_false (le-ltb 65535 program (omega arith))
-    (or_by_false (le-ltb 8191 pid (omega arith)) (fits mapPid counter (length out) m c r))))
+    (or_by_false (le-ltb 8191 pid (omega arith)) (fits map_pid counter (length out) m c r))))
 
 pub pcr_written : (pid counter : ℕ) (t : Ticks27) (out : Bytes) → t.0 < 2576980377600 → pid < 8192 → counter < 16 → 188 ≤ length out
     → pcr_put pid counter t out ≡ over (pcr_packet pid (counter_before counter) t) out

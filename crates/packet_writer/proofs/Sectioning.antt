@@ -18,9 +18,9 @@ start_by table extension n h l s eh el =
     ∙ ap₂ (λ (i j : ℕ). table ∷ (0b1011 * 2 ^ 4 + (9 + n) / 256) ∷ (9 + n) % 256 ∷ i ∷ j ∷ 193 ∷ 0 ∷ 0 ∷ []) eh el
 
 -- what the PAT has behind them
-pub pat_rest_lem : (program mapPid h l m k : ℕ) → h ≡ program / 256 → l ≡ program % 256 → m ≡ mapPid / 256 → k ≡ mapPid % 256
-    → h ∷ l ∷ (224 + m) ∷ k ∷ [] ≡ pat_rest program mapPid
-pat_rest_lem program mapPid h l m k eh el em ek =
+pub pat_rest_lem : (program map_pid h l m k : ℕ) → h ≡ program / 256 → l ≡ program % 256 → m ≡ map_pid / 256 → k ≡ map_pid % 256
+    → h ∷ l ∷ (224 + m) ∷ k ∷ [] ≡ pat_rest program map_pid
+pat_rest_lem program map_pid h l m k eh el em ek =
     ap₂ (λ (i j : ℕ). i ∷ j ∷ (224 + m) ∷ k ∷ []) eh el
     ∙ ap₂ (λ (i j : ℕ). program / 256 ∷ program % 256 ∷ (224 + i) ∷ j ∷ []) em ek
 

@@ -29,22 +29,22 @@ packet_put pid counter part out =
 
 -- ---- the packet of the PAT; a program number has 16 bits
 unfoldable pub pat_unfit : ℕ → ℕ → ℕ → ℕ → Bool
-pat_unfit counter program mapPid room = ltb 0xFFFF program || (ltb 0x1FFF mapPid || unfit 0 counter room)
+pat_unfit counter program map_pid room = ltb 0xFFFF program || (ltb 0x1FFF map_pid || unfit 0 counter room)
 
 unfoldable pub pat_put : ℕ → ℕ → ℕ → Bytes → Bytes
-pat_put counter program mapPid out =
-    put (pat_unfit counter program mapPid (length out))
-    (carrying 0 true counter 0 (section_payload (pat program mapPid))) out
+pat_put counter program map_pid out =
+    put (pat_unfit counter program map_pid (length out))
+    (carrying 0 true counter 0 (section_payload (pat program map_pid))) out
 
 -- ---- the packet of the PMT; the video descriptor has six bytes
 unfoldable pub pmt_unfit : ℕ → ℕ → ℕ → ℕ → ℕ → ℕ → Bool
-pmt_unfit mapPid counter program pid n room =
-    not (eqb n 6) || (ltb 0xFFFF program || (ltb 0x1FFF pid || unfit mapPid counter room))
+pmt_unfit map_pid counter program pid n room =
+    not (eqb n 6) || (ltb 0xFFFF program || (ltb 0x1FFF pid || unfit map_pid counter room))
 
 unfoldable pub pmt_put : ℕ → ℕ → ℕ → ℕ → Bytes → Bytes → Bytes
-pmt_put mapPid counter program pid descriptor out =
-    put (pmt_unfit mapPid counter program pid (length descriptor) (length out))
-    (carrying mapPid true counter 0 (section_payload (pmt program pid descriptor))) out
+pmt_put map_pid counter program pid descriptor out =
+    put (pmt_unfit map_pid counter program pid (length descriptor) (length out))
+    (carrying map_pid true counter 0 (section_payload (pmt program pid descriptor))) out
 
 -- ---- the packet of a PCR, whose base has 33 bits; "the PCR packet carries one less modulo 16" than the counter of
 -- the next payload

@@ -21,8 +21,8 @@ at_each : (P : ℕ → Type 0) (l : List ℕ) → ((j : ℕ) → j < length l �
 at_each P [] h = tt
 at_each P (a ∷ l) h = (h 0 (omega arith), at_each P l (λ j k. h (suc j) (omega arith)))
 
-pub listed_not_null : (edition : Edition) (program mapPid : ℕ) (s : Bytes) (m : MapContent) → read_pmt edition program mapPid s ≡ passed m
+pub listed_not_null : (edition : Edition) (program map_pid : ℕ) (s : Bytes) (m : MapContent) → read_pmt edition program map_pid s ≡ passed m
     → All (λ n. eqb n null_pid ≡ false) (pids m.entries)
-listed_not_null edition program mapPid s m e =
+listed_not_null edition program map_pid s m e =
     at_each (λ n. eqb n null_pid ≡ false) (pids m.entries) (λ j h. ne_eqb _ null_pid
-    (not_null mapPid (entry_bytes s) m.entries (says edition program mapPid s m e).listed j h))
+    (not_null map_pid (entry_bytes s) m.entries (says edition program map_pid s m e).listed j h))

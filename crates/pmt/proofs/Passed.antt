@@ -30,21 +30,21 @@ unfolding ◌>>◌
 past (passed a) w b e = e
 past (refused number place) w b e = never e
 
-pub record Says (edition : Edition) (program mapPid : ℕ) (s : Bytes) (m : MapContent) : Type 0 where
+pub record Says (edition : Edition) (program map_pid : ℕ) (s : Bytes) (m : MapContent) : Type 0 where
   pub right : common_wrong 2 16 s ≡ false
   pub number : table_id_extension s ≡ program
   pub pcr : m.pcr_pid ≡ pcr_pid s
-  pub listed : entries mapPid (entry_bytes s) ≡ passed m.entries
+  pub listed : entries map_pid (entry_bytes s) ≡ passed m.entries
   pub one : av1_entry edition m.entries ≡ passed m.av1
 
-pub says : (edition : Edition) (program mapPid : ℕ) (s : Bytes) (m : MapContent) → read_pmt edition program mapPid s ≡ passed m
-    → Says edition program mapPid s m
+pub says : (edition : Edition) (program map_pid : ℕ) (s : Bytes) (m : MapContent) → read_pmt edition program map_pid s ≡ passed m
+    → Says edition program map_pid s m
 unfolding read_pmt
-says edition program mapPid s m e =
+says edition program map_pid s m e =
     let a = passed_after (given 26 (common_wrong 2 16 s)) _ m e in
     let b = passed_after (given 26 (not (eqb (table_id_extension s) program))) _ m a.1 in
     let d = past _ _ m (passed_after _ _ m b.1).1 in
-    let es = passed_then (entries mapPid (entry_bytes s)) _ m d in
+    let es = passed_then (entries map_pid (entry_bytes s)) _ m d in
     let one = passed_then (av1_entry edition es.0) _ m es.2 in
     let same = passed_same _ m one.2 in
     record {
@@ -61,59 +61,59 @@ pids_more [] e = refl
 pids_more (x ∷ es) e = ap (λ (l : List ℕ). x.pid ∷ l) (pids_more es e)
 
 -- the PID of an entry that passed
-pid_of : (mapPid : ℕ) (earlier : List ℕ) (s : Bytes) (e : MapEntry) → entry mapPid earlier s ≡ passed e
-    → (e.pid ≡ elementary_pid s) × (pid_wrong mapPid earlier (elementary_pid s) ≡ false)
+pid_of : (map_pid : ℕ) (earlier : List ℕ) (s : Bytes) (e : MapEntry) → entry map_pid earlier s ≡ passed e
+    → (e.pid ≡ elementary_pid s) × (pid_wrong map_pid earlier (elementary_pid s) ≡ false)
 unfolding entry
-pid_of mapPid earlier s e p =
+pid_of map_pid earlier s e p =
     let loop = passed_then _ _ e (passed_after _ _ e p).1 in
-    let pid = passed_after (given 26 (pid_wrong mapPid earlier (elementary_pid s))) _ e loop.2 in
+    let pid = passed_after (given 26 (pid_wrong map_pid earlier (elementary_pid s))) _ e loop.2 in
     (sym (ap (λ (x : MapEntry). x.pid) (passed_same _ e pid.1)), given_passed 26 _ pid.0)
 
 -- what holds of the PIDs so far holds with each entry that passes; Q holds of the bytes and of what is left of them
-kept : (P : List ℕ → Type 0) (Q : Bytes → Type 0) (mapPid : ℕ) → ((s : Bytes) (k : ℕ) → Q s → Q (drop k s))
-    → ((earlier : List ℕ) (s : Bytes) → P earlier → Q s → pid_wrong mapPid earlier (elementary_pid s) ≡ false
+kept : (P : List ℕ → Type 0) (Q : Bytes → Type 0) (map_pid : ℕ) → ((s : Bytes) (k : ℕ) → Q s → Q (drop k s))
+    → ((earlier : List ℕ) (s : Bytes) → P earlier → Q s → pid_wrong map_pid earlier (elementary_pid s) ≡ false
     → P (earlier ++ (elementary_pid s ∷ [])))
-    → (n : ℕ) (before es : List MapEntry) (s : Bytes) → P (pids before) → Q s → entries_after n mapPid before s ≡ passed es → P (pids es)
+    → (n : ℕ) (before es : List MapEntry) (s : Bytes) → P (pids before) → Q s → entries_after n map_pid before s ≡ passed es → P (pids es)
 unfolding entries_after
-kept P Q mapPid rest step zero before es [] p q e = subst (λ (l : List MapEntry). P (pids l)) (passed_same before es e) p
-kept P Q mapPid rest step zero before es (b ∷ s) p q e = never e
-kept P Q mapPid rest step (suc n) before es [] p q e = subst (λ (l : List MapEntry). P (pids l)) (passed_same before es e) p
-kept P Q mapPid rest step (suc n) before es (b ∷ s) p q e =
-    let x = passed_then (entry mapPid (pids before) (b ∷ s)) _ es e in
-    let y = pid_of mapPid (pids before) (b ∷ s) x.0 x.1 in
+kept P Q map_pid rest step zero before es [] p q e = subst (λ (l : List MapEntry). P (pids l)) (passed_same before es e) p
+kept P Q map_pid rest step zero before es (b ∷ s) p q e = never e
+kept P Q map_pid rest step (suc n) before es [] p q e = subst (λ (l : List MapEntry). P (pids l)) (passed_same before es e) p
+kept P Q map_pid rest step (suc n) before es (b ∷ s) p q e =
+    let x = passed_then (entry map_pid (pids before) (b ∷ s)) _ es e in
+    let y = pid_of map_pid (pids before) (b ∷ s) x.0 x.1 in
     let after : P (pids (before ++ (x.0 ∷ []))) =
     subst P (ap (λ (i : ℕ). pids before ++ (i ∷ [])) (sym y.0) ∙ sym (pids_more before x.0))
     (step (pids before) (b ∷ s) p q y.1) in
-    kept P Q mapPid rest step n (before ++ (x.0 ∷ [])) es (drop (entry_size (b ∷ s)) (b ∷ s)) after (rest (b ∷ s) (entry_size (b ∷ s)) q)
+    kept P Q map_pid rest step n (before ++ (x.0 ∷ [])) es (drop (entry_size (b ∷ s)) (b ∷ s)) after (rest (b ∷ s) (entry_size (b ∷ s)) q)
     x.2
 
 -- "12 streams in a program map"
-counted : (n mapPid : ℕ) (before es : List MapEntry) (s : Bytes) → entries_after n mapPid before s ≡ passed es
+counted : (n map_pid : ℕ) (before es : List MapEntry) (s : Bytes) → entries_after n map_pid before s ≡ passed es
     → length es ≤ length before + n
 unfolding entries_after
-counted zero mapPid before es [] e = omega (arith, ap length (passed_same before es e))
-counted zero mapPid before es (b ∷ s) e = never e
-counted (suc n) mapPid before es [] e = omega (arith, ap length (passed_same before es e))
-counted (suc n) mapPid before es (b ∷ s) e =
-    let q = passed_then (entry mapPid (pids before) (b ∷ s)) _ es e in
-    omega (arith, counted n mapPid (before ++ (q.0 ∷ [])) es (drop (entry_size (b ∷ s)) (b ∷ s)) q.2, length-append before (q.0 ∷ []))
+counted zero map_pid before es [] e = omega (arith, ap length (passed_same before es e))
+counted zero map_pid before es (b ∷ s) e = never e
+counted (suc n) map_pid before es [] e = omega (arith, ap length (passed_same before es e))
+counted (suc n) map_pid before es (b ∷ s) e =
+    let q = passed_then (entry map_pid (pids before) (b ∷ s)) _ es e in
+    omega (arith, counted n map_pid (before ++ (q.0 ∷ [])) es (drop (entry_size (b ∷ s)) (b ∷ s)) q.2, length-append before (q.0 ∷ []))
 
-pub at_most_twelve : (mapPid : ℕ) (s : Bytes) (es : List MapEntry) → entries mapPid s ≡ passed es → length es ≤ 12
-at_most_twelve mapPid s es e = counted most_entries mapPid [] es s e
+pub at_most_twelve : (map_pid : ℕ) (s : Bytes) (es : List MapEntry) → entries map_pid s ≡ passed es → length es ≤ 12
+at_most_twelve map_pid s es e = counted most_entries map_pid [] es s e
 
 -- ---- their PIDs: each passed with those before it
 abbrev Fresh : ℕ → List ℕ → Type 0
-Fresh mapPid ps = (j : ℕ) → j < length ps → pid_wrong mapPid (take j ps) (byte ps j) ≡ false
+Fresh map_pid ps = (j : ℕ) → j < length ps → pid_wrong map_pid (take j ps) (byte ps j) ≡ false
 
-fresh_more : (mapPid : ℕ) (ps : List ℕ) (p : ℕ) → Fresh mapPid ps → pid_wrong mapPid ps p ≡ false → Fresh mapPid (ps ++ (p ∷ []))
-fresh_more mapPid ps p f w j h =
+fresh_more : (map_pid : ℕ) (ps : List ℕ) (p : ℕ) → Fresh map_pid ps → pid_wrong map_pid ps p ≡ false → Fresh map_pid (ps ++ (p ∷ []))
+fresh_more map_pid ps p f w j h =
     case (ltb j (length ps))
     (λ t. let k = ltb-true j (length ps) t in
-    ap₂ (pid_wrong mapPid) (take-append-le j ps (p ∷ []) (omega arith)) (get_or-append ps (p ∷ []) 0 j k) ∙ f j k)
+    ap₂ (pid_wrong map_pid) (take-append-le j ps (p ∷ []) (omega arith)) (get_or-append ps (p ∷ []) 0 j k) ∙ f j k)
     (λ t. let k : j ≡ length ps = omega (arith, ltb-false j (length ps) t, length-append ps (p ∷ [])) in
     let z : get_or (ps ++ (p ∷ [])) (length ps) 0 ≡ p = ap (λ (i : ℕ). get_or (ps ++ (p ∷ [])) i 0)
     (let i : length ps ≡ length ps + 0 = omega arith in i) ∙ get_or-append-add ps (p ∷ []) 0 0 in
-    ap₂ (pid_wrong mapPid) (ap (λ (i : ℕ). take i (ps ++ (p ∷ []))) k ∙ take-append_seam ps (p ∷ []))
+    ap₂ (pid_wrong map_pid) (ap (λ (i : ℕ). take i (ps ++ (p ∷ []))) k ∙ take-append_seam ps (p ∷ []))
     (ap (λ (i : ℕ). byte (ps ++ (p ∷ [])) i) k ∙ z) ∙ w)
 
 not_among : (p : ℕ) (l : List ℕ) → any (eqb p) l ≡ false → (i : ℕ) → i < length l → p ≡ byte l i → ⊥
@@ -131,18 +131,18 @@ small_more [] p f h (suc j) = omega arith
 small_more (a ∷ ps) p f h zero = f 0
 small_more (a ∷ ps) p f h (suc j) = small_more ps p (λ n. f (suc n)) h j
 
-module _ (mapPid : ℕ) (s : Bytes) (es : List MapEntry) (e : entries mapPid s ≡ passed es) where
-  fresh : Fresh mapPid (pids es)
+module _ (map_pid : ℕ) (s : Bytes) (es : List MapEntry) (e : entries map_pid s ≡ passed es) where
+  fresh : Fresh map_pid (pids es)
   fresh =
-      kept (Fresh mapPid) (λ (x : Bytes). Unit {0}) mapPid (λ x k u. tt)
-      (λ ps x f u w. fresh_more mapPid ps (elementary_pid x) f w) most_entries [] es s
+      kept (Fresh map_pid) (λ (x : Bytes). Unit {0}) map_pid (λ x k u. tt)
+      (λ ps x f u w. fresh_more map_pid ps (elementary_pid x) f w) most_entries [] es s
       (λ j h. absurd (omega arith)) tt e
 
   module _ (j : ℕ) (h : j < length (pids es)) where
-    among : (i : ℕ) → i < length (0 ∷ null_pid ∷ mapPid ∷ take j (pids es))
-        → byte (pids es) j ≡ byte (0 ∷ null_pid ∷ mapPid ∷ take j (pids es)) i → ⊥
+    among : (i : ℕ) → i < length (0 ∷ null_pid ∷ map_pid ∷ take j (pids es))
+        → byte (pids es) j ≡ byte (0 ∷ null_pid ∷ map_pid ∷ take j (pids es)) i → ⊥
     unfolding pid_wrong
-    among i k q = not_among (byte (pids es) j) (0 ∷ null_pid ∷ mapPid ∷ take j (pids es)) (fresh j h) i k q
+    among i k q = not_among (byte (pids es) j) (0 ∷ null_pid ∷ map_pid ∷ take j (pids es)) (fresh j h) i k q
 
     -- "none equal to 0, 0x1FFF or the map PID"
     pub not_zero_lem : byte (pids es) j ≡ 0 → ⊥
@@ -151,7 +151,7 @@ module _ (mapPid : ℕ) (s : Bytes) (es : List MapEntry) (e : entries mapPid s �
     pub not_null : byte (pids es) j ≡ null_pid → ⊥
     not_null q = among 1 (omega arith) q
 
-    pub not_map : byte (pids es) j ≡ mapPid → ⊥
+    pub not_map : byte (pids es) j ≡ map_pid → ⊥
     not_map q = among 2 (omega arith) q
 
     -- "no PID twice"
@@ -163,7 +163,7 @@ module _ (mapPid : ℕ) (s : Bytes) (es : List MapEntry) (e : entries mapPid s �
   -- a PID has thirteen bits
   pub below_8192 : Octets s → (j : ℕ) → byte (pids es) j < 8192
   below_8192 o =
-      kept Small Octets mapPid octets_drop (λ ps x f u w. small_more ps (elementary_pid x) f (omega (arith, u 2))) most_entries [] es s
+      kept Small Octets map_pid octets_drop (λ ps x f u w. small_more ps (elementary_pid x) f (omega (arith, u 2))) most_entries [] es s
       (λ j. omega arith) o e
 
 -- the entries' bytes are of the section

@@ -51,11 +51,11 @@ unfolding map_beside
 refused_beside r number e f = f ∙ sym (ap map_beside e)
 
 -- ---- what stands behind the fixed fields
-module _ (edition : Edition) (mapPid : ℕ) (s : Bytes) (most : 16 ≤ length s) (n : ℕ) (e : n ≡ program_info_length s) where
+module _ (edition : Edition) (map_pid : ℕ) (s : Bytes) (most : 16 ≤ length s) (n : ℕ) (e : n ≡ program_info_length s) where
   behind : length (up_to_crc 12 s) ≡ length s - 4 - 12
   behind = omega (arith, length-drop 12 (before_crc s), length-take-le (length s - 4) s (omega arith))
 
-  pub info_cut : length s - 4 < 12 + n → refused 26 0 ≡ body_map edition mapPid s
+  pub info_cut : length s - 4 < 12 + n → refused 26 0 ≡ body_map edition map_pid s
   unfolding body_map
   info_cut h =
       let b : length (up_to_crc 12 s) < program_info_length s = omega (arith, behind) in
@@ -79,7 +79,7 @@ module _ (edition : Edition) (mapPid : ℕ) (s : Bytes) (most : 16 ≤ length s)
     entries_lent =
         sym (drop_take (12 + n) (length s - 4) s fits) ∙ sym (drop-drop n 12 (before_crc s)) ∙ ap (λ (i : ℕ). drop i (up_to_crc 12 s)) e
 
-    pub info_unfilled : loop_found edition (take (12 + n - 12) (drop 12 s)) ≡ refused 26 0 → refused 26 0 ≡ body_map edition mapPid s
+    pub info_unfilled : loop_found edition (take (12 + n - 12) (drop 12 s)) ≡ refused 26 0 → refused 26 0 ≡ body_map edition map_pid s
     unfolding body_map
     info_unfilled f = pass_on 26 info_fits (stops _ (unfilled_loop edition (program_info s) (ap (loop_found edition) (sym info_lent) ∙ f)))
 
@@ -87,19 +87,19 @@ module _ (edition : Edition) (mapPid : ℕ) (s : Bytes) (most : 16 ≤ length s)
       info_filled : (ds : List Bytes) × (descriptors (program_info s) ≡ passed ds)
       info_filled = let p = filled_loop edition (program_info s) found (ap (loop_found edition) (sym info_lent) ∙ f) in (p.0, p.1)
 
-      body : {r : Verdict ProgramMap} → r ≡ (list_read edition mapPid (entry_bytes s) >>= listed_map (pcr_pid s)) → r ≡ body_map edition mapPid s
+      body : {r : Verdict ProgramMap} → r ≡ (list_read edition map_pid (entry_bytes s) >>= listed_map (pcr_pid s)) → r ≡ body_map edition map_pid s
       unfolding body_map
       body p = pass_on 26 info_fits (passes info_filled.0 info_filled.1 p)
 
-      pub entries_refused : (number : ℕ) → list_read edition mapPid (take (length s - 4 - (12 + n)) (drop (12 + n) s)) ≡ refused number 0
-          → refused number 0 ≡ body_map edition mapPid s
-      entries_refused number p = body (stop number 0 _ (ap (list_read edition mapPid) (sym entries_lent) ∙ p))
+      pub entries_refused : (number : ℕ) → list_read edition map_pid (take (length s - 4 - (12 + n)) (drop (12 + n) s)) ≡ refused number 0
+          → refused number 0 ≡ body_map edition map_pid s
+      entries_refused number p = body (stop number 0 _ (ap (list_read edition map_pid) (sym entries_lent) ∙ p))
 
-      pub entries_passed : (l : Listed) → list_read edition mapPid (take (length s - 4 - (12 + n)) (drop (12 + n) s)) ≡ passed l → (pcr : ℕ)
+      pub entries_passed : (l : Listed) → list_read edition map_pid (take (length s - 4 - (12 + n)) (drop (12 + n) s)) ≡ passed l → (pcr : ℕ)
           → pcr ≡ pcr_pid s
-          → listed_map pcr l ≡ body_map edition mapPid s
+          → listed_map pcr l ≡ body_map edition map_pid s
       entries_passed l p pcr q =
-          ap (λ (i : ℕ). listed_map i l) q ∙ body (go_on l _ (ap (list_read edition mapPid) (sym entries_lent) ∙ p) refl)
+          ap (λ (i : ℕ). listed_map i l) q ∙ body (go_on l _ (ap (list_read edition map_pid) (sym entries_lent) ∙ p) refl)
 
 -- ---- the whole section
 bind_bind : {A B C : Type 0} (v : Verdict A) (f : A → B) (g : B → C)
@@ -118,11 +118,11 @@ unfolding ◌>>=◌
 lists_map edition pcr (passed es) = bind_bind (av1_entry edition es) (content pcr es) (map_of edition) ∙ sym (listed_map_lem edition pcr es)
 lists_map edition pcr (refused number place) = refl
 
-pub section_map : (edition : Edition) (program mapPid : ℕ) (s : Bytes)
-    → mapped edition (read_pmt edition program mapPid s) ≡ (given 26 (common_wrong 2 16 s)
-    >> (given 26 (not (eqb (table_id_extension s) program)) >> body_map edition mapPid s))
+pub section_map : (edition : Edition) (program map_pid : ℕ) (s : Bytes)
+    → mapped edition (read_pmt edition program map_pid s) ≡ (given 26 (common_wrong 2 16 s)
+    >> (given 26 (not (eqb (table_id_extension s) program)) >> body_map edition map_pid s))
 unfolding mapped read_pmt body_map list_read
-section_map edition program mapPid s =
+section_map edition program map_pid s =
     let g : MapContent → Verdict ProgramMap = λ m. passed (map_of edition m) in
     let common = given 26 (common_wrong 2 16 s) in
     let number = given 26 (not (eqb (table_id_extension s) program)) in
@@ -134,4 +134,4 @@ section_map edition program mapPid s =
     (then_bind info _ g
     ∙ ap (λ (v : Verdict ProgramMap). info >> v)
     (then_bind (descriptors (program_info s)) _ g
-    ∙ ap (λ (v : Verdict ProgramMap). descriptors (program_info s) >> v) (lists_map edition (pcr_pid s) (entries mapPid (entry_bytes s))))))
+    ∙ ap (λ (v : Verdict ProgramMap). descriptors (program_info s) >> v) (lists_map edition (pcr_pid s) (entries map_pid (entry_bytes s))))))

@@ -21,7 +21,7 @@ use Rattle.pmt.specs.Pmt.{program_info, entry_bytes, read_pmt}
 use Rattle.pmt.proofs.Reading.{passes}
 
 -- ---- an entry that passed is decided by its own bytes
-module _ (mapPid : ℕ) (earlier : List ℕ) (s more : Bytes) (e : MapEntry) (p : entry mapPid earlier s ≡ passed e) where
+module _ (map_pid : ℕ) (earlier : List ℕ) (s more : Bytes) (e : MapEntry) (p : entry map_pid earlier s ≡ passed e) where
   fits : (5 ≤ length s) × (entry_size s ≤ length s)
   unfolding entry
   fits =
@@ -34,7 +34,7 @@ module _ (mapPid : ℕ) (earlier : List ℕ) (s more : Bytes) (e : MapEntry) (p 
   pub same_size : entry_size (s ++ more) ≡ entry_size s
   same_size = rw (same_byte 3 (omega arith), same_byte 4 (omega arith))
 
-  pub entry_alone : entry mapPid earlier (s ++ more) ≡ passed e
+  pub entry_alone : entry map_pid earlier (s ++ more) ≡ passed e
   unfolding entry
   entry_alone =
       let f = fits in
@@ -58,23 +58,23 @@ module _ (mapPid : ℕ) (earlier : List ℕ) (s more : Bytes) (e : MapEntry) (p 
   rest_alone = ap (λ (n : ℕ). drop n (s ++ more)) same_size ∙ drop-append-le (entry_size s) s more fits.1
 
 -- ---- as many entries as may come, and bytes behind them
-past : (n mapPid : ℕ) (before es : List MapEntry) (s : Bytes) (b : ℕ) (more : Bytes) → entries_after n mapPid before s ≡ passed es
+past : (n map_pid : ℕ) (before es : List MapEntry) (s : Bytes) (b : ℕ) (more : Bytes) → entries_after n map_pid before s ≡ passed es
     → length es ≡ length before + n
-    → entries_after n mapPid before (s ++ (b ∷ more)) ≡ refused 27 0
+    → entries_after n map_pid before (s ++ (b ∷ more)) ≡ refused 27 0
 unfolding entries_after
-past zero mapPid before es [] b more p h = refl
-past zero mapPid before es (c ∷ s) b more p h = never p
-past (suc n) mapPid before es [] b more p h = absurd (omega (arith, ap length (passed_same before es p)))
-past (suc n) mapPid before es (c ∷ s) b more p h =
-    let q = passed_then (entry mapPid (pids before) (c ∷ s)) _ es p in
+past zero map_pid before es [] b more p h = refl
+past zero map_pid before es (c ∷ s) b more p h = never p
+past (suc n) map_pid before es [] b more p h = absurd (omega (arith, ap length (passed_same before es p)))
+past (suc n) map_pid before es (c ∷ s) b more p h =
+    let q = passed_then (entry map_pid (pids before) (c ∷ s)) _ es p in
     let e = q.0 in
     let after : List MapEntry = before ++ (e ∷ []) in
     let m : length es ≡ length after + n = omega (arith, length-append before (e ∷ [])) in
     sym
-    (go_on e _ (entry_alone mapPid (pids before) (c ∷ s) (b ∷ more) e q.1)
+    (go_on e _ (entry_alone map_pid (pids before) (c ∷ s) (b ∷ more) e q.1)
     (sym
-    (ap (entries_after n mapPid after) (rest_alone mapPid (pids before) (c ∷ s) (b ∷ more) e q.1)
-    ∙ past n mapPid after es (drop (entry_size (c ∷ s)) (c ∷ s)) b more q.2 m)))
+    (ap (entries_after n map_pid after) (rest_alone map_pid (pids before) (c ∷ s) (b ∷ more) e q.1)
+    ∙ past n map_pid after es (drop (entry_size (c ∷ s)) (c ∷ s)) b more q.2 m)))
 
 -- ---- the section
 -- nothing is wrong up to the entries
@@ -84,13 +84,13 @@ pub record Right (program : ℕ) (s : Bytes) : Type 0 where
   pub fits : program_info_length s ≤ length (up_to_crc 12 s)
   pub info : (ds : List Bytes) × (descriptors (program_info s) ≡ passed ds)
 
-pub thirteenth_refused : (edition : Edition) (program mapPid : ℕ) (s : Bytes) → Right program s
-    → (twelve : Bytes) (es : List MapEntry) → entries mapPid twelve ≡ passed es → length es ≡ 12
-    → (b : ℕ) (more : Bytes) → entry_bytes s ≡ twelve ++ (b ∷ more) → read_pmt edition program mapPid s ≡ refused 27 0
+pub thirteenth_refused : (edition : Edition) (program map_pid : ℕ) (s : Bytes) → Right program s
+    → (twelve : Bytes) (es : List MapEntry) → entries map_pid twelve ≡ passed es → length es ≡ 12
+    → (b : ℕ) (more : Bytes) → entry_bytes s ≡ twelve ++ (b ∷ more) → read_pmt edition program map_pid s ≡ refused 27 0
 unfolding read_pmt
-thirteenth_refused edition program mapPid s r twelve es p n b more e =
-    let q : entries mapPid (entry_bytes s) ≡ refused 27 0 =
-    ap (entries mapPid) e ∙ past most_entries mapPid [] es twelve b more p (n ∙ refl) in
+thirteenth_refused edition program map_pid s r twelve es p n b more e =
+    let q : entries map_pid (entry_bytes s) ≡ refused 27 0 =
+    ap (entries map_pid) e ∙ past most_entries map_pid [] es twelve b more p (n ∙ refl) in
     sym
     (pass_on 26 r.common
     (pass_on 26 (ap not (eq-eqb _ _ r.number))

@@ -33,7 +33,7 @@ filled_loop edition s f e =
     (p.0, p.1, passed_same (found_in edition p.0) f p.2)
 
 -- ---- the entry at the head of s
-module _ (edition : Edition) (mapPid : ℕ) (earlier : List ℕ) (s : Bytes) where
+module _ (edition : Edition) (map_pid : ℕ) (earlier : List ℕ) (s : Bytes) where
   abbrev short : Bool
   short = ltb (length s) 5 || ltb (length s) (entry_size s)
 
@@ -41,15 +41,15 @@ module _ (edition : Edition) (mapPid : ℕ) (earlier : List ℕ) (s : Bytes) whe
   abbrev made : ℕ → ℕ → Kind → Tried
   made pid size k = record { entry = record { pid = pid; stream_type = stream_type s }; size = size; kind = k }
 
-  too_short : short ≡ true → refused 26 0 ≡ tried_entry edition mapPid earlier s
+  too_short : short ≡ true → refused 26 0 ≡ tried_entry edition map_pid earlier s
   unfolding tried_entry entry
   too_short e = stop 26 0 _ (sym (refuse 26 _ e))
 
-  pub few_bytes : length s < 5 → refused 26 0 ≡ tried_entry edition mapPid earlier s
+  pub few_bytes : length s < 5 → refused 26 0 ≡ tried_entry edition map_pid earlier s
   few_bytes h = too_short (sym (or_by_true _ (lt-ltb _ _ h) refl))
 
   module _ (most : 5 ≤ length s) (n : ℕ) (e : n ≡ es_info_length s) where
-    pub cut_short : length s < 5 + n → refused 26 0 ≡ tried_entry edition mapPid earlier s
+    pub cut_short : length s < 5 + n → refused 26 0 ≡ tried_entry edition map_pid earlier s
     cut_short h =
         let k : length s < entry_size s = omega arith in
         too_short (sym (or_by_false (le-ltb _ _ most) (sym (lt-ltb _ _ k))))
@@ -63,7 +63,7 @@ module _ (edition : Edition) (mapPid : ℕ) (earlier : List ℕ) (s : Bytes) whe
       lent =
           sym (drop_take 5 (5 + n) s (omega arith)) ∙ ap (λ (k : ℕ). drop 5 (take (5 + k) s)) e
 
-      pub unfilled : loop_found edition (take (5 + n - 5) (drop 5 s)) ≡ refused 26 0 → refused 26 0 ≡ tried_entry edition mapPid earlier s
+      pub unfilled : loop_found edition (take (5 + n - 5) (drop 5 s)) ≡ refused 26 0 → refused 26 0 ≡ tried_entry edition map_pid earlier s
       unfolding tried_entry entry
       unfilled g =
           let d : descriptors (es_info s) ≡ refused 26 0 = unfilled_loop edition (es_info s) (ap (loop_found edition) (sym lent) ∙ g) in
@@ -73,15 +73,15 @@ module _ (edition : Edition) (mapPid : ℕ) (earlier : List ℕ) (s : Bytes) whe
         loop : (ds : List Bytes) × (descriptors (es_info s) ≡ passed ds) × (found_in edition ds ≡ f)
         loop = filled_loop edition (es_info s) f (ap (loop_found edition) (sym lent) ∙ g)
 
-        pub pid_refused : pid_wrong mapPid earlier pid ≡ true → refused 26 0 ≡ tried_entry edition mapPid earlier s
+        pub pid_refused : pid_wrong map_pid earlier pid ≡ true → refused 26 0 ≡ tried_entry edition map_pid earlier s
         unfolding tried_entry entry
         pid_refused w =
-            stop 26 0 _ (sym (pass_on 26 whole (go_on loop.0 _ loop.1 (refuse 26 _ (ap (pid_wrong mapPid earlier) (sym p) ∙ w)))))
+            stop 26 0 _ (sym (pass_on 26 whole (go_on loop.0 _ loop.1 (refuse 26 _ (ap (pid_wrong map_pid earlier) (sym p) ∙ w)))))
 
-        pub entry_passed : pid_wrong mapPid earlier pid ≡ false → (k : Kind) → k ≡ kind_from (byte s 0) f
-            → passed (made pid (5 + n) k) ≡ tried_entry edition mapPid earlier s
+        pub entry_passed : pid_wrong map_pid earlier pid ≡ false → (k : Kind) → k ≡ kind_from (byte s 0) f
+            → passed (made pid (5 + n) k) ≡ tried_entry edition map_pid earlier s
         unfolding tried_entry entry
         entry_passed w k h =
-            go_on _ _ (sym (pass_on 26 whole (go_on loop.0 _ loop.1 (pass_on 26 (ap (pid_wrong mapPid earlier) (sym p) ∙ w) refl))))
+            go_on _ _ (sym (pass_on 26 whole (go_on loop.0 _ loop.1 (pass_on 26 (ap (pid_wrong map_pid earlier) (sym p) ∙ w) refl))))
             (ap₂ (λ (i m : ℕ). passed (made i m k)) p (ap (λ (i : ℕ). 5 + i) e)
             ∙ ap (λ (x : Kind). passed (made (elementary_pid s) (entry_size s) x)) (h ∙ ap (kind_from (byte s 0)) (sym loop.2)))

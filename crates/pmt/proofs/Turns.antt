@@ -26,26 +26,26 @@ use Rattle.pmt.specs.declared.entries.Listed.{Listed}
 use Rattle.pmt.proofs.Slots.{pids_in_slots, slots_set}
 
 -- ---- one entry more
-pub none_left : (n mapPid : ℕ) (es : List MapEntry) → entries_after n mapPid es [] ≡ passed es
+pub none_left : (n map_pid : ℕ) (es : List MapEntry) → entries_after n map_pid es [] ≡ passed es
 unfolding entries_after
-none_left zero mapPid es = refl
-none_left (suc n) mapPid es = refl
+none_left zero map_pid es = refl
+none_left (suc n) map_pid es = refl
 
-pub no_place : (mapPid : ℕ) (es : List MapEntry) (s : Bytes) → 0 < length s → entries_after 0 mapPid es s ≡ refused 27 0
+pub no_place : (map_pid : ℕ) (es : List MapEntry) (s : Bytes) → 0 < length s → entries_after 0 map_pid es s ≡ refused 27 0
 unfolding entries_after
-no_place mapPid es [] h = absurd (omega arith)
-no_place mapPid es (b ∷ s) h = refl
+no_place map_pid es [] h = absurd (omega arith)
+no_place map_pid es (b ∷ s) h = refl
 
-pub one_more : (n mapPid : ℕ) (es : List MapEntry) (s : Bytes) → 0 < length s
-    → entries_after (suc n) mapPid es s ≡ (entry mapPid (pids es) s >>= λ e. entries_after n mapPid (es ++ (e ∷ [])) (drop (entry_size s) s))
+pub one_more : (n map_pid : ℕ) (es : List MapEntry) (s : Bytes) → 0 < length s
+    → entries_after (suc n) map_pid es s ≡ (entry map_pid (pids es) s >>= λ e. entries_after n map_pid (es ++ (e ∷ [])) (drop (entry_size s) s))
 unfolding entries_after
-one_more n mapPid es [] h = absurd (omega arith)
-one_more n mapPid es (b ∷ s) h = refl
+one_more n map_pid es [] h = absurd (omega arith)
+one_more n map_pid es (b ∷ s) h = refl
 
 -- an entry that passed lies within the bytes
-pub entry_within : (mapPid : ℕ) (earlier : List ℕ) (s : Bytes) (e : MapEntry) → entry mapPid earlier s ≡ passed e → entry_size s ≤ length s
+pub entry_within : (map_pid : ℕ) (earlier : List ℕ) (s : Bytes) (e : MapEntry) → entry map_pid earlier s ≡ passed e → entry_size s ≤ length s
 unfolding entry
-entry_within mapPid earlier s e p =
+entry_within map_pid earlier s e p =
     let short = given_passed 26 _ (passed_after _ _ e p).0 in
     ltb-false _ _ (or_neither (ltb (length s) 5) (ltb (length s) (entry_size s)) short).1
 
@@ -59,19 +59,19 @@ with_one_more edition (x ∷ es) e slot a =
     ∙ ap (λ (k : ℕ). with_kind (kind_of edition e) k (with_all edition es (suc slot) (with_kind (kind_of edition x) slot a))) n
 
 -- ---- the entries before a place, as the code has them, and those from there on
-pub record Turned (edition : Edition) (mapPid : ℕ) (s : Bytes) (entries : List Entry) (av1 : Av1) (count at : ℕ) : Type 0 where
+pub record Turned (edition : Edition) (map_pid : ℕ) (s : Bytes) (entries : List Entry) (av1 : Av1) (count at : ℕ) : Type 0 where
   pub within : at ≤ length s
   pub few : count ≤ 12
   pub before : List MapEntry
   pub counted : count ≡ length before
   pub slotted : entries ≡ slots before
   pub known : av1 ≡ with_all edition before 0 Missing
-  pub rest : pmt.entries mapPid s ≡ entries_after (most_entries - count) mapPid before (drop at s)
+  pub rest : pmt.entries map_pid s ≡ entries_after (most_entries - count) map_pid before (drop at s)
 
-pub turn_start : {edition : Edition} {entries : List Entry} (mapPid : ℕ) (s : Bytes) → entries ≡ no_entries
-    → Turned edition mapPid s entries Missing 0 0
+pub turn_start : {edition : Edition} {entries : List Entry} (map_pid : ℕ) (s : Bytes) → entries ≡ no_entries
+    → Turned edition map_pid s entries Missing 0 0
 unfolding slots with_all
-turn_start mapPid s e =
+turn_start map_pid s e =
     record {
       within = omega arith;
       few = omega arith;
@@ -85,15 +85,15 @@ turn_start mapPid s e =
 abbrev list : ℕ → List Entry → Av1 → Listed
 list count entries av1 = record { answer = Passed; count = count; entries = entries; av1 = av1 }
 
-module _ {edition : Edition} {mapPid : ℕ} {s : Bytes} {entries : List Entry} {av1 : Av1} {count at : ℕ}
-    (t : Turned edition mapPid s entries av1 count at) where
+module _ {edition : Edition} {map_pid : ℕ} {s : Bytes} {entries : List Entry} {av1 : Av1} {count at : ℕ}
+    (t : Turned edition map_pid s entries av1 count at) where
   -- the entries fill the bytes
-  pub turn_end : length s ≤ at → passed (list count entries av1) ≡ list_read edition mapPid s
+  pub turn_end : length s ≤ at → passed (list count entries av1) ≡ list_read edition map_pid s
   unfolding list_read ◌>>=◌
   turn_end h =
-      let e : pmt.entries mapPid s ≡ passed t.before =
-      t.rest ∙ ap (entries_after (most_entries - count) mapPid t.before) (drop_of_length-le s {i = at} h)
-      ∙ none_left _ mapPid t.before in
+      let e : pmt.entries map_pid s ≡ passed t.before =
+      t.rest ∙ ap (entries_after (most_entries - count) map_pid t.before) (drop_of_length-le s {i = at} h)
+      ∙ none_left _ map_pid t.before in
       rw e
       (ap₂ (λ (l : List Entry) (a : Av1). passed (list count l a)) t.slotted t.known
       ∙ ap (λ (n : ℕ). passed (list n (slots t.before) (with_all edition t.before 0 Missing))) t.counted)
@@ -103,57 +103,57 @@ module _ {edition : Edition} {mapPid : ℕ} {s : Bytes} {entries : List Entry} {
     some = omega (arith, length-drop at s)
 
     -- bytes remain after a twelfth
-    pub turn_full : 12 ≤ count → refused 27 0 ≡ list_read edition mapPid s
+    pub turn_full : 12 ≤ count → refused 27 0 ≡ list_read edition map_pid s
     unfolding list_read
     turn_full k =
         let n : most_entries - count ≡ 0 = omega arith in
-        stop 27 0 _ (t.rest ∙ ap (λ (m : ℕ). entries_after m mapPid t.before (drop at s)) n
-        ∙ no_place mapPid t.before (drop at s) some)
+        stop 27 0 _ (t.rest ∙ ap (λ (m : ℕ). entries_after m map_pid t.before (drop at s)) n
+        ∙ no_place map_pid t.before (drop at s) some)
 
     module _ (k : count < 12) where
       -- the next entry is tried
-      turn : pmt.entries mapPid s
-          ≡ (entry mapPid (pids t.before) (drop at s)
-          >>= λ e. entries_after (most_entries - (count + 1)) mapPid (t.before ++ (e ∷ [])) (drop (entry_size (drop at s)) (drop at s)))
+      turn : pmt.entries map_pid s
+          ≡ (entry map_pid (pids t.before) (drop at s)
+          >>= λ e. entries_after (most_entries - (count + 1)) map_pid (t.before ++ (e ∷ [])) (drop (entry_size (drop at s)) (drop at s)))
       turn =
           let n : most_entries - count ≡ suc (most_entries - (count + 1)) = omega arith in
-          t.rest ∙ ap (λ (m : ℕ). entries_after m mapPid t.before (drop at s)) n
-          ∙ one_more (most_entries - (count + 1)) mapPid t.before (drop at s) some
+          t.rest ∙ ap (λ (m : ℕ). entries_after m map_pid t.before (drop at s)) n
+          ∙ one_more (most_entries - (count + 1)) map_pid t.before (drop at s) some
 
       -- as it is lent
-      lent : tried_entry edition mapPid (pids_in entries count) (take (length s - at) (drop at s))
-          ≡ tried_entry edition mapPid (pids t.before) (drop at s)
+      lent : tried_entry edition map_pid (pids_in entries count) (take (length s - at) (drop at s))
+          ≡ tried_entry edition map_pid (pids t.before) (drop at s)
       lent =
-          ap₂ (tried_entry edition mapPid)
+          ap₂ (tried_entry edition map_pid)
           (ap₂ pids_in t.slotted t.counted ∙ pids_in_slots t.before)
           (to_end s at)
 
-      pub refines_refused : tried_entry edition mapPid (pids_in entries count) (take (length s - at) (drop at s)) ≡ refused 26 0
-          → refused 26 0 ≡ list_read edition mapPid s
+      pub refines_refused : tried_entry edition map_pid (pids_in entries count) (take (length s - at) (drop at s)) ≡ refused 26 0
+          → refused 26 0 ≡ list_read edition map_pid s
       unfolding list_read tried_entry
       refines_refused e =
-          let r : entry mapPid (pids t.before) (drop at s) ≡ refused 26 0 = refused_first _ _ 26 0 (sym lent ∙ e) in
+          let r : entry map_pid (pids t.before) (drop at s) ≡ refused 26 0 = refused_first _ _ 26 0 (sym lent ∙ e) in
           stop 26 0 _ (turn ∙ sym (stop 26 0 _ r))
 
-      module _ (x : Tried) (p : tried_entry edition mapPid (pids_in entries count) (take (length s - at) (drop at s)) ≡ passed x) where
-        next : (e : MapEntry) × (entry mapPid (pids t.before) (drop at s) ≡ passed e)
+      module _ (x : Tried) (p : tried_entry edition map_pid (pids_in entries count) (take (length s - at) (drop at s)) ≡ passed x) where
+        next : (e : MapEntry) × (entry map_pid (pids t.before) (drop at s) ≡ passed e)
             × (record { entry = listed e; size = entry_size (drop at s); kind = kind_of edition e } ≡ x)
         unfolding tried_entry
         next =
-            let q = passed_then (entry mapPid (pids t.before) (drop at s)) _ x (sym lent ∙ p) in
+            let q = passed_then (entry map_pid (pids t.before) (drop at s)) _ x (sym lent ∙ p) in
             (q.0, q.1, passed_same _ x q.2)
 
         size_is : x.size ≡ entry_size (drop at s)
         size_is = sym (ap (λ (y : Tried). y.size) next.2)
 
         pub turn_within : at + x.size ≤ length s
-        turn_within = omega (arith, size_is, entry_within mapPid (pids t.before) (drop at s) next.0 next.1, length-drop at s)
+        turn_within = omega (arith, size_is, entry_within map_pid (pids t.before) (drop at s) next.0 next.1, length-drop at s)
 
         pub turn_further : 0 < x.size
         turn_further = omega (arith, size_is)
 
         pub turn_next : (a : Av1) → a ≡ with_kind x.kind count av1
-            → Turned edition mapPid s (set entries count x.entry) a (count + 1) (at + x.size)
+            → Turned edition map_pid s (set entries count x.entry) a (count + 1) (at + x.size)
         turn_next a f =
             let e = next.0 in
             let z = size_is in
@@ -173,6 +173,6 @@ module _ {edition : Edition} {mapPid : ℕ} {s : Bytes} {entries : List Entry} {
                   ∙ sym (with_one_more edition t.before e 0 Missing);
               rest =
                   turn ∙ sym (go_on e _ next.1 refl)
-                  ∙ ap (entries_after (most_entries - (count + 1)) mapPid (t.before ++ (e ∷ [])))
+                  ∙ ap (entries_after (most_entries - (count + 1)) map_pid (t.before ++ (e ∷ [])))
                   (ap (λ (i : ℕ). drop i (drop at s)) (sym z) ∙ drop-drop x.size at s);
             }

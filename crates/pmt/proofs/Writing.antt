@@ -37,7 +37,7 @@ six d e =
     (next3 d 3 (omega arith) ∙ ap (λ (l : Bytes). byte d 3 ∷ byte d 4 ∷ byte d 5 ∷ l) (drop_of_length-le d {i = 6} (omega arith)))
     ∙ ap₂ (λ (x y : ℕ). x ∷ y ∷ byte d 2 ∷ byte d 3 ∷ byte d 4 ∷ byte d 5 ∷ []) t z
 
-module _ (program mapPid pid a b c f : ℕ) (p0 : pid ≡ 0 → ⊥) (high : pid ≤ 0x1FFE) (p2 : pid ≡ mapPid
+module _ (program map_pid pid a b c f : ℕ) (p0 : pid ≡ 0 → ⊥) (high : pid ≤ 0x1FFE) (p2 : pid ≡ map_pid
     → ⊥) (fine : wrong (0x80 ∷ 0x04 ∷ a ∷ b ∷ c ∷ f ∷ []) ≡ false) where
   abbrev video : Bytes
   video = 0x80 ∷ 0x04 ∷ a ∷ b ∷ c ∷ f ∷ []
@@ -55,15 +55,15 @@ module _ (program mapPid pid a b c f : ℕ) (p0 : pid ≡ 0 → ⊥) (high : pid
   pid_back : word (bits 4 0 (0b111 * 2 ^ 5 + pid / 256)) (pid % 256) ≡ pid
   pid_back = omega arith
 
-  pid_right : pid_wrong mapPid [] pid ≡ false
+  pid_right : pid_wrong map_pid [] pid ≡ false
   unfolding pid_wrong any
-  pid_right = rw (ne_eqb pid 0 p0, ne_eqb pid 0x1FFF (λ (e : pid ≡ 0x1FFF). omega arith), ne_eqb pid mapPid p2)
+  pid_right = rw (ne_eqb pid 0 p0, ne_eqb pid 0x1FFF (λ (e : pid ≡ 0x1FFF). omega arith), ne_eqb pid map_pid p2)
 
-  entry_read : entry mapPid [] entry_bytes ≡ passed listed
+  entry_read : entry map_pid [] entry_bytes ≡ passed listed
   unfolding entry given pick ◌>>◌ ◌>>=◌
   entry_read = rw (loop_read, pid_back, pid_right)
 
-  entries_read : entries mapPid entry_bytes ≡ passed (listed ∷ [])
+  entries_read : entries map_pid entry_bytes ≡ passed (listed ∷ [])
   unfolding entries_after ◌>>=◌
   entries_read = rw entry_read
 
@@ -77,13 +77,13 @@ module _ (program mapPid pid a b c f : ℕ) (p0 : pid ≡ 0 → ⊥) (high : pid
   up_to_entries : up_to_crc 12 (pmt program pid video) ≡ entry_bytes
   up_to_entries = ap (drop 4) (up_to_crc_lem 2 program (pmt_rest pid video) (omega arith))
 
-  pmt_read_six : read_pmt current program mapPid (pmt program pid video) ≡ passed mapped
+  pmt_read_six : read_pmt current program map_pid (pmt program pid video) ≡ passed mapped
   unfolding read_pmt descriptors_within ◌>>◌ ◌>>=◌
   pmt_read_six =
       let s = pmt program pid video in
       let n : word (program / 256) (program % 256) ≡ program = omega arith in
       let m : ltb (length (up_to_crc 12 s)) 0 ≡ false = le-ltb (length (up_to_crc 12 s)) 0 (omega arith) in
-      let k : entries mapPid (up_to_crc 12 s) ≡ passed (listed ∷ []) = ap (entries mapPid) up_to_entries ∙ entries_read in
+      let k : entries map_pid (up_to_crc 12 s) ≡ passed (listed ∷ []) = ap (entries map_pid) up_to_entries ∙ entries_read in
       sym (pass_on 26 (common_right 2 program (pmt_rest pid video) (omega arith) 16 (omega arith))
       (pass_on 26 (ap not (eq-eqb (word (program / 256) (program % 256)) program n))
       (pass_on 26 m
@@ -91,12 +91,12 @@ module _ (program mapPid pid a b c f : ℕ) (p0 : pid ≡ 0 → ⊥) (high : pid
       (go_on listed _ av1_read (ap (λ (x : ℕ). passed (record { pcr_pid = x; entries = listed ∷ []; av1 = listed })) (sym pid_back)))))))
 
 -- the same of every descriptor that 40 does not refuse
-pub pmt_read : (program mapPid pid : ℕ) (d : Bytes) → (pid ≡ 0 → ⊥) → pid ≤ 0x1FFE → (pid ≡ mapPid → ⊥) → wrong d ≡ false
-    → read_pmt current program mapPid (pmt program pid d) ≡ passed (map_for pid d)
-pmt_read program mapPid pid d p0 high p2 e =
+pub pmt_read : (program map_pid pid : ℕ) (d : Bytes) → (pid ≡ 0 → ⊥) → pid ≤ 0x1FFE → (pid ≡ map_pid → ⊥) → wrong d ≡ false
+    → read_pmt current program map_pid (pmt program pid d) ≡ passed (map_for pid d)
+pmt_read program map_pid pid d p0 high p2 e =
     let six-bytes = six d e in
-    subst (λ (x : Bytes). read_pmt current program mapPid (pmt program pid x) ≡ passed (map_for pid x)) (sym six-bytes)
-    (pmt_read_six program mapPid pid (byte d 2) (byte d 3) (byte d 4) (byte d 5) p0 high p2 (ap wrong (sym six-bytes) ∙ e))
+    subst (λ (x : Bytes). read_pmt current program map_pid (pmt program pid x) ≡ passed (map_for pid x)) (sym six-bytes)
+    (pmt_read_six program map_pid pid (byte d 2) (byte d 3) (byte d 4) (byte d 5) p0 high p2 (ap wrong (sym six-bytes) ∙ e))
 
 pub video_length : (d : Bytes) → wrong d ≡ false → length d ≡ 6
 video_length d e = ap length (six d e)

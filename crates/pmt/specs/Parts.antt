@@ -93,8 +93,8 @@ tried_says tried.Wrong = refused 26 0
 
 -- 26, or the entry at the head of s, its size and its kind
 unfoldable pub tried_entry : Edition → ℕ → List ℕ → Bytes → Verdict Tried
-tried_entry edition mapPid earlier s =
-    entry mapPid earlier s >>= λ e. passed (record { entry = listed e; size = entry_size s; kind = kind_of edition e })
+tried_entry edition map_pid earlier s =
+    entry map_pid earlier s >>= λ e. passed (record { entry = listed e; size = entry_size s; kind = kind_of edition e })
 
 -- ---- the entries
 -- what is known of the AV1 entry, with one more entry of this kind in this slot
@@ -123,7 +123,7 @@ list_says l = list_answer l.answer l
 
 -- 26, 27, or the entries
 unfoldable pub list_read : Edition → ℕ → Bytes → Verdict Listed
-list_read edition mapPid s = entries mapPid s >>= λ es. passed (list_of edition es)
+list_read edition map_pid s = entries map_pid s >>= λ es. passed (list_of edition es)
 
 -- ---- the map
 -- the map of the listed entries, or 28
@@ -138,8 +138,8 @@ listed_map pcr_pid l = map_from l.av1 pcr_pid l
 
 -- what stands behind a section's fixed fields: 26, 27, 28, or the map
 unfoldable pub body_map : Edition → ℕ → Bytes → Verdict ProgramMap
-body_map edition mapPid s = do
+body_map edition map_pid s = do
   given 26 (ltb (length (up_to_crc 12 s)) (program_info_length s))
   descriptors (program_info s)
-  l ← list_read edition mapPid (entry_bytes s)
+  l ← list_read edition map_pid (entry_bytes s)
   listed_map (pcr_pid s) l

@@ -63,14 +63,14 @@ es_info s = drop 5 (take (entry_size s) s)
 
 -- "no PID twice, none equal to 0, 0x1FFF or the map PID": of the next entry's PID and those of the earlier ones
 unfoldable pub pid_wrong : ℕ → List ℕ → ℕ → Bool
-pid_wrong mapPid earlier pid = any (eqb pid) (0 ∷ null_pid ∷ mapPid ∷ earlier)
+pid_wrong map_pid earlier pid = any (eqb pid) (0 ∷ null_pid ∷ map_pid ∷ earlier)
 
 -- the entry at the head of s, "wholly for 26", where the earlier ones have these PIDs
 unfoldable pub entry : ℕ → List ℕ → Bytes → Verdict MapEntry
-entry mapPid earlier s = do
+entry map_pid earlier s = do
   given 26 (ltb (length s) 5 || ltb (length s) (entry_size s))
   loop ← descriptors (es_info s)
-  given 26 (pid_wrong mapPid earlier (elementary_pid s))
+  given 26 (pid_wrong map_pid earlier (elementary_pid s))
   passed (record { stream_type = stream_type s; pid = elementary_pid s; descriptors = loop })
 
 abbrev pub pids : List MapEntry → List ℕ
@@ -79,19 +79,19 @@ pids es = map (λ e. e.pid) es
 -- "the entries are tried in order .. 27 is given where bytes remain after a twelfth that passed": so many may still
 -- come after the earlier ones
 unfoldable pub entries_after : ℕ → ℕ → List MapEntry → Bytes → Verdict (List MapEntry)
-entries_after zero mapPid earlier [] = passed earlier
-entries_after zero mapPid earlier (b ∷ s) = refused 27 0
-entries_after (suc n) mapPid earlier [] = passed earlier
-entries_after (suc n) mapPid earlier (b ∷ s) = do
-  e ← entry mapPid (pids earlier) (b ∷ s)
-  entries_after n mapPid (earlier ++ (e ∷ [])) (drop (entry_size (b ∷ s)) (b ∷ s))
+entries_after zero map_pid earlier [] = passed earlier
+entries_after zero map_pid earlier (b ∷ s) = refused 27 0
+entries_after (suc n) map_pid earlier [] = passed earlier
+entries_after (suc n) map_pid earlier (b ∷ s) = do
+  e ← entry map_pid (pids earlier) (b ∷ s)
+  entries_after n map_pid (earlier ++ (e ∷ [])) (drop (entry_size (b ∷ s)) (b ∷ s))
 
 -- "12 streams in a program map"
 abbrev pub most_entries : ℕ
 most_entries = 12
 
 abbrev pub entries : ℕ → Bytes → Verdict (List MapEntry)
-entries mapPid s = entries_after most_entries mapPid [] s
+entries map_pid s = entries_after most_entries map_pid [] s
 
 -- ---- the AV1 entry
 -- 28 "the AV1 entry has two video descriptors or one refused by 40": of its video descriptors
@@ -165,11 +165,11 @@ entry_bytes s = drop (program_info_length s) (up_to_crc 12 s)
 
 -- what a PMT section says, or 26, 27, 28; the fixed fields are twelve bytes, the CRC four
 unfoldable pub read_pmt : Edition → ℕ → ℕ → Bytes → Verdict MapContent
-read_pmt edition program mapPid s = do
+read_pmt edition program map_pid s = do
   given 26 (common_wrong 2 16 s)
   given 26 (not (eqb (table_id_extension s) program))
   given 26 (ltb (length (up_to_crc 12 s)) (program_info_length s))
   descriptors (program_info s)
-  es ← entries mapPid (entry_bytes s)
+  es ← entries map_pid (entry_bytes s)
   e ← av1_entry edition es
   passed (record { pcr_pid = pcr_pid s; entries = es; av1 = e })

@@ -111,30 +111,30 @@ pub length_payload : (s : Bytes) → length s ≤ 183 → length (section_payloa
 length_payload s h = omega (arith, length-append s (replicate (183 - length s) 0xFF), length-replicate {A = ℕ} (183 - length s) 0xFF)
 
 -- ---- the PAT
-module _ (program mapPid : ℕ) (some : program ≡ 0 → ⊥) (low : 0x0010 ≤ mapPid) (high : mapPid ≤ 0x1FFE) where
+module _ (program map_pid : ℕ) (some : program ≡ 0 → ⊥) (low : 0x0010 ≤ map_pid) (high : map_pid ≤ 0x1FFE) where
   abbrev pub said : Program
-  said = record { number = program; map_pid = mapPid }
+  said = record { number = program; map_pid = map_pid }
 
-  one_entry : entry_of (program / 256) (program % 256) (0b111 * 2 ^ 5 + mapPid / 256) (mapPid % 256) ≡ said
+  one_entry : entry_of (program / 256) (program % 256) (0b111 * 2 ^ 5 + map_pid / 256) (map_pid % 256) ≡ said
   one_entry =
       let n : word (program / 256) (program % 256) ≡ program = omega arith in
-      let m : word (bits 4 0 (0b111 * 2 ^ 5 + mapPid / 256)) (mapPid % 256) ≡ mapPid = omega arith in
+      let m : word (bits 4 0 (0b111 * 2 ^ 5 + map_pid / 256)) (map_pid % 256) ≡ map_pid = omega arith in
       ap₂ (λ (x y : ℕ). record { number = x; map_pid = y }) n m
 
   in_range : map_pid_in_range said ≡ passed said
   unfolding map_pid_in_range
-  in_range = sym (pass_on 25 (le-ltb mapPid 0x0010 low) (pass_on 25 (le-ltb 0x1FFE mapPid high) refl))
+  in_range = sym (pass_on 25 (le-ltb map_pid 0x0010 low) (pass_on 25 (le-ltb 0x1FFE map_pid high) refl))
 
-  one_program_lem : one_program (those not_zero (programs (pat_rest program mapPid))) ≡ passed said
+  one_program_lem : one_program (those not_zero (programs (pat_rest program map_pid))) ≡ passed said
   unfolding programs one_program those
   one_program_lem =
       ap (λ (p : Program). one_program (those not_zero (p ∷ []))) one_entry
       ∙ ap one_program (those_first not_zero said [] (ap not (ne_eqb program 0 some))) ∙ in_range
 
-  pub pat_read : read_pat (pat program mapPid) ≡ passed said
+  pub pat_read : read_pat (pat program map_pid) ≡ passed said
   unfolding read_pat
   pat_read =
-      let e : up_to_crc 8 (pat program mapPid) ≡ pat_rest program mapPid = up_to_crc_lem 0 0 (pat_rest program mapPid) (omega arith) in
-      let m : not (eqb (length (up_to_crc 8 (pat program mapPid)) % 4) 0) ≡ false = ap (λ (s : Bytes). not (eqb (length s % 4) 0)) e in
-      sym (pass_on 25 (common_right 0 0 (pat_rest program mapPid) (omega arith) 12 (omega arith))
+      let e : up_to_crc 8 (pat program map_pid) ≡ pat_rest program map_pid = up_to_crc_lem 0 0 (pat_rest program map_pid) (omega arith) in
+      let m : not (eqb (length (up_to_crc 8 (pat program map_pid)) % 4) 0) ≡ false = ap (λ (s : Bytes). not (eqb (length s % 4) 0)) e in
+      sym (pass_on 25 (common_right 0 0 (pat_rest program map_pid) (omega arith) 12 (omega arith))
       (pass_on 25 m (sym (ap (λ (s : Bytes). one_program (those not_zero (programs s))) e ∙ one_program_lem))))

@@ -44,7 +44,7 @@ section_payload s = 0 ∷ s ++ replicate (183 - length s) 0xFF
 
 -- ---- the PAT: of transport_stream_id 0, one program with its map PID
 abbrev pub pat_rest : ℕ → ℕ → Bytes
-pat_rest program mapPid = program / 256 ∷ program % 256 ∷ pid_bytes mapPid
+pat_rest program map_pid = program / 256 ∷ program % 256 ∷ pid_bytes map_pid
 
 abbrev pub pat : ℕ → ℕ → Bytes
-pat program mapPid = section 0 0 (pat_rest program mapPid)
+pat program map_pid = section 0 0 (pat_rest program map_pid)

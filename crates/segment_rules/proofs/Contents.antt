@@ -185,12 +185,12 @@ module _ (edition : Edition) (rooms : Rooms) (s : Bytes) (a : Accepted) (e : che
 abbrev pub EntryRight : MapEntry → Type 0
 EntryRight e = (e.pid ≤ 0x1FFE) × (e.stream_type ≤ 255)
 
-entry_right : (mapPid : ℕ) (earlier : List ℕ) (s : Bytes) (e : MapEntry) → Octets s → entry mapPid earlier s ≡ passed e → EntryRight e
+entry_right : (map_pid : ℕ) (earlier : List ℕ) (s : Bytes) (e : MapEntry) → Octets s → entry map_pid earlier s ≡ passed e → EntryRight e
 unfolding entry pid_wrong any
-entry_right mapPid earlier s e o h =
+entry_right map_pid earlier s e o h =
     let k = passed_then _ _ e (passed_after _ _ e h).1 in
     let q = passed_after _ _ e k.2 in
-    let behind = eqb (elementary_pid s) mapPid || any (eqb (elementary_pid s)) earlier in
+    let behind = eqb (elementary_pid s) map_pid || any (eqb (elementary_pid s)) earlier in
     let wrong = given_passed 26 _ q.0 in
     let null = (or_neither (eqb (elementary_pid s) null_pid) behind
     (or_neither (eqb (elementary_pid s) 0) (eqb (elementary_pid s) null_pid || behind) wrong).1).0 in
@@ -200,27 +200,27 @@ entry_right mapPid earlier s e o h =
     most : (n : ℕ) → n < 8192 → (n ≡ null_pid → ⊥) → n ≤ 0x1FFE
     most n h k = case (eqb n null_pid) (λ t. absurd (k (eqb-true n null_pid t))) (λ t. omega (arith, h, eqb-false n null_pid t))
 
-entries_right : (n mapPid : ℕ) (earlier es : List MapEntry) (s : Bytes) → Octets s → entries_after n mapPid earlier s ≡ passed es
+entries_right : (n map_pid : ℕ) (earlier es : List MapEntry) (s : Bytes) → Octets s → entries_after n map_pid earlier s ≡ passed es
     → All EntryRight earlier → All EntryRight es
 unfolding entries_after
-entries_right zero mapPid earlier es [] o e h = subst (All EntryRight) (passed_same earlier es e) h
-entries_right zero mapPid earlier es (b ∷ s) o e h = never e
-entries_right (suc n) mapPid earlier es [] o e h = subst (All EntryRight) (passed_same earlier es e) h
-entries_right (suc n) mapPid earlier es (b ∷ s) o e h =
-    let k = passed_then (entry mapPid (pids earlier) (b ∷ s)) _ es e in
-    entries_right n mapPid (earlier ++ (k.0 ∷ [])) es (drop (entry_size (b ∷ s)) (b ∷ s)) (octets_drop (b ∷ s) (entry_size (b ∷ s)) o) k.2
-    (all_and_one EntryRight earlier k.0 h (entry_right mapPid (pids earlier) (b ∷ s) k.0 o k.1))
+entries_right zero map_pid earlier es [] o e h = subst (All EntryRight) (passed_same earlier es e) h
+entries_right zero map_pid earlier es (b ∷ s) o e h = never e
+entries_right (suc n) map_pid earlier es [] o e h = subst (All EntryRight) (passed_same earlier es e) h
+entries_right (suc n) map_pid earlier es (b ∷ s) o e h =
+    let k = passed_then (entry map_pid (pids earlier) (b ∷ s)) _ es e in
+    entries_right n map_pid (earlier ++ (k.0 ∷ [])) es (drop (entry_size (b ∷ s)) (b ∷ s)) (octets_drop (b ∷ s) (entry_size (b ∷ s)) o) k.2
+    (all_and_one EntryRight earlier k.0 h (entry_right map_pid (pids earlier) (b ∷ s) k.0 o k.1))
 
 -- a map that was read from bytes
 abbrev pub StreamsRight : MapContent → Type 0
 StreamsRight m = (length m.entries ≤ most_entries) × All EntryRight m.entries
 
-map_right : (edition : Edition) (program mapPid : ℕ) (section : Bytes) (m : MapContent) → Octets section
-    → read_pmt edition program mapPid section ≡ passed m → StreamsRight m
-map_right edition program mapPid section m o e =
-    let s = says edition program mapPid section m e in (
-      at_most_twelve mapPid (entry_bytes section) m.entries s.listed,
-      entries_right most_entries mapPid [] m.entries (entry_bytes section) (entry_octets section o) s.listed tt,
+map_right : (edition : Edition) (program map_pid : ℕ) (section : Bytes) (m : MapContent) → Octets section
+    → read_pmt edition program map_pid section ≡ passed m → StreamsRight m
+map_right edition program map_pid section m o e =
+    let s = says edition program map_pid section m e in (
+      at_most_twelve map_pid (entry_bytes section) m.entries s.listed,
+      entries_right most_entries map_pid [] m.entries (entry_bytes section) (entry_octets section o) s.listed tt,
     )
 
 -- ---- the first PMT of a run
@@ -230,8 +230,8 @@ section_octets p o = octets_take (section_size (behind_pointer (payload p))) (dr
 
 -- what holds of each map that is read from packets of this kind holds of the accepted one
 module _ (edition : Edition) (P : MapContent → Type 0) (Q : Bytes → Type 0)
-    (reads : (program mapPid : ℕ) (p : Bytes) (m : MapContent) → Q p →
-    read_pmt edition program mapPid (section_of (payload p)) ≡ passed m → P m) where
+    (reads : (program map_pid : ℕ) (p : Bytes) (m : MapContent) → Q p →
+    read_pmt edition program map_pid (section_of (payload p)) ≡ passed m → P m) where
   abbrev PmtRight : Option FirstPmt → Type 0
   PmtRight none = Unit {0}
   PmtRight (some first) = P first.says
@@ -308,9 +308,9 @@ pub streams_few : (edition : Edition) (rooms : Rooms) (s : Bytes) (a : Accepted)
     → length a.map.entries ≤ most_entries
 streams_few edition rooms s a e =
     map_holds edition (λ m. length m.entries ≤ most_entries) (λ p. Unit {0})
-    (λ program mapPid p m q r.
-    at_most_twelve mapPid (entry_bytes (section_of (payload p))) m.entries
-    (says edition program mapPid (section_of (payload p)) m r).listed)
+    (λ program map_pid p m q r.
+    at_most_twelve map_pid (entry_bytes (section_of (payload p))) m.entries
+    (says edition program map_pid (section_of (payload p)) m r).listed)
     rooms s a e (all_any (packets s))
 
 -- ---- of an accepted segment of bytes
@@ -319,7 +319,7 @@ module _ (edition : Edition) (rooms : Rooms) (s : Bytes) (a : Accepted) (e : che
   pub streams_right : StreamsRight a.map
   streams_right =
       map_holds edition StreamsRight Octets
-      (λ program mapPid p m q r. map_right edition program mapPid (section_of (payload p)) m (section_octets p q) r)
+      (λ program map_pid p m q r. map_right edition program map_pid (section_of (payload p)) m (section_octets p q) r)
       rooms s a e (packets_octets (length s / packet_length) s o)
 
   -- "a time passes 8,589,934,592" nowhere

@@ -122,16 +122,16 @@ NoneIn edition e = any (is_registration edition) e.descriptors ≡ false
 
 -- none of a section's entries has one, if it has entries
 abbrev pub Unregistered : Edition → Bytes → Type 0
-Unregistered edition section = (mapPid : ℕ) (es : List MapEntry) → entries mapPid (entry_bytes section) ≡ passed es → All (NoneIn edition) es
+Unregistered edition section = (map_pid : ℕ) (es : List MapEntry) → entries map_pid (entry_bytes section) ≡ passed es → All (NoneIn edition) es
 
 -- the reading of a section that is right up to 28, which then is given
 right_up_to28 : ℕ → ℕ → Bytes → Verdict MapContent
-right_up_to28 program mapPid section = do
+right_up_to28 program map_pid section = do
   given 26 (common_wrong 2 16 section)
   given 26 (not (eqb (table_id_extension section) program))
   given 26 (ltb (length (up_to_crc 12 section)) (program_info_length section))
   descriptors (program_info section)
-  es ← entries mapPid (entry_bytes section)
+  es ← entries map_pid (entry_bytes section)
   refused 28 0
 
 module _ (edition : Edition) where
@@ -164,24 +164,24 @@ module _ (edition : Edition) where
   refused_28 es h = rw (none_misplaced es h, no_av1 es h)
 
   -- so its reading ends in 28, where the section is right up to there
-  pmt_not : (program mapPid : ℕ) (section : Bytes) → Unregistered edition section
-      → read_pmt edition program mapPid section ≡ right_up_to28 program mapPid section
+  pmt_not : (program map_pid : ℕ) (section : Bytes) → Unregistered edition section
+      → read_pmt edition program map_pid section ≡ right_up_to28 program map_pid section
   unfolding read_pmt right_up_to28 ◌>>=◌
-  pmt_not program mapPid section h =
+  pmt_not program map_pid section h =
       then_same _ (then_same _ (then_same _ (then_same _
-      (bind_where (entries mapPid (entry_bytes section)) _ _
+      (bind_where (entries map_pid (entry_bytes section)) _ _
       (λ es k. ap (λ (v : Verdict MapEntry). v >>= λ e. passed (record { pcr_pid = pcr_pid section; entries = es; av1 = e }))
-      (refused_28 es (h mapPid es k)))))))
+      (refused_28 es (h map_pid es k)))))))
 
-  pmt_never : (program mapPid : ℕ) (section : Bytes) (m : MapContent) → Unregistered edition section
-      → read_pmt edition program mapPid section ≡ passed m → ⊥
+  pmt_never : (program map_pid : ℕ) (section : Bytes) (m : MapContent) → Unregistered edition section
+      → read_pmt edition program map_pid section ≡ passed m → ⊥
   unfolding right_up_to28
-  pmt_never program mapPid section m h e =
-      let a = passed_so (given 26 (common_wrong 2 16 section)) _ m (sym (pmt_not program mapPid section h) ∙ e) in
+  pmt_never program map_pid section m h e =
+      let a = passed_so (given 26 (common_wrong 2 16 section)) _ m (sym (pmt_not program map_pid section h) ∙ e) in
       let b = passed_so (given 26 (not (eqb (table_id_extension section) program))) _ m a.2 in
       let c = passed_so (given 26 (ltb (length (up_to_crc 12 section)) (program_info_length section))) _ m b.2 in
       let d = passed_so (descriptors (program_info section)) _ m c.2 in
-      never (passed_then (entries mapPid (entry_bytes section)) (λ es. refused 28 0) m d.2).2
+      never (passed_then (entries map_pid (entry_bytes section)) (λ es. refused 28 0) m d.2).2
 
 -- ---- the verdict of two editions
 -- no section of the packet has a registration of either kind

@@ -64,9 +64,9 @@ module _ (P : State → Type 0) where
   sequence_keeps (r ∷ rules) k st h = holds_after P P (r st) (in_sequence rules) (k.0 st h) (sequence_keeps rules k.1)
 
   -- a rule that only may refuse
-  pub rule_keeps : (i : ℕ) (p : Bytes) (number : ℕ) (givenWhen : State → Bool) → Keeps P (rule i p number givenWhen)
+  pub rule_keeps : (i : ℕ) (p : Bytes) (number : ℕ) (given_when : State → Bool) → Keeps P (rule i p number given_when)
   unfolding rule
-  rule_keeps i p number givenWhen st h = holds_then P _ _ (λ _ _. h)
+  rule_keeps i p number given_when st h = holds_then P _ _ (λ _ _. h)
 
 -- the rest is left out for a repeated packet
 pub holds_unless : (P : State → Type 0) (p : Bytes) (rest : Rule) (st : State) → P st → Holds P (rest st) → Holds P (unless_repeat p rest st)

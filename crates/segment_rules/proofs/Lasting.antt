@@ -40,8 +40,8 @@ module _ (edition : Edition) (rooms : Rooms) (P : Tables → Type 0) (W : ℕ �
 
   -- ---- a packet
   module _ (i : ℕ) (p : Bytes) (w : W i p) where
-    off : (number : ℕ) (givenWhen : State → Bool) → Keeps In (rule i p number givenWhen)
-    off number givenWhen = rule_keeps In i p number givenWhen
+    off : (number : ℕ) (given_when : State → Bool) → Keeps In (rule i p number given_when)
+    off number given_when = rule_keeps In i p number given_when
 
     pub to_24 : Keeps In (in_sequence (up_to24 i p))
     unfolding rule21 rule22 rule23 pcr_counts rule24

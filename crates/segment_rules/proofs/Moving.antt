@@ -51,8 +51,8 @@ module _ (i : ℕ) (p : Bytes) where
   unfolding rule21 rule22 rule23 pcr_counts rule24
   units_to_24 Q = sequence_keeps _ (up_to24 i p) (off 21 _, (off 22 _, (off 23 _, (units_kept Q _, (units_kept Q _, tt)))))
     where
-      off : (number : ℕ) (givenWhen : State → Bool) → Keeps (λ (st : State). Q st.extraction) (rule i p number givenWhen)
-      off number givenWhen = rule_keeps (λ (st : State). Q st.extraction) i p number givenWhen
+      off : (number : ℕ) (given_when : State → Bool) → Keeps (λ (st : State). Q st.extraction) (rule i p number given_when)
+      off number given_when = rule_keeps (λ (st : State). Q st.extraction) i p number given_when
 
   pub units_after_24 : (st st' : State) → in_sequence (up_to24 i p) st ≡ passed st' → st'.extraction ≡ st.extraction
   units_after_24 st st' e =

@@ -79,12 +79,12 @@ module _ (t : Tables) (h : Named t) where
       holds_each Named _ _
       (λ program r. let first : FirstPat = record { packet = i; section = section; says = program } in
       let m = program.map_pid in
-      let nonePmt = pat_before t.pat t.pmt e h.pat_first in
+      let none_pmt = pat_before t.pat t.pmt e h.pat_first in
       record {
         pat_first = tt;
         pids =
             all_pids (m ∷ []) ∙ ap (λ (x : Option FirstPat). named_pids x t.pmt ++ (m ∷ [])) e
-            ∙ ap (named_pids (some first)) (sym nonePmt);
+            ∙ ap (named_pids (some first)) (sym none_pmt);
         null = also_named (m ∷ [])
             (ne_eqb m null_pid (λ z. absurd (omega (arith, ltb-false 0x1FFE m (map_pid_in_range_lem section program r)))), tt);
       })

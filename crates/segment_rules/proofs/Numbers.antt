@@ -79,18 +79,18 @@ module _ (number : ℕ) (apart : (n : ℕ) → eqb n 8 ≡ false → eqb n 30 �
   loop_said (suc n) [] = tt
   loop_said (suc n) (b ∷ s) = try 26 _ _ refl refl (refuses_bind _ _ _ (loop_said n _) (λ _ _. tt))
 
-  entry_said : (mapPid : ℕ) (earlier : List ℕ) (s : Bytes) → Without number (entry mapPid earlier s)
+  entry_said : (map_pid : ℕ) (earlier : List ℕ) (s : Bytes) → Without number (entry map_pid earlier s)
   unfolding entry
-  entry_said mapPid earlier s =
+  entry_said map_pid earlier s =
       try 26 _ _ refl refl (refuses_bind _ _ _ (loop_said _ _) (λ _ _. try 26 _ _ refl refl tt))
 
-  entries_said : (n mapPid : ℕ) (earlier : List MapEntry) (s : Bytes) → Without number (entries_after n mapPid earlier s)
+  entries_said : (n map_pid : ℕ) (earlier : List MapEntry) (s : Bytes) → Without number (entries_after n map_pid earlier s)
   unfolding entries_after
-  entries_said zero mapPid earlier [] = tt
-  entries_said zero mapPid earlier (b ∷ s) = apart 27 refl refl
-  entries_said (suc n) mapPid earlier [] = tt
-  entries_said (suc n) mapPid earlier (b ∷ s) = refuses_bind _ _ _ (entry_said mapPid _ (b ∷ s))
-      (λ e _. entries_said n mapPid (earlier ++ (e ∷ [])) (drop (entry_size (b ∷ s)) (b ∷ s)))
+  entries_said zero map_pid earlier [] = tt
+  entries_said zero map_pid earlier (b ∷ s) = apart 27 refl refl
+  entries_said (suc n) map_pid earlier [] = tt
+  entries_said (suc n) map_pid earlier (b ∷ s) = refuses_bind _ _ _ (entry_said map_pid _ (b ∷ s))
+      (λ e _. entries_said n map_pid (earlier ++ (e ∷ [])) (drop (entry_size (b ∷ s)) (b ∷ s)))
 
   one_said : (edition : Edition) (l : List MapEntry) → Without number (one_av1 edition l)
   unfolding one_av1
@@ -102,14 +102,14 @@ module _ (number : ℕ) (apart : (n : ℕ) → eqb n 8 ≡ false → eqb n 30 �
   unfolding av1_entry
   av1_said edition es = try 28 _ _ refl refl (one_said edition _)
 
-  pmt_said : (edition : Edition) (program mapPid : ℕ) (s : Bytes) → Without number (read_pmt edition program mapPid s)
+  pmt_said : (edition : Edition) (program map_pid : ℕ) (s : Bytes) → Without number (read_pmt edition program map_pid s)
   unfolding read_pmt
-  pmt_said edition program mapPid s =
+  pmt_said edition program map_pid s =
       try 26 _ _ refl refl
       (try 26 _ _ refl refl
       (try 26 _ _ refl refl
       (refuses_then _ _ _ (loop_said _ _) (λ _ _.
-      refuses_bind _ _ _ (entries_said _ mapPid [] _) (λ es _.
+      refuses_bind _ _ _ (entries_said _ map_pid [] _) (λ es _.
       refuses_bind _ _ _ (av1_said edition es) (λ _ _. tt))))))
 
   pat_section_said : (i : ℕ) (pat : Option FirstPat) (section : Bytes) (t : Tables) → Without number (pat_section i pat section t)
@@ -143,10 +143,10 @@ module _ (number : ℕ) (apart : (n : ℕ) → eqb n 8 ≡ false → eqb n 30 �
   sequence_apart [] h st = tt
   sequence_apart (r ∷ rules) h st = refuses_bind _ (r st) (in_sequence rules) (h.0 st) (λ st1 _. sequence_apart rules h.1 st1)
 
-  pub rule_apart : (i : ℕ) (p : Bytes) (n : ℕ) (givenWhen : State → Bool) → eqb n 8 ≡ false → eqb n 30 ≡ false
-      → Apart (rule i p n givenWhen)
+  pub rule_apart : (i : ℕ) (p : Bytes) (n : ℕ) (given_when : State → Bool) → eqb n 8 ≡ false → eqb n 30 ≡ false
+      → Apart (rule i p n given_when)
   unfolding rule
-  rule_apart i p n givenWhen e8 e30 st = refuses_then _ _ _ (refuses_at _ i _ (one n _ e8 e30)) (λ _ _. tt)
+  rule_apart i p n given_when e8 e30 st = refuses_then _ _ _ (refuses_at _ i _ (one n _ e8 e30)) (λ _ _. tt)
 
   tables_apart : (f : Tables → Verdict Tables) → ((t : Tables) → Without number (f t)) → Apart (on_tables f)
   unfolding on_tables

@@ -168,7 +168,7 @@ is_av1 Unlisted = false
 module _ (i : ℕ) (p : Bytes) where
   -- "Place is the packet index unless said."
   unfoldable pub rule : ℕ → (State → Bool) → Rule
-  rule number givenWhen st = at_place i (given number (givenWhen st)) >> passed st
+  rule number given_when st = at_place i (given number (given_when st)) >> passed st
 
   -- 21 "first byte is not 0x47"
   unfoldable pub rule21 : Rule

@@ -36,10 +36,10 @@ module _ (r : Refused) where
   refused_by_lem (passed a) f e = never e
   refused_by_lem (refused number place) f e = same_refusal {A = Summary} _ _ number place e
 
-  pub refused-writes : (n : ℕ) (rooms : Rooms) (s : Bytes) (room : ℕ) → refused_by r ≡ checking n rooms s
+  pub refused_writes : (n : ℕ) (rooms : Rooms) (s : Bytes) (room : ℕ) → refused_by r ≡ checking n rooms s
       → refused_by r ≡ sheet_writing n rooms s room
   unfolding sheet_writing
-  refused-writes n rooms s room e = refused_by_lem (check_in n rooms s) _ e
+  refused_writes n rooms s room e = refused_by_lem (check_in n rooms s) _ e
 
   pub refused_stays : (v : Verdict Accepted) (sheet : Bytes) → refused_by r ≡ summarised v → sheet ≡ sheet_after v sheet
   unfolding summarised ◌>>=◌ sheet_after
@@ -48,10 +48,10 @@ module _ (r : Refused) where
 
 -- ---- it accepted
 -- what is left in the sheet
-sheet-left : (c : Content) (sheet : Bytes) → leaves (putting c (length sheet)) (sheet_of c) sheet
+sheet_left : (c : Content) (sheet : Bytes) → leaves (putting c (length sheet)) (sheet_of c) sheet
     ≡ pick (ltb (length sheet) (length (sheet_of c))) sheet (over (sheet_of c) sheet)
 unfolding leaves putting given pick ◌>>◌
-sheet-left c sheet = go (ltb (length sheet) (length (sheet_of c)))
+sheet_left c sheet = go (ltb (length sheet) (length (sheet_of c)))
   where
     go : (b : Bool) → leaves (given 8 b >> passed (length (sheet_of c))) (sheet_of c) sheet ≡ pick b sheet (over (sheet_of c) sheet)
     go true = refl
@@ -91,17 +91,17 @@ module _ (n : ℕ) (s : Bytes) (before : Outputs) (firsts₀ : List ℕ) (long :
   unfolding outputs_after
   bytes_are = ap (λ (o : Outputs). o.bytes) after_is
 
-  lens-are : after.lens ≡ lengths units ++ drop (length (lengths units)) before.lens
+  lens_are : after.lens ≡ lengths units ++ drop (length (lengths units)) before.lens
   unfolding outputs_after
-  lens-are = ap (λ (o : Outputs). o.lens) after_is
+  lens_are = ap (λ (o : Outputs). o.lens) after_is
 
-  times-are : after.times ≡ times_in_turn units ++ drop (length (times_in_turn units)) before.times
+  times_are : after.times ≡ times_in_turn units ++ drop (length (times_in_turn units)) before.times
   unfolding outputs_after
-  times-are = ap (λ (o : Outputs). o.times) after_is
+  times_are = ap (λ (o : Outputs). o.times) after_is
 
-  firsts-are : firsts ≡ first_packets units ++ drop (length (first_packets units)) firsts₀
+  firsts_are : firsts ≡ first_packets units ++ drop (length (first_packets units)) firsts₀
   unfolding firsts_after
-  firsts-are =
+  firsts_are =
       let few = (accepted_fits named.0 rooms s a named.2).few in
       ef ∙ ap (λ (v : Verdict Accepted). firsts_after v firsts₀) found.1
       ∙ ap (λ (w : List ℕ). over w firsts₀)
@@ -113,24 +113,24 @@ module _ (n : ℕ) (s : Bytes) (before : Outputs) (firsts₀ : List ℕ) (long :
   pub ready : HandedOut m x.units firsts after.lens after.times after.bytes
   ready =
       handed_out named.0 rooms s a named.2 m x.units firsts after.lens after.times after.bytes _ _ _ _ map_is count_is
-      firsts-are
-      lens-are times-are bytes_are
+      firsts_are
+      lens_are times_are bytes_are
 
-  content-is : content ≡ content_of a
-  content-is =
+  content_is : content ≡ content_of a
+  content_is =
       handed_content named.0 rooms s a named.2 m x.units firsts after.lens after.times after.bytes _ _ _ _ map_is
       count_is
-      firsts-are lens-are times-are bytes_are
+      firsts_are lens_are times_are bytes_are
 
-  pub accepted-writes : (v : Verdict ℕ) (room : ℕ) → v ≡ putting content room → v ≡ sheet_writing n rooms s room
+  pub accepted_writes : (v : Verdict ℕ) (room : ℕ) → v ≡ putting content room → v ≡ sheet_writing n rooms s room
   unfolding sheet_writing putting
-  accepted-writes v room e = go_on a _ found.1 (e ∙ ap (λ (c : Content). putting c room) content-is)
+  accepted_writes v room e = go_on a _ found.1 (e ∙ ap (λ (c : Content). putting c room) content_is)
 
-  pub accepted-leaves : (v : Verdict ℕ) (sheet sheet' : Bytes) → v ≡ putting content (length sheet)
+  pub accepted_leaves : (v : Verdict ℕ) (sheet sheet' : Bytes) → v ≡ putting content (length sheet)
       → sheet' ≡ leaves v (sheet_of content) sheet → sheet' ≡ sheet_after (check_in n rooms s) sheet
   unfolding sheet_after
-  accepted-leaves v sheet sheet' e f =
+  accepted_leaves v sheet sheet' e f =
       f ∙ ap (λ (w : Verdict ℕ). leaves w (sheet_of content) sheet) e
-      ∙ ap (λ (c : Content). leaves (putting c (length sheet)) (sheet_of c) sheet) content-is
-      ∙ sheet-left (content_of a) sheet
+      ∙ ap (λ (c : Content). leaves (putting c (length sheet)) (sheet_of c) sheet) content_is
+      ∙ sheet_left (content_of a) sheet
       ∙ ap (λ (w : Verdict Accepted). sheet_after w sheet) (sym found.1)

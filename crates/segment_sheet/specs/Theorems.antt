@@ -12,7 +12,7 @@ use Rattle.segment_rules.specs.Rules.{Rooms}
 use Rattle.segment_rules.specs.Check.{Accepted, Outputs, check_in, lengths, outputs_after}
 use Rattle.sheet.specs.declared.rows.UnitRow.{UnitRow}
 use Rattle.sheet.specs.Reading.{wrong, finding}
-use Rattle.sheet.specs.Reading.{content_of as contentRead}
+use Rattle.sheet.specs.Reading.{content_of as content_read}
 use Rattle.segment_sheet.specs.Content.{unit_of, content_of, sheet_beside}
 
 -- "The reader gives back what was written": the sheet of an accepted segment is read without 45, and the content read
@@ -20,7 +20,7 @@ use Rattle.segment_sheet.specs.Content.{unit_of, content_of, sheet_beside}
 abbrev pub WrittenIsRead : Type 0
 WrittenIsRead =
     (n : ℕ) (rooms : Rooms) (s : Bytes) (a : Accepted) → Octets s → check_in n rooms s ≡ passed a
-    → (wrong (sheet_beside a) ≡ false) × (contentRead (sheet_beside a) ≡ content_of a)
+    → (wrong (sheet_beside a) ≡ false) × (content_read (sheet_beside a) ≡ content_of a)
 
 -- the unit with this number, and its row
 unfoldable pub numbered : List AccessUnit → ℕ → Option AccessUnit

@@ -9,7 +9,7 @@ use Rattle.sequence.specs.Bits.{Outcome, read, cut_short}
 use Rattle.sequence.specs.Header.{header_of}
 use Rattle.sequence.specs.declared.fields.Sequence.{Sequence}
 use Rattle.sequence.specs.declared.header.SequenceRead.{SequenceRead}
-use Rattle.sequence.specs.declared.header.SequenceRead.TheVariants as sequenceRead
+use Rattle.sequence.specs.declared.header.SequenceRead.TheVariants as sequence_read
 use Rattle.sequence.specs.declared.comparing.Difference.{Difference}
 use Rattle.sequence.specs.declared.comparing.Difference.TheVariants as difference
 use Rattle.sequence.specs.declared.comparing.Compared.{Compared}
@@ -53,8 +53,8 @@ comparing content d = do
 
 -- ---- what the answers of the code say
 abbrev pub read_says : SequenceRead → Verdict Sequence
-read_says (sequenceRead.Fields h) = passed h
-read_says (sequenceRead.Refused r) = refused_by r
+read_says (sequence_read.Fields h) = passed h
+read_says (sequence_read.Refused r) = refused_by r
 
 abbrev pub compared_says : Compared → Verdict Difference
 compared_says (compared.Difference d) = passed d

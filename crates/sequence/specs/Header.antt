@@ -21,11 +21,11 @@ timing_info = do
 -- ---- decoder_model_info (5.5.4): how many bits a buffer delay has
 unfoldable pub decoder_model_info : Reader ℕ
 decoder_model_info = do
-  minusOne ← f 5  -- buffer_delay_length_minus_1
+  minus_one ← f 5  -- buffer_delay_length_minus_1
   skip 32  -- num_units_in_decoding_tick
   skip 5  -- buffer_removal_time_length_minus_1
   skip 5  -- frame_presentation_time_length_minus_1
-  return (minusOne + 1)
+  return (minus_one + 1)
 
 -- the two of them: how many bits a buffer delay has, 0 where decoder_model_info_present_flag is 0
 unfoldable pub timed_model : Reader ℕ
@@ -71,9 +71,9 @@ unfoldable pub operating_points : Reader Point
 operating_points = do
   length ← delay_length
   delay_present ← flag  -- initial_display_delay_present_flag
-  minusOne ← f 5  -- operating_points_cnt_minus_1
+  minus_one ← f 5  -- operating_points_cnt_minus_1
   first ← operating_point length delay_present
-  times minusOne (operating_point length delay_present)
+  times minus_one (operating_point length delay_present)
   return first
 
 -- under reduced_still_picture_header
@@ -122,11 +122,11 @@ inter_tools = do
   skip 1  -- enable_masked_compound
   skip 1  -- enable_warped_motion
   skip 1  -- enable_dual_filter
-  orderHint ← flag  -- enable_order_hint
-  when orderHint order_tools
+  order_hint ← flag  -- enable_order_hint
+  when order_hint order_tools
   tools ← screen_tools
   when (ltb 0 tools) integer_mv
-  when orderHint (skip 3)  -- order_hint_bits_minus_1
+  when order_hint (skip 3)  -- order_hint_bits_minus_1
 
 -- ---- color_config (5.5.2); `Color` and `Description` are in src/color.rt
 unfoldable pub described_color : Reader Description
@@ -162,10 +162,10 @@ coded_subsampling = do
 
 -- by profile; BitDepth is 12 where twelve_bit is 1
 unfoldable pub subsampling : ℕ → ℕ → Reader Color
-subsampling profile twelveBit =
+subsampling profile twelve_bit =
     pick (eqb profile 0) (return (chroma 1 1 0))
     (pick (eqb profile 1) (return (chroma 0 0 0))
-    (pick (eqb twelveBit 1) coded_subsampling (return (chroma 1 0 0))))
+    (pick (eqb twelve_bit 1) coded_subsampling (return (chroma 1 0 0))))
 
 unfoldable pub positioned : Color → Reader Color
 positioned c = do
@@ -178,24 +178,24 @@ grey = do
   return (chroma 1 1 0)
 
 unfoldable pub other_color : ℕ → ℕ → Reader Color
-other_color profile twelveBit = do
+other_color profile twelve_bit = do
   skip 1  -- color_range
-  c ← subsampling profile twelveBit
+  c ← subsampling profile twelve_bit
   positioned c
 
 unfoldable pub chroma_format : ℕ → ℕ → ℕ → Description → Reader Color
-chroma_format profile twelveBit monochrome d =
-    pick (eqb monochrome 1) grey (pick (is_srgb d) (return (chroma 0 0 0)) (other_color profile twelveBit))
+chroma_format profile twelve_bit monochrome d =
+    pick (eqb monochrome 1) grey (pick (is_srgb d) (return (chroma 0 0 0)) (other_color profile twelve_bit))
 
 -- ---- the nine fields
 unfoldable pub nine : ℕ → Point → ℕ → ℕ → ℕ → Color → Sequence
-nine profile p highBitdepth twelveBit monochrome c =
+nine profile p high_bitdepth twelve_bit monochrome c =
     record {
       seq_profile = profile;
       seq_level_idx_0 = p.level;
       seq_tier_0 = p.tier;
-      high_bitdepth = highBitdepth;
-      twelve_bit = twelveBit;
+      high_bitdepth = high_bitdepth;
+      twelve_bit = twelve_bit;
       monochrome = monochrome;
       chroma_subsampling_x = c.x;
       chroma_subsampling_y = c.y;
@@ -206,12 +206,12 @@ nine profile p highBitdepth twelveBit monochrome c =
 -- 0"
 unfoldable pub color_config : ℕ → Point → Reader Sequence
 color_config profile p = do
-  highBitdepth ← f 1  -- high_bitdepth
-  twelveBit ← pick (eqb profile 2 && eqb highBitdepth 1) (f 1) (return 0)  -- twelve_bit
+  high_bitdepth ← f 1  -- high_bitdepth
+  twelve_bit ← pick (eqb profile 2 && eqb high_bitdepth 1) (f 1) (return 0)  -- twelve_bit
   monochrome ← pick (not (eqb profile 1)) (f 1) (return 0)  -- mono_chrome
   d ← color_description
-  c ← chroma_format profile twelveBit monochrome d
-  return (nine profile p highBitdepth twelveBit monochrome c)
+  c ← chroma_format profile twelve_bit monochrome d
+  return (nine profile p high_bitdepth twelve_bit monochrome c)
 
 -- ---- sequence_header_obu (5.5.1), from the frame sizes to the tools
 unfoldable pub frames_and_tools : Bool → Reader NoValue

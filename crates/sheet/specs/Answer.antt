@@ -9,13 +9,13 @@ use Rattle.sheet.specs.Reading.{content_of, reading}
 use Rattle.sheet.specs.declared.rows.UnitRow.{UnitRow}
 use Rattle.sheet.specs.declared.rows.Counts.{Counts}
 use Rattle.sheet.specs.declared.reading.SheetRead.{SheetRead}
-use Rattle.sheet.specs.declared.reading.SheetRead.TheVariants as sheetRead
+use Rattle.sheet.specs.declared.reading.SheetRead.TheVariants as sheet_read
 use Rattle.sheet.specs.declared.finding.Found.{Found}
 use Rattle.sheet.specs.declared.finding.Found.TheVariants as found
 
 abbrev pub read_says : SheetRead → Verdict Counts
-read_says (sheetRead.Counts n) = passed n
-read_says (sheetRead.Refused r) = refused_by r
+read_says (sheet_read.Counts n) = passed n
+read_says (sheet_read.Refused r) = refused_by r
 
 abbrev pub found_says : Found → Verdict (Option UnitRow)
 found_says (found.Unit u) = passed (some u)

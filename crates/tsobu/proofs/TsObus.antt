@@ -16,7 +16,7 @@ use Rattle.emulation.specs.Payload.{legal, unescape, dropped}
 use Rattle.obu.specs.declared.header.Header.{Header}
 use Rattle.obu.specs.declared.header.Judged.{Judged as Obu}
 use Rattle.obu.specs.declared.header.Judged.TheVariants as obu
-use Rattle.obu.specs.Header.{header_of, judged, judged_says as obuSays, most_judged}
+use Rattle.obu.specs.Header.{header_of, judged, judged_says as obu_says, most_judged}
 use Rattle.obu.proofs.Headers.{judged_first, judged_header}
 use Rattle.tsobu.specs.TsObu.{tsobu_refusal}
 use Rattle.tsobu.specs.TsObu.{tsobu_figures, tsobu_says}
@@ -37,14 +37,14 @@ first_bytes u z first n e f =
 judged_short : (u first : Bytes) (n k : ℕ) → most_judged ≤ k → first ≡ take k u → n ≡ length u → judged first n ≡ judged u (length u)
 judged_short u first n k h e f = ap₂ judged e f ∙ judged_first k u (length u) h
 
-module _ (first : Bytes) (n d : ℕ) (q : Obu) (e : obuSays q ≡ judged first n) where
+module _ (first : Bytes) (n d : ℕ) (q : Obu) (e : obu_says q ≡ judged first n) where
   pub figures_refused : (r : Refused) → q ≡ obu.Refused r → refused_by r ≡ first_figures first n d
   unfolding first_figures
-  figures_refused r k = stop _ _ _ (sym e ∙ ap obuSays k)
+  figures_refused r k = stop _ _ _ (sym e ∙ ap obu_says k)
 
   pub figures_passed : (h : Header) → q ≡ obu.Passed h → passed (record { header = h; dropped = d }) ≡ first_figures first n d
   unfolding first_figures
-  figures_passed h k = go_on h _ (sym e ∙ ap obuSays k) refl
+  figures_passed h k = go_on h _ (sym e ∙ ap obu_says k) refl
 
 -- so they give the figures of the payload
 pub figures_short : (payload first : Bytes) (n d k : ℕ) → most_judged ≤ k → first ≡ take k (unescape payload) → n ≡ length (unescape payload)

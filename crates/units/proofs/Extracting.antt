@@ -410,12 +410,12 @@ module _ (edition : Edition) (i : ℕ) (p w : Bytes) (st : State) (before : Outp
 
     -- it passed, and the opening follows from the state that it leaves
     pub starts_opens : o ≡ outcome.Passed → (next : Extraction) → next ≡ closed_units e → (rooms : code.Rooms)
-        → RoomsRepresent rooms (outputs_of out lens times) → (pcrSeen : Bool) → is_pcr st.tables.pcr ≡ pcrSeen
-        → (r : ExtractionResult) (out' : Bytes) → OpeningRefines edition i w pcrSeen next rooms out r out'
+        → RoomsRepresent rooms (outputs_of out lens times) → (pcr_seen : Bool) → is_pcr st.tables.pcr ≡ pcr_seen
+        → (r : ExtractionResult) (out' : Bytes) → OpeningRefines edition i w pcr_seen next rooms out r out'
         → PesRefines before (pes_rules edition (rooms_of before) i p state.Av1) st r
         (outputs_of out' (lens_closed e lens) (times_closed e times))
     unfolding ◌>>=◌
-    starts_opens k next is-next rooms room pcrSeen pcr r out' opened =
+    starts_opens k next is-next rooms room pcr_seen pcr r out' opened =
         let after = outputs_of out' (lens_closed e lens) (times_closed e times) in
         let c = passed_refines (close_pes st.extraction) _ o k (says lens times before st.extraction s) in
         refines_as (in_sequence (payload_rules edition (rooms_of before) i p state.Av1) (with_extraction c.0 st))

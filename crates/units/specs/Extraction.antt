@@ -83,9 +83,9 @@ first_noted e e' firsts = pick (ltb e.units e'.units) (set firsts e.units (first
 
 -- ---- an AV1 payload
 -- w is the payload of packet p, which has this payload start
-pub record PayloadOf (p : Bytes) (startFlag : Bool) (w : Bytes) : Type 0 where
+pub record PayloadOf (p : Bytes) (start_flag : Bool) (w : Bytes) : Type 0 where
   pub carries : has_payload p ≡ true
-  pub starts : payload_unit_start_indicator p ≡ startFlag
+  pub starts : payload_unit_start_indicator p ≡ start_flag
   pub same : w ≡ payload p
 
 -- rules of a PES, which leave the tables
@@ -97,8 +97,8 @@ PesRefines before rules st r after =
 -- the rules of a PES, where a PCR has counted or not, and the edition is this one
 abbrev pub PayloadRefines : Edition → Bool → ℕ → Bytes → Bool → Extraction → Outputs → ExtractionResult → Outputs
     → Type 0
-PayloadRefines edition startFlag i w pcrSeen e now r after =
-    (before : Outputs) (p : Bytes) (st : State) → PayloadOf p startFlag w → is_pcr st.tables.pcr ≡ pcrSeen
+PayloadRefines edition start_flag i w pcr_seen e now r after =
+    (before : Outputs) (p : Bytes) (st : State) → PayloadOf p start_flag w → is_pcr st.tables.pcr ≡ pcr_seen
     → UnitsRepresent before now e st.extraction
     → PesRefines before (pes_rules edition (rooms_of before) i p state.Av1) st r after
 
@@ -127,8 +127,8 @@ UnitsRefused now r after = (q : refusal.Refused) → r.outcome ≡ Refused q →
 
 -- ---- what the public functions do
 abbrev pub TakesPayload : Edition → Bool → ℕ → Bytes → Bool → Extraction → Outputs → ExtractionResult → Outputs → Type 0
-TakesPayload edition startFlag i w pcrSeen e now r after =
-    PayloadRefines edition startFlag i w pcrSeen e now r after
+TakesPayload edition start_flag i w pcr_seen e now r after =
+    PayloadRefines edition start_flag i w pcr_seen e now r after
     × (RefusesBeyond i e (rooms_of now) r × UnitsRefused now r after)
 
 -- after the closing no PES is open

@@ -80,9 +80,9 @@ JudgedRefines e out o =
 -- ---- a PES opens
 -- 31, 34, 8 of a payload with which a PES is to open, and which has so many bytes behind its header
 abbrev pub MayOpenRefines : ℕ → ℕ → Bool → Extraction → outputs.Rooms → Outcome → Type 0
-MayOpenRefines i bytes pcrSeen e rooms r =
+MayOpenRefines i bytes pcr_seen e rooms r =
     (before now : Outputs) (p w : Bytes) (st : State) → RoomsRepresent rooms now → PayloadOf p true w
-    → bytes ≡ length (pes_data w) → is_pcr st.tables.pcr ≡ pcrSeen → UnitsRepresent before now e st.extraction
+    → bytes ≡ length (pes_data w) → is_pcr st.tables.pcr ≡ pcr_seen → UnitsRepresent before now e st.extraction
     → Refines r
     (in_sequence (rule31 i p state.Av1 ∷ rule34 i p state.Av1 ∷ rule8 i p state.Av1 (rooms_of before) ∷ []) st)
     (λ st'. st' ≡ st)
@@ -90,27 +90,27 @@ MayOpenRefines i bytes pcrSeen e rooms r =
 -- a PES opens with a payload, no other being open
 abbrev pub OpeningRefines : Edition → ℕ → Bytes → Bool → Extraction → outputs.Rooms → Bytes → ExtractionResult → Bytes
     → Type 0
-OpeningRefines edition i w pcrSeen e rooms out r out' =
+OpeningRefines edition i w pcr_seen e rooms out r out' =
     (before : Outputs) (lens times : List ℕ) (p : Bytes) (st : State)
     → RoomsRepresent rooms (outputs_of out lens times)
-    → PayloadOf p true w → is_pcr st.tables.pcr ≡ pcrSeen → e.pes ≡ seen.Closed
+    → PayloadOf p true w → is_pcr st.tables.pcr ≡ pcr_seen → e.pes ≡ seen.Closed
     → UnitsRepresent before (outputs_of out lens times) e st.extraction
     → PesRefines before (payload_rules edition (rooms_of before) i p state.Av1) st r (outputs_of out' lens times)
 
 -- with this header and these bytes behind it
 abbrev pub OpensWith : Edition → ℕ → Header → Bytes → Bool → Extraction → outputs.Rooms → Bytes → ExtractionResult
     → Bytes → Type 0
-OpensWith edition i header bytes pcrSeen e rooms out r out' =
+OpensWith edition i header bytes pcr_seen e rooms out r out' =
     (w : Bytes) → reading w ≡ verdict.passed header → bytes ≡ pes_data w
-    → OpeningRefines edition i w pcrSeen e rooms out r out'
+    → OpeningRefines edition i w pcr_seen e rooms out r out'
 
 -- a payload that goes on with the open PES, in every edition and whatever the other outputs hold
 abbrev pub AddsPayload : ℕ → Bytes → Bool → Extraction → Bytes → ExtractionResult → Bytes → Type 0
-AddsPayload i w pcrSeen e out r out' =
+AddsPayload i w pcr_seen e out r out' =
     (edition : Edition) (lens times : List ℕ)
-    → PayloadRefines edition false i w pcrSeen e (outputs_of out lens times) r (outputs_of out' lens times)
+    → PayloadRefines edition false i w pcr_seen e (outputs_of out lens times) r (outputs_of out' lens times)
 
 -- a payload that starts a PES, where no place lies beyond the outputs
 abbrev pub StartsPes : Edition → ℕ → Bytes → Bool → Extraction → Outputs → ExtractionResult → Outputs → Type 0
-StartsPes edition i w pcrSeen e now r after =
-    PayloadRefines edition true i w pcrSeen e now r after × UnitsRefused now r after
+StartsPes edition i w pcr_seen e now r after =
+    PayloadRefines edition true i w pcr_seen e now r after × UnitsRefused now r after

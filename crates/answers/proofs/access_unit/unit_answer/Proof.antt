@@ -3,7 +3,7 @@ use borrow.Author.Rules.{rules}
 use mathlib.Core.Path.{sym, ap, ◌∙◌}
 use Rattle.unit.specs.Answer.{read_says}
 use Rattle.unit.specs.declared.reading.UnitRead.{UnitRead}
-use Rattle.answers.specs.Answers.{unitAnswer}
+use Rattle.answers.specs.Answers.{unit_answer}
 use Rattle.answers.proofs.access_unit.unit_answer.Statement.{statement}
 use Rattle.answers.proofs.access_unit.unit_answer.Tie as tie
 
@@ -17,10 +17,10 @@ refusal-requires : tie.Need-refusal-requires
 refusal-requires c κs = search rules
 
 returns : tie.Need-returns
-returns c = ap (λ (r : UnitRead). unitAnswer (read_says r)) (sym c.before.read.given.1)
+returns c = ap (λ (r : UnitRead). unit_answer (read_says r)) (sym c.before.read.given.1)
 
 returns-2 : tie.Need-returns-2
-returns-2 c = c.refusal.ensures ∙ ap (λ (r : UnitRead). unitAnswer (read_says r)) (sym c.before.before.read2.given.1)
+returns-2 c = c.refusal.ensures ∙ ap (λ (r : UnitRead). unit_answer (read_says r)) (sym c.before.before.read2.given.1)
 
 pub unit-answer-spec : {M : Type 1} → statement M
 unit-answer-spec =

@@ -12,8 +12,8 @@ use Rattle.answers.specs.Metadata.{mastering_answer}
 use Rattle.answers.proofs.metadata.mastering_answer.Statement.{statement}
 use Rattle.answers.proofs.metadata.mastering_answer.Tie as tie
 
-abbrev withFigures : List Float → MasteringAnswer
-withFigures l = record { number = 0; place = 0; figure = l }
+abbrev with_figures : List Float → MasteringAnswer
+with_figures l = record { number = 0; place = 0; figure = l }
 
 enum-known-read : tie.Need-enum-known-read
 enum-known-read c = search rules
@@ -29,7 +29,7 @@ number-of-requires c κs = search rules
 
 returns : tie.Need-returns
 returns c =
-    ap withFigures c.figure-list.ensures
+    ap with_figures c.figure-list.ensures
     ∙ ap (λ (r : MasteringRead). mastering_answer (read_says r)) (sym c.before.before.read.given.1)
 
 returns-2 : tie.Need-returns-2

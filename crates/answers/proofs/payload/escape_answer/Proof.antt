@@ -3,7 +3,7 @@ use borrow.Author.Rules.{rules}
 use mathlib.Core.Path.{sym, ap, ◌∙◌}
 use Rattle.escaping.specs.declared.escaping.Escaped.{Escaped}
 use Rattle.escaping.specs.Answer.{escaped_says}
-use Rattle.answers.specs.Answers.{countAnswer}
+use Rattle.answers.specs.Answers.{count_answer}
 use Rattle.answers.proofs.payload.escape_answer.Statement.{statement}
 use Rattle.answers.proofs.payload.escape_answer.Tie as tie
 
@@ -21,11 +21,11 @@ refusal-requires c κs = search rules
 
 returns : tie.Need-returns
 returns c =
-    c.counted.ensures ∙ ap (λ (r : Escaped). countAnswer (escaped_says r)) (sym c.before.before.escaped.given.1)
+    c.counted.ensures ∙ ap (λ (r : Escaped). count_answer (escaped_says r)) (sym c.before.before.escaped.given.1)
 
 returns-2 : tie.Need-returns-2
 returns-2 c =
-    c.refusal.ensures ∙ ap (λ (r : Escaped). countAnswer (escaped_says r)) (sym c.before.before.escaped2.given.1)
+    c.refusal.ensures ∙ ap (λ (r : Escaped). count_answer (escaped_says r)) (sym c.before.before.escaped2.given.1)
 
 pub escape-answer-spec : {M : Type 1} → statement M
 escape-answer-spec =

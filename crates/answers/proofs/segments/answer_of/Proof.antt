@@ -4,7 +4,7 @@ use borrow.Author.Rules.{rules}
 use Rattle.comparison.specs.Comparison.{disagreed_says}
 use Rattle.segment.specs.Answer.{check_says}
 use Rattle.segment.specs.declared.checking.SegmentCheck.{SegmentCheck}
-use Rattle.answers.specs.Answers.{segmentAnswer}
+use Rattle.answers.specs.Answers.{segment_answer}
 use Rattle.answers.proofs.segments.answer_of.Statement.{statement}
 use Rattle.answers.proofs.segments.answer_of.Tie as tie
 
@@ -23,12 +23,12 @@ segment-refusal-requires c κs = search rules
 returns : tie.Need-returns
 returns c =
     let d = disagreed_says c.before.before.before.before.args.disagreement in
-    c.accepted.ensures ∙ sym (ap (λ (x : SegmentCheck). segmentAnswer (check_says x) d) c.before.before.checked.given.1)
+    c.accepted.ensures ∙ sym (ap (λ (x : SegmentCheck). segment_answer (check_says x) d) c.before.before.checked.given.1)
 
 returns-2 : tie.Need-returns-2
 returns-2 c =
     let d = disagreed_says c.before.before.before.before.args.disagreement in
-    c.segment-refusal.ensures ∙ sym (ap (λ (x : SegmentCheck). segmentAnswer (check_says x) d) c.before.before.checked2.given.1)
+    c.segment-refusal.ensures ∙ sym (ap (λ (x : SegmentCheck). segment_answer (check_says x) d) c.before.before.checked2.given.1)
 
 pub answer-of-spec : {M : Type 1} → statement M
 answer-of-spec =

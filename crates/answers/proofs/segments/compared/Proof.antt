@@ -3,7 +3,7 @@ use mathlib.Core.Path.{sym, ap}
 use borrow.Author.Rules.{rules}
 use Rattle.comparison.specs.declared.Disagreed.{Disagreed}
 use Rattle.comparison.specs.Comparison.{disagreed_says}
-use Rattle.answers.specs.Answers.{comparisonAnswer}
+use Rattle.answers.specs.Answers.{comparison_answer}
 use Rattle.answers.proofs.segments.compared.Statement.{statement}
 use Rattle.answers.proofs.segments.compared.Tie as tie
 
@@ -17,10 +17,10 @@ cast-t5 : tie.Need-overflow-cast-t5
 cast-t5 c = search rules
 
 returns : tie.Need-returns
-returns c = sym (ap (λ (x : Disagreed). comparisonAnswer (disagreed_says x)) c.enum_told.given.1)
+returns c = sym (ap (λ (x : Disagreed). comparison_answer (disagreed_says x)) c.enum_told.given.1)
 
 returns-2 : tie.Need-returns-2
-returns-2 c = sym (ap (λ (x : Disagreed). comparisonAnswer (disagreed_says x)) c.before.before.disagreement.given.1)
+returns-2 c = sym (ap (λ (x : Disagreed). comparison_answer (disagreed_says x)) c.before.before.disagreement.given.1)
 
 pub compared-spec : {M : Type 1} → statement M
 compared-spec = tie.close (tie.spec enum_told enum-known-disagreement cast-t5 returns returns-2)

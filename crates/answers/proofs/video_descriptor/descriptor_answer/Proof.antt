@@ -5,7 +5,7 @@ use mathlib.Core.Path.{sym, ap, ◌∙◌}
 use Rattle.refusal.specs.Verdict.{refused}
 use Rattle.descriptor.specs.declared.reading.VideoRead.{VideoRead}
 use Rattle.descriptor.specs.Descriptor.{read_says}
-use Rattle.answers.specs.Answers.{descriptorAnswer}
+use Rattle.answers.specs.Answers.{descriptor_answer}
 use Rattle.answers.proofs.video_descriptor.descriptor_answer.Statement.{statement}
 use Rattle.answers.proofs.video_descriptor.descriptor_answer.Tie as tie
 
@@ -23,13 +23,13 @@ number-of-requires c κs = search rules
 
 returns : tie.Need-returns
 returns c =
-    c.video-answer.ensures ∙ ap (λ (r : VideoRead). descriptorAnswer (read_says r)) (sym c.before.before.before.read.given.1)
+    c.video-answer.ensures ∙ ap (λ (r : VideoRead). descriptor_answer (read_says r)) (sym c.before.before.before.read.given.1)
 
 returns-2 : tie.Need-returns-2
 returns-2 c =
     let told = c.before.before.read2.given in
-    ap (λ (n : ℕ). descriptorAnswer (refused n told.0.0.place)) c.number_of_lem.ensures
-    ∙ ap (λ (r : VideoRead). descriptorAnswer (read_says r)) (sym told.1)
+    ap (λ (n : ℕ). descriptor_answer (refused n told.0.0.place)) c.number_of_lem.ensures
+    ∙ ap (λ (r : VideoRead). descriptor_answer (read_says r)) (sym told.1)
 
 pub descriptor-answer-spec : {M : Type 1} → statement M
 descriptor-answer-spec =

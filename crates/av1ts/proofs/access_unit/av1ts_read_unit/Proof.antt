@@ -4,7 +4,7 @@ use borrow.Author.Rules.{rules}
 use mathlib.Core.Path.{ap, ◌∙◌}
 use Rattle.refusal.proofs.Verdicts.{leaves_as}
 use Rattle.unit.proofs.Checking.{with_64}
-use Rattle.answers.specs.Answers.{unitAnswer}
+use Rattle.answers.specs.Answers.{unit_answer}
 use Rattle.av1ts.proofs.access_unit.av1ts_read_unit.Statement.{statement}
 use Rattle.av1ts.proofs.access_unit.av1ts_read_unit.Tie as tie
 
@@ -28,7 +28,7 @@ returns c =
     let e = c.before.before.before.before.before.before.read.ensures in
     let v = e.answers ∙ with_64 _ _ _ in
     record {
-      answers = c.unit-answer.ensures ∙ ap unitAnswer v;
+      answers = c.unit-answer.ensures ∙ ap unit_answer v;
       outputs = record { obus = e.obus ∙ leaves_as _ _ v; of_each = e.of_each ∙ leaves_as _ _ v };
     }
 

@@ -8,7 +8,7 @@ use Rattle.refusal.specs.Verdict.{Verdict, leaves}
 use Rattle.mastering.specs.declared.steps.Steps.{Steps}
 use Rattle.mastering.specs.Content.{content_of}
 use Rattle.mastering.specs.Steps.{numbers_from, writing}
-use Rattle.answers.specs.Answers.{countAnswer}
+use Rattle.answers.specs.Answers.{count_answer}
 use Rattle.av1ts.proofs.metadata.av1ts_write_mastering.Statement.{statement}
 use Rattle.av1ts.proofs.metadata.av1ts_write_mastering.Tie as tie
 
@@ -30,7 +30,7 @@ returns c =
     let e = c.before.before.before.write.ensures in
     let same = c.before.before.before.before.before.steps-from.ensures in
     let verdict = e.0 ∙ ap (λ (x : Steps). writing x (length out)) same in (
-      c.mastering-written.ensures ∙ ap countAnswer verdict,
+      c.mastering-written.ensures ∙ ap count_answer verdict,
       e.1 ∙ ap₂ (λ (v : Verdict ℕ) (w : Bytes). leaves v w out) verdict (ap (λ (x : Steps). content_of (numbers_from x)) same),
     )
 

@@ -2,7 +2,7 @@
 use borrow.Author.Rules.{rules}
 use mathlib.Core.Path.{ap, ◌∙◌}
 use Rattle.refusal.proofs.Verdicts.{leaves_as}
-use Rattle.answers.specs.Answers.{countAnswer}
+use Rattle.answers.specs.Answers.{count_answer}
 use Rattle.av1ts.proofs.payload.av1ts_escape.Statement.{statement}
 use Rattle.av1ts.proofs.payload.av1ts_escape.Tie as tie
 
@@ -18,7 +18,7 @@ same_length c = search rules
 returns : tie.Need-returns
 returns c =
     let e = c.before.before.before.escape.ensures in
-    (c.escape-answer.ensures ∙ ap countAnswer e.0, e.1 ∙ leaves_as _ _ e.0)
+    (c.escape-answer.ensures ∙ ap count_answer e.0, e.1 ∙ leaves_as _ _ e.0)
 
 pub av1ts-escape-spec : {M : Type 1} → statement M
 av1ts-escape-spec = tie.close (tie.spec escape-requires escape-answer-requires same_length returns)

@@ -2,7 +2,7 @@
 use borrow.Author.Rules.{rules}
 use mathlib.Core.Path.{ap, ◌∙◌}
 use Rattle.refusal.proofs.Verdicts.{leaves_as}
-use Rattle.answers.specs.Answers.{unescapeAnswer}
+use Rattle.answers.specs.Answers.{unescape_answer}
 use Rattle.av1ts.proofs.payload.av1ts_unescape.Statement.{statement}
 use Rattle.av1ts.proofs.payload.av1ts_unescape.Tie as tie
 
@@ -18,7 +18,7 @@ same_length c = search rules
 returns : tie.Need-returns
 returns c =
     let e = c.before.before.before.unescape.ensures in
-    (c.unescape-answer.ensures ∙ ap unescapeAnswer e.0, e.1 ∙ leaves_as _ _ e.0)
+    (c.unescape-answer.ensures ∙ ap unescape_answer e.0, e.1 ∙ leaves_as _ _ e.0)
 
 pub av1ts-unescape-spec : {M : Type 1} → statement M
 av1ts-unescape-spec = tie.close (tie.spec unescape-requires unescape-answer-requires same_length returns)

@@ -1,7 +1,7 @@
 -- `segment::check_compared` answers by the definition, and leaves the outputs as it says.
 use borrow.Author.Rules.{rules}
 use mathlib.Core.Path.{ap₂, ◌∙◌}
-use Rattle.answers.specs.Answers.{segmentAnswer}
+use Rattle.answers.specs.Answers.{segment_answer}
 use Rattle.av1ts.proofs.segments.av1ts_check_segment_edition.Statement.{statement}
 use Rattle.av1ts.proofs.segments.av1ts_check_segment_edition.Tie as tie
 
@@ -23,7 +23,7 @@ same-length-3 c = search rules
 returns : tie.Need-returns
 returns c =
     let e = c.before.before.before.before.before.before.before.check-compared.ensures in
-    record { answers = c.segment-answer.ensures ∙ ap₂ segmentAnswer e.answers e.compared; leaves = e.leaves }
+    record { answers = c.segment-answer.ensures ∙ ap₂ segment_answer e.answers e.compared; leaves = e.leaves }
 
 pub av1ts-check-segment-edition-spec : {M : Type 1} → statement M
 av1ts-check-segment-edition-spec =

@@ -7,7 +7,7 @@ use Rattle.lists.specs.Lists.{Bytes}
 use Rattle.refusal.specs.Verdict.{Verdict, leaves}
 use Rattle.descriptor.specs.declared.fields.Fields.{Fields}
 use Rattle.descriptor.specs.Descriptor.{descriptor_of, writing}
-use Rattle.answers.specs.Answers.{countAnswer}
+use Rattle.answers.specs.Answers.{count_answer}
 use Rattle.av1ts.proofs.video_descriptor.av1ts_write_descriptor.Statement.{statement}
 use Rattle.av1ts.proofs.video_descriptor.av1ts_write_descriptor.Tie as tie
 
@@ -29,7 +29,7 @@ returns c =
     let e = c.before.before.before.write.ensures in
     let same = c.before.before.before.before.before.fields-from.ensures in
     let verdict = e.0 ∙ ap (λ (x : Fields). writing x (length out)) same in (
-      c.descriptor-written.ensures ∙ ap countAnswer verdict,
+      c.descriptor-written.ensures ∙ ap count_answer verdict,
       e.1 ∙ ap₂ (λ (v : Verdict ℕ) (w : Bytes). leaves v w out) verdict (ap (λ (x : Fields). descriptor_of x) same),
     )
 

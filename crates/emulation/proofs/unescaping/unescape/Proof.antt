@@ -6,7 +6,7 @@ use mathlib.Core.Path.{refl}
 use Rattle.refusal.specs.Verdict.{leaves}
 use Rattle.refusal.proofs.Verdicts.{refuse}
 use Rattle.emulation.specs.Answer.{unescaping}
-use Rattle.emulation.proofs.Answers.{judged-legal, left_after, unescaping-illegal, unescaping-short, unescaping-fits}
+use Rattle.emulation.proofs.Answers.{judged_legal, left_after, unescaping_illegal, unescaping_short, unescaping_fits}
 use Rattle.emulation.proofs.unescaping.unescape.Statement.{statement}
 use Rattle.emulation.proofs.unescaping.unescape.Tie as tie
 
@@ -32,17 +32,17 @@ returns-2 c =
     let judged = c.before.before.before.before.judge.ensures in
     let legal = c.before.before.judged2.given.1 in
     let l = left_after _ _ _ judged legal in
-    (unescaping-short _ _ (omega arith) (judged-legal _ _ _ judged legal).0 (omega (arith, l.1)), refl)
+    (unescaping_short _ _ (omega arith) (judged_legal _ _ _ judged legal).0 (omega (arith, l.1)), refl)
 
 unescape-whole-requires : tie.Need-unescape-whole-requires
 unescape-whole-requires c κs =
     let judged = c.before.before.before.before.before.judge.ensures in
     let legal = c.before.before.before.judged2.given.1 in
-    ((judged-legal _ _ _ judged legal).1, omega (arith, (left_after _ _ _ judged legal).1))
+    ((judged_legal _ _ _ judged legal).1, omega (arith, (left_after _ _ _ judged legal).1))
 
 returns-3 : tie.Need-returns-3
 unfolding leaves
-returns-3 c = (unescaping-illegal _ _ _ _ (omega arith) c.before.before.before.judge.ensures c.before.judged.given.1, refl)
+returns-3 c = (unescaping_illegal _ _ _ _ (omega arith) c.before.before.before.judge.ensures c.before.judged.given.1, refl)
 
 same_length : tie.Need-same-length
 same_length c = search rules
@@ -57,8 +57,8 @@ returns-4 c =
     let judged = matched.before.before.judge.ensures in
     let legal = matched.judged2.given.1 in
     let l = left_after _ _ _ judged legal in
-    let j = judged-legal _ _ _ judged legal in (
-      unescaping-fits _ _ _ _ (omega arith) j.0 (omega (arith, l.1)) l.1 j.1,
+    let j = judged_legal _ _ _ judged legal in (
+      unescaping_fits _ _ _ _ (omega arith) j.0 (omega (arith, l.1)) l.1 j.1,
       c.before.before.unescape-whole.ensures,
     )
 

@@ -135,20 +135,20 @@ leaves = seq (assign (place 0 []) (rv_opd (copy (place 5 [])))) return
 abbrev word : Ty
 word = ty_int w64
 
-abbrev textTy : Ty
-textTy = slice_ty (ty_ref (named 0) mut (ty_int w8))
+abbrev text_ty : Ty
+text_ty = slice_ty (ty_ref (named 0) mut (ty_int w8))
 
-abbrev unitTy : Ty
-unitTy = slice_ty (ty_ref (named 1) imm (ty_int w8))
+abbrev unit_ty : Ty
+unit_ty = slice_ty (ty_ref (named 1) imm (ty_int w8))
 
-abbrev walkTy : Ty
-walkTy = T'.mir erased
+abbrev walk_ty : Ty
+walk_ty = T'.mir erased
 
-abbrev handedTy : Ty
-handedTy = G'.mir erased
+abbrev handed_ty : Ty
+handed_ty = G'.mir erased
 
-abbrev byteRef : Ty
-byteRef = ty_ref erased mut (ty_int w8)
+abbrev byte_ref : Ty
+byte_ref = ty_ref erased mut (ty_int w8)
 
 module _ {M : Type 1} {𝓤 : Ura M} (𝓛 : Logic 𝓤) (at_mem : Memory → SProp 𝓤) (run : Routine → Fun 𝓤)
     (κ κ' : Lft) (q q' : Share) (b o : ℕ) (γ : GName) (xs : Bytes) (at : ℕ) (s : MutBor Bytes) where
@@ -165,27 +165,27 @@ module _ {M : Type 1} {𝓤 : Ura M} (𝓛 : Logic 𝓤) (at_mem : Memory → SP
   abbrev text : Bytes → Bor Bytes
   text ys = record { ref_ptr = (b, o); ghost_name = γ; now = ys }
 
-  abbrev textVal : Bytes → Val
-  textVal ys = slice_val (b, o) (length ys)
+  abbrev text_val : Bytes → Val
+  text_val ys = slice_val (b, o) (length ys)
 
-  abbrev unitVal : Val
-  unitVal = slice_val s.ref_ptr (length s.now)
+  abbrev unit_val : Val
+  unit_val = slice_val s.ref_ptr (length s.now)
 
   -- the reader at a place
   abbrev reader : ℕ → Walk
   reader n = record { src = s; at = n }
 
   abbrev Text : Bytes → Fml
-  Text ys = (MutSlice (named 0) κ u8).own_val (text ys) (textVal ys ∷ [])
+  Text ys = (MutSlice (named 0) κ u8).own_val (text ys) (text_val ys ∷ [])
 
   abbrev Unit' : Fml
-  Unit' = (ShrSlice (named 0) κ' u8).own_val s (unitVal ∷ [])
+  Unit' = (ShrSlice (named 0) κ' u8).own_val s (unit_val ∷ [])
 
   abbrev args : Bor Bytes × (ℕ × (Bor Bytes × Unit {0}))
   args = (text xs, (at, (s, tt)))
 
   abbrev vals : Vals put-obus.signature (κ, (κ', tt))
-  vals = (textVal xs ∷ [], (vint w64 at ∷ [], (unitVal ∷ [], tt)))
+  vals = (text_val xs ∷ [], (vint w64 at ∷ [], (unit_val ∷ [], tt)))
 
   abbrev bound : (walk_of 𝓛 put-obus.ended stayed (put-obus.clauses 𝓛 at_mem run)).Ghost
   bound = (((κ, (κ', tt)), (q, (q', tt)), tt, args, vals), tt)
@@ -206,7 +206,7 @@ module _ {M : Type 1} {𝓤 : Ura M} (𝓛 : Logic 𝓤) (at_mem : Memory → SP
       on_exit 𝓛 put-obus.ended stayed (κ, (κ', tt)) (q, (q', tt)) vals (vint w64 st.end) st.end args (st.text, (tt, (tt, tt)))
 
   -- a local can hold the reader
-  typed : (d : Walk) → Is (T.the_row α) d (T'.lowered d ∷ []) → Holds (has_ty walkTy (T'.lowered d)) × WT (T'.lowered d)
+  typed : (d : Walk) → Is (T.the_row α) d (T'.lowered d ∷ []) → Holds (has_ty walk_ty (T'.lowered d)) × WT (T'.lowered d)
   typed d is = ((LL.lawful (T.the_type ε) (T'.the_laws ε) 𝓛).typed d _ is).0
 
   module _ (𝓣 : Tables 𝓤 H) (room : Room u8 (length xs)) (at-fits : at < 2 ^ 64) (unit-room : Room u8 (length s.now))
@@ -230,34 +230,34 @@ module _ {M : Type 1} {𝓤 : Ura M} (𝓛 : Logic 𝓤) (at_mem : Memory → SP
 
     -- ---- the locals, and what stands beside them
     module _ (l₀ l₁ l₂ l₃ l₄ l₅ l₆ l₇ l₈ l₉ l₁₀ l₁₁ l₁₂ : ℕ) where
-      abbrev lentTy : Ty
-      lentTy = ty_ref erased mut (pointee (T.the_row ε).written)
+      abbrev lent_ty : Ty
+      lent_ty = ty_ref erased mut (pointee (T.the_row ε).written)
 
-      abbrev againTy : Ty
-      againTy = slice_ty byteRef
+      abbrev again_ty : Ty
+      again_ty = slice_ty byte_ref
 
-      abbrev partTy : Ty
-      partTy = slice_ty (ty_ref erased imm (ty_int w8))
+      abbrev part_ty : Ty
+      part_ty = slice_ty (ty_ref erased imm (ty_int w8))
 
       abbrev E : Env 𝓤 H
       E =
-          (word, l₀) ∷ (textTy, l₁) ∷ (word, l₂) ∷ (unitTy, l₃) ∷ (walkTy, l₄) ∷ (word, l₅) ∷ (word, l₆) ∷ (handedTy, l₇) ∷ (walkTy, l₈)
-          ∷ (lentTy, l₉) ∷ (byteRef, l₁₀) ∷ (againTy, l₁₁) ∷ (partTy, l₁₂) ∷ []
+          (word, l₀) ∷ (text_ty, l₁) ∷ (word, l₂) ∷ (unit_ty, l₃) ∷ (walk_ty, l₄) ∷ (word, l₅) ∷ (word, l₆) ∷ (handed_ty, l₇) ∷ (walk_ty, l₈)
+          ∷ (lent_ty, l₉) ∷ (byte_ref, l₁₀) ∷ (again_ty, l₁₁) ∷ (part_ty, l₁₂) ∷ []
 
       -- The text ys, the reader d, where the text ends, and the index; and _9 and _7. Behind the first six, local i stands at
       -- 6 + 2 · (12 − i), down to _5 at 20; _3 is at 23, _2 at 25, _1 at 27, and _0 at 29
       abbrev At : Bytes → Walk → ℕ → ℕ → Item 𝓤 → Item 𝓤 → List (Item 𝓤)
       At ys d end index i₉ i₇ =
-          ‵ (Text ys) ∷ ‵ (flft κ q) ∷ ‵ (fat full_share walkTy l₄ 0 (T'.lowered d)) ∷ ‵ (Own α d) ∷ ‵ (flft κ' q') ∷ ‵ Unit'
-          ∷ ‵ (froom partTy l₁₂ 0) ∷ ‵ (fdies partTy l₁₂) ∷ ‵ (froom againTy l₁₁ 0) ∷ ‵ (fdies againTy l₁₁)
-          ∷ ‵ (froom byteRef l₁₀ 0) ∷ ‵ (fdies byteRef l₁₀) ∷ i₉ ∷ ‵ (fdies lentTy l₉) ∷ ‵ (froom walkTy l₈ 0) ∷ ‵ (fdies walkTy l₈)
-          ∷ i₇ ∷ ‵ (fdies handedTy l₇) ∷ ‵ (fat full_share word l₆ 0 (vint w64 index)) ∷ ‵ (fdies word l₆)
-          ∷ ‵ (fat full_share word l₅ 0 (vint w64 end)) ∷ ‵ (fdies word l₅) ∷ ‵ (fdies walkTy l₄)
-          ∷ ‵ (fat full_share unitTy l₃ 0 unitVal) ∷ ‵ (fdies unitTy l₃) ∷ ‵ (fat full_share word l₂ 0 (vint w64 at)) ∷ ‵ (fdies word l₂)
-          ∷ ‵ (fat full_share textTy l₁ 0 (textVal ys)) ∷ ‵ (fdies textTy l₁) ∷ ‵ (froom word l₀ 0) ∷ ‵ (fdies word l₀) ∷ []
+          ‵ (Text ys) ∷ ‵ (flft κ q) ∷ ‵ (fat full_share walk_ty l₄ 0 (T'.lowered d)) ∷ ‵ (Own α d) ∷ ‵ (flft κ' q') ∷ ‵ Unit'
+          ∷ ‵ (froom part_ty l₁₂ 0) ∷ ‵ (fdies part_ty l₁₂) ∷ ‵ (froom again_ty l₁₁ 0) ∷ ‵ (fdies again_ty l₁₁)
+          ∷ ‵ (froom byte_ref l₁₀ 0) ∷ ‵ (fdies byte_ref l₁₀) ∷ i₉ ∷ ‵ (fdies lent_ty l₉) ∷ ‵ (froom walk_ty l₈ 0) ∷ ‵ (fdies walk_ty l₈)
+          ∷ i₇ ∷ ‵ (fdies handed_ty l₇) ∷ ‵ (fat full_share word l₆ 0 (vint w64 index)) ∷ ‵ (fdies word l₆)
+          ∷ ‵ (fat full_share word l₅ 0 (vint w64 end)) ∷ ‵ (fdies word l₅) ∷ ‵ (fdies walk_ty l₄)
+          ∷ ‵ (fat full_share unit_ty l₃ 0 unit_val) ∷ ‵ (fdies unit_ty l₃) ∷ ‵ (fat full_share word l₂ 0 (vint w64 at)) ∷ ‵ (fdies word l₂)
+          ∷ ‵ (fat full_share text_ty l₁ 0 (text_val ys)) ∷ ‵ (fdies text_ty l₁) ∷ ‵ (froom word l₀ 0) ∷ ‵ (fdies word l₀) ∷ []
 
       abbrev Inv : St → List (Item 𝓤)
-      Inv st = At st.text (reader st.place) st.end st.index (‵ (froom lentTy l₉ 0)) (‵ (froom handedTy l₇ 0))
+      Inv st = At st.text (reader st.place) st.end st.index (‵ (froom lent_ty l₉ 0)) (‵ (froom handed_ty l₇ 0))
 
       -- the reader behind the step
       abbrev past : St → Walk
@@ -269,8 +269,8 @@ module _ {M : Type 1} {𝓤 : Ura M} (𝓛 : Logic 𝓤) (at_mem : Memory → SP
 
       abbrev Behind : St → Step → Bor Bytes → List (Item 𝓤)
       Behind st r x =
-          At st.text (past st) st.end st.index (‵ (fat full_share lentTy l₉ 0 (vptr l₄ 0)))
-          (‵ (fat full_share handedTy l₇ 0 (handed_val α (handed r x))))
+          At st.text (past st) st.end st.index (‵ (fat full_share lent_ty l₉ 0 (vptr l₄ 0)))
+          (‵ (fat full_share handed_ty l₇ 0 (handed_val α (handed r x))))
 
       abbrev PartOf : Bor Bytes → Item 𝓤
       PartOf x = ‵ ((ShrSlice (named 0) κ' u8).own_val x (shr_slice_vals x))
@@ -366,7 +366,7 @@ module _ {M : Type 1} {𝓤 : Ura M} (𝓛 : Logic 𝓤) (at_mem : Memory → SP
             assigns_last ! (bin ! (load ! (from ! (stop !)) (look ! 18 refl)) (lit ! tt) (record { fits = omega (arith, few) }))
             (from ! (stop !)) (store ! 18 refl (tt, record { fits = omega (arith, few) })) $
             forget ! 6 refl $ forget ! 8 refl $ forget ! 10 refl $ forget ! 12 refl $ forget ! 16 refl $
-            rewrite ! 27 (λ (n : ℕ). ‵ (fat full_share textTy l₁ 0 (slice_val (b, o) n))) (sym f.4) refl $
+            rewrite ! 27 (λ (n : ℕ). ‵ (fat full_share text_ty l₁ 0 (slice_val (b, o) n))) (sym f.4) refl $
             move ! (2 ∷ 0 ∷ 3 ∷ 4 ∷ 1 ∷ []) $
             again ! (less s.now xs at) Inv st
             (record {
@@ -410,27 +410,27 @@ module _ {M : Type 1} {𝓤 : Ura M} (𝓛 : Logic 𝓤) (at_mem : Memory → SP
             (later
             (some (λ (g : Handed).
             given (called.Said 𝓛 at_mem run κ' q' l₄ (reader st.place) u g)
-            (‵ (fat full_share walkTy l₄ 0 (T'.lowered (past st))) ⊛ (‵ (Own α (past st)) ⊛ (‵ (flft κ' q') ⊛ PartOf g.payload))))))
+            (‵ (fat full_share walk_ty l₄ 0 (T'.lowered (past st))) ⊛ (‵ (Own α (past st)) ⊛ (‵ (flft κ' q') ⊛ PartOf g.payload))))))
             (called.step_out 𝓛 at_mem run κ' q' l₄ (reader st.place) ν δ u) $ await ! tt $ pick ! (λ g. learn ! (λ e.
             split ! $ move ! (1 ∷ []) $ split ! $ move ! (1 ∷ []) $ split ! $ move ! (1 ∷ []) $
             -- [the part; the unit's token; what the reader owns; _4; the text; its token; the unit; _12; …]
             land ! (from ! (stop !))
             (init ! 17 refl
-            (subst (λ (y : Val). Holds (has_ty handedTy y) × WT y) (sym e.0)
+            (subst (λ (y : Val). Holds (has_ty handed_ty y) × WT y) (sym e.0)
             ((LL.lawful (G.the_type ε) (G'.the_laws ε) 𝓛).typed g _ e.1).0)) $
-            rewrite ! 17 (λ (y : Val). ‵ (fat full_share handedTy l₇ 0 y)) e.0 refl $ move ! (0 ∷ 4 ∷ 5 ∷ 3 ∷ 2 ∷ 1 ∷ []) $
+            rewrite ! 17 (λ (y : Val). ‵ (fat full_share handed_ty l₇ 0 y)) e.0 refl $ move ! (0 ∷ 4 ∷ 5 ∷ 3 ∷ 2 ∷ 1 ∷ []) $
             matched st g.step g.payload e.2 e.3)))))
 
     -- ---- the code before the loop
     walk : FmC 𝓤 H 𝓛.laws 𝓣.C → Triple 𝓤 (𝓣.C new.name) (New 𝓛 at_mem run)
         → Triple 𝓤 (𝓣.C step.name) (Stepping 𝓛 at_mem run) → Triple 𝓤 (𝓣.C put.name) (Put 𝓛 at_mem run)
         → ent 𝓤 (on_entry 𝓛 put-obus.signature (κ, (κ', tt)) (q, (q', tt)) args vals)
-        (WpFn 𝓤 H 𝓣.C 𝓣.Λ code.function (textVal xs ∷ vint w64 at ∷ unitVal ∷ []) Post)
+        (WpFn 𝓤 H 𝓣.C 𝓣.Λ code.function (text_val xs ∷ vint w64 at ∷ unit_val ∷ []) Post)
     walk fm known-new Known-step known-put =
         qed 𝓛
         ((‵ (flft κ q) ⊛ (‵ (flft κ' q') ⊛ ‵ ftrue))
         ∷ ‵ (owns (MutSlice (named 0) κ u8 ∷ usize ∷ ShrSlice (named 0) κ' u8 ∷ []) args vals) ∷ []) ∵
-        enter ! 𝓣.C 𝓣.Λ code.function (textVal xs ∷ vint w64 at ∷ unitVal ∷ []) _ $
+        enter ! 𝓣.C 𝓣.Λ code.function (text_val xs ∷ vint w64 at ∷ unit_val ∷ []) _ $
         alloc1 ! (λ l₀. alloc1 ! (λ l₁. alloc1 ! (λ l₂. alloc1 ! (λ l₃. alloc1 ! (λ l₄. alloc1 ! (λ l₅. alloc1 ! (λ l₆.
         alloc1 ! (λ l₇. alloc1 ! (λ l₈. alloc1 ! (λ l₉. alloc1 ! (λ l₁₀. alloc1 ! (λ l₁₁. alloc1 ! (λ l₁₂. alloc0 ! $ params1 ! $
         pass1 ! (init ! 22 refl (tt, (tt, (record { fits = room.0 }, tt)))) $ pass1 ! (init ! 20 refl (tt, record { fits = at-fits })) $
@@ -447,8 +447,8 @@ module _ {M : Type 1} {𝓤 : Ura M} (𝓛 : Logic 𝓤) (at_mem : Memory → SP
         (called.new_out 𝓛 at_mem run κ' q' s u) $ await ! tt $ learn ! (λ e. split ! $
         -- [what the reader owns; the unit's token; the unit; the text's token; the text; _12; …]
         peeks ! (T.the_row α) (Is (T.the_row α)) (shows 𝓛 (T.the_row α)) (fresh s) (T'.lowered (fresh s) ∷ []) (λ is.
-        land ! (from ! (stop !)) (init ! 13 refl (subst (λ (y : Val). Holds (has_ty walkTy y) × WT y) (sym e) (typed (fresh s) is))) $
-        rewrite ! 13 (λ (y : Val). ‵ (fat full_share walkTy l₈ 0 y)) e refl $
+        land ! (from ! (stop !)) (init ! 13 refl (subst (λ (y : Val). Holds (has_ty walk_ty y) × WT y) (sym e) (typed (fresh s) is))) $
+        rewrite ! 13 (λ (y : Val). ‵ (fat full_share walk_ty l₈ 0 y)) e refl $
         assigns ! (of_opd ! (load ! (from ! (stop !)) (look ! 13 refl))) (from ! (stop !)) (init ! 21 refl (typed (fresh s) is)) $
         assigns ! (of_opd ! (load ! (from ! (stop !)) (look ! 25 refl))) (from ! (stop !))
         (init ! 19 refl (tt, record { fits = at-fits })) $

@@ -1,4 +1,4 @@
--- The test that the code makes is the one that `inRange` makes.
+-- The test that the code makes is the one that `in_range` makes.
 use Rattle.lists.proofs.Picks.{by_lt, by_ge}
 use mathlib.Core.Path.{refl}
 use Rattle.obu.specs.Leb128.{in_range}

@@ -12,8 +12,8 @@ use Rattle.segment_run.proofs.running.went_on.Statement.{statement}
 use Rattle.segment_run.proofs.running.went_on.Tie as tie
 
 -- the state with so many bytes of the open PES
-abbrev withBytes : State → ℕ → State
-withBytes c n =
+abbrev with_bytes : State → ℕ → State
+with_bytes c n =
     record {
       tables = c.tables;
       extraction =
@@ -29,7 +29,7 @@ unfolding pick
 returns c =
     let a = c.before.before.args in
     let same : a.state.extraction.bytes ≡ a.state.extraction.bytes + 0 = omega arith in
-    ap (withBytes a.state) (same ∙ ap (more a.state a.went) (sym (not-true a.went.av1 c.if1.true)))
+    ap (with_bytes a.state) (same ∙ ap (more a.state a.went) (sym (not-true a.went.av1 c.if1.true)))
 
 mul-t7 : tie.Need-overflow-mul-t7
 mul-t7 c = search rules
@@ -42,7 +42,7 @@ unfolding pick
 returns-2 c =
     let else = c.before.before.before.before in
     let a = else.before.before.args in
-    ap (withBytes a.state) (ap (more a.state a.went) (sym (not-false a.went.av1 else.if1.false)))
+    ap (with_bytes a.state) (ap (more a.state a.went) (sym (not-false a.went.av1 else.if1.false)))
 
 pub went-on-spec : {M : Type 1} → statement M
 went-on-spec = tie.close (tie.spec returns mul-t7 add-t8 returns-2)

@@ -3,7 +3,7 @@ use borrow.Author.Rules.{rules}
 use mathlib.Core.Path.{sym, ap, ◌∙◌}
 use Rattle.segment_rules.specs.Check.{outputs_of, rooms_of}
 use Rattle.segment.specs.Answer.{check_says}
-use Rattle.segment_sheet.proofs.Answers.{refused-writes, refused_stays, ready, accepted-writes, accepted-leaves}
+use Rattle.segment_sheet.proofs.Answers.{refused_writes, refused_stays, ready, accepted_writes, accepted_leaves}
 use Rattle.segment_sheet.proofs.writing.write.Statement.{statement}
 use Rattle.segment_sheet.proofs.writing.write.Tie as tie
 
@@ -59,7 +59,7 @@ returns c =
     let before = outputs_of a.out.now a.lens.now a.times.now in
     let says = sym (ap check_says told.answer.given.1) ∙ done.answers in
     record {
-      answers = refused-writes _ a.edition (rooms_of before) a.segment.now _ says;
+      answers = refused_writes _ a.edition (rooms_of before) a.segment.now _ says;
       outputs = done.leaves;
       written = refused_stays _ _ a.sheet.now says;
     }
@@ -87,10 +87,10 @@ returns-2 c =
     let says = sym (ap check_says told.answer2.given.1) ∙ done.answers in
     let put = called.put-sheet.ensures in
     record {
-      answers = accepted-writes a.edition a.segment.now before _ (search rules) _ _ _ _ says done.beside done.leaves
+      answers = accepted_writes a.edition a.segment.now before _ (search rules) _ _ _ _ says done.beside done.leaves
           done.began _ _ put.answers;
       outputs = done.leaves;
-      written = accepted-leaves a.edition a.segment.now before _ (search rules) _ _ _ _ says done.beside done.leaves
+      written = accepted_leaves a.edition a.segment.now before _ (search rules) _ _ _ _ says done.beside done.leaves
           done.began _ a.sheet.now _ put.answers put.written;
     }
 

@@ -1,7 +1,7 @@
 -- 3 and 10 are tried here, 4, 5 and 6 by `judge_obu`.
 use borrow.Author.Rules.{rules}
 use mathlib.Core.Path.{◌∙◌}
-use Rattle.emulation.proofs.Answers.{judged-legal, judged-illegal}
+use Rattle.emulation.proofs.Answers.{judged_legal, judged_illegal}
 use Rattle.tsobu.proofs.TsObus.{tsobu_empty, tsobu_illegal, tsobu_legal}
 use Rattle.tsobu.proofs.judging.judge_payload.Statement.{statement}
 use Rattle.tsobu.proofs.judging.judge_payload.Tie as tie
@@ -19,17 +19,17 @@ enum-known-judged : tie.Need-enum-known-judged
 enum-known-judged c = search rules
 
 judge-obu-requires : tie.Need-judge-obu-requires
-judge-obu-requires c κs = (judged-legal _ _ _ c.before.before.before.judge.ensures c.before.judged.given.1).1
+judge-obu-requires c κs = (judged_legal _ _ _ c.before.before.before.judge.ensures c.before.judged.given.1).1
 
 returns-2 : tie.Need-returns-2
 returns-2 c = tsobu_illegal _ c.before.before.before.if1.false
-    (judged-illegal _ _ _ c.before.before.judge.ensures c.enum_told.given.1)
+    (judged_illegal _ _ _ c.before.before.judge.ensures c.enum_told.given.1)
 
 returns-3 : tie.Need-returns-3
 returns-3 c =
     c.judge-obu.ensures
     ∙ tsobu_legal _ c.before.before.before.before.before.if1.false
-    (judged-legal _ _ _ c.before.before.before.before.judge.ensures c.before.before.judged.given.1).0
+    (judged_legal _ _ _ c.before.before.before.before.judge.ensures c.before.before.judged.given.1).0
 
 pub judge-payload-spec : {M : Type 1} → statement M
 judge-payload-spec =

@@ -82,8 +82,8 @@ abbrev stayed : Stays (step.ended).signature.params (step.ended).kept
 stayed = (stay_ref (0 ∷ []) tt referent, tt)
 
 -- the type of a local that holds a part of the bytes
-abbrev partTy : Ty
-partTy = slice_ty (ty_ref erased imm (ty_int w8))
+abbrev part_ty : Ty
+part_ty = slice_ty (ty_ref erased imm (ty_int w8))
 
 -- what the two callees say, of a reader h
 abbrev Says : Walk → Stepped → Type 0
@@ -303,7 +303,7 @@ module _ {M : Type 1} {𝓤 : Ura M} (𝓛 : Logic 𝓤) (at_mem : Memory → SP
         peeks ! (ShrSlice (named 0) κ' u8) (Is (ShrSlice (named 0) κ' u8)) (shows 𝓛 (ShrSlice (named 0) κ' u8)) x (u' ∷ []) (λ there.
         let same = shr_slice_Tells (named 0) κ' u8 x (u' ∷ []) there in
         land ! (from ! (stop !)) (init ! 7 refl ((shr_slice_Lawful 𝓛 erased κ' u8).typed x _ there).0) $
-        rewrite ! 7 (λ (w : Val). ‵ (fat full_share partTy l₅ 0 w)) (ap only same) refl $
+        rewrite ! 7 (λ (w : Val). ‵ (fat full_share part_ty l₅ 0 w)) (ap only same) refl $
         rewrite ! 0 (λ (us : List Val). ‵ ((ShrSlice (named 0) κ' u8).own_val x us)) same refl $
         peeks ! (ShrSlice (named 0) κ' u8) (Is (ShrSlice (named 0) κ' u8)) (shows 𝓛 (ShrSlice (named 0) κ' u8)) x
         (shr_slice_vals x) (λ here.
