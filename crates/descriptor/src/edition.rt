@@ -5,7 +5,7 @@ ghost use Rattle.descriptor.specs.Naming.{edition_says, named_says};
 
 use refusal::{Refusal, Refused};
 
-#[derive(Drop)]
+#[derive(Clone, Copy)]
 pub enum Edition {
     Current,
     Draft,

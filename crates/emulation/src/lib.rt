@@ -1,4 +1,6 @@
 // Legal payloads, unescaping one payload, and what escaping shares with it (000, 3.2; document 01, "Payload bytes").
+#![tactic(auto)]
+
 mod blocks;
 mod unescaping;
 mod writing;

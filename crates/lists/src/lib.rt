@@ -1,4 +1,6 @@
 // Bytes and parts of a string, and the definitions and laws on lists of bytes that the other crates cite.
+#![tactic(auto)]
+
 ghost use Rattle.std.specs.Prelude.{◌≡◌, take, drop};
 ghost use Rattle.lists.specs.Lists.{same};
 ghost use Rattle.lists.specs.Bytes.{byte};

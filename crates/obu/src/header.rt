@@ -16,14 +16,14 @@ use refusal::{Refusal, Refused};
 pub const JUDGED_BYTES: usize = 11;
 
 // The size that a header tells, and how many bytes its leb128 takes.
-#[derive(Drop)]
+#[derive(Clone, Copy)]
 pub enum Size {
     Absent,
     Present { value: u64, width: usize },
 }
 
 // A header. `content` is where the content begins, `first_content` its first byte, 0 where there is no content.
-#[derive(Drop)]
+#[derive(Clone, Copy)]
 pub struct Header {
     pub obu_type: u8,
     pub extension: bool,

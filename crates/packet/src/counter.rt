@@ -9,7 +9,7 @@ use refusal::{Refusal, Refused};
 
 // What the rule of the counter looks at in a packet. `equal` says that all its bytes but those of the PCR equal those
 // of its PID's last packet.
-#[derive(Drop)]
+#[derive(Clone, Copy)]
 pub struct Counted {
     pub counter: u8,
     pub payload: bool,
@@ -20,7 +20,7 @@ pub struct Counted {
 
 // The last packet of a PID, or that none was seen since the PID was named. `repeat` says that it repeated the packet
 // before it.
-#[derive(Drop)]
+#[derive(Clone, Copy)]
 pub enum Last {
     Unseen,
     Packet {
@@ -31,7 +31,7 @@ pub enum Last {
 }
 
 // A PID and its last packet.
-#[derive(Drop)]
+#[derive(Clone, Copy)]
 pub struct Stream {
     pub pid: u16,
     pub last: Last,

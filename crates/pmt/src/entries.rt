@@ -18,7 +18,7 @@ const MOST_ENTRIES: usize = 12;
 const AV1_STREAM_TYPE: u8 = 0x06;
 
 // An entry of the map.
-#[derive(Drop)]
+#[derive(Clone, Copy)]
 pub struct Entry {
     pub pid: u16,
     pub stream_type: u8,
@@ -67,7 +67,7 @@ pub(crate) enum Av1 {
 }
 
 // All entries passed, or why they are refused.
-#[derive(Drop)]
+#[derive(Clone, Copy)]
 pub(crate) enum ListAnswer {
     Passed,
     Refused(Refusal),

@@ -1,15 +1,17 @@
 // The refusals of documents 01 and 02, each with its number.
+#![tactic(auto)]
+
 ghost use Rattle.std.specs.Prelude.{◌≡◌};
 ghost use Rattle.refusal.specs.Number.{number_of};
 
 // Why something is refused: one of the constants below.
-#[derive(Drop)]
+#[derive(Clone, Copy)]
 pub struct Refusal {
     number: u8,
 }
 
 // A refusal and its place.
-#[derive(Drop)]
+#[derive(Clone, Copy)]
 pub struct Refused {
     pub why: Refusal,
     pub place: usize,

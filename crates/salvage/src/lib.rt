@@ -46,7 +46,7 @@ struct One {
 
 // The tsOBUs of a string that begins with a start code: their count and marks, of at most 64, the bytes of the result;
 // and of what is kept the count, the numbers of the OBUs' kinds and their bytes. more says that there are more tsOBUs.
-#[derive(Drop)]
+#[derive(Clone, Copy)]
 struct Measured {
     more: bool,
     count: usize,

@@ -1,4 +1,6 @@
 // Times: a PCR counts ticks of 27 MHz, a PTS or DTS ticks of 90 kHz.
+#![tactic(auto)]
+
 ghost use Rattle.std.specs.Prelude.{◌≡◌};
 ghost use Rattle.ticks.specs.Ticks.{clock, pcr_base, pcr_extension, time_stamp};
 
@@ -7,7 +9,7 @@ ghost use Rattle.ticks.specs.Ticks.{clock, pcr_base, pcr_extension, time_stamp};
 pub struct Ticks27(pub u64);
 
 // So many ticks of 90 kHz.
-#[derive(Drop)]
+#[derive(Clone, Copy)]
 pub struct Ticks90(pub u64);
 
 impl Ticks27 {

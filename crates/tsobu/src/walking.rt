@@ -9,14 +9,14 @@ use lists::part;
 use refusal::{Refusal, Refused};
 
 // Where a payload begins in the unit, how many bytes it has, and the place of the next step.
-#[derive(Drop)]
+#[derive(Clone, Copy)]
 pub struct Part {
     pub start: usize,
     pub bytes: usize,
     pub next: usize,
 }
 
-#[derive(Drop)]
+#[derive(Clone, Copy)]
 pub enum Step {
     Payload(Part),
     End,

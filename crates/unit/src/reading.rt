@@ -20,7 +20,7 @@ use refusal::{Refusal, Refused};
 use tsobu::{TsObu, at_start_code, find, judge_from};
 
 // A unit's OBUs, their bytes together, and the bytes dropped in all.
-#[derive(Drop)]
+#[derive(Clone, Copy)]
 pub struct Counts {
     pub obus: usize,
     pub bytes: usize,
