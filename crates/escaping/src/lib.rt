@@ -1,4 +1,6 @@
 // Escaping one OBU (000, 3.2; document 01, "Payload bytes").
+#![tactic(auto)]
+
 mod blocks;
 mod escaping;
 

@@ -1,4 +1,6 @@
 // One OBU (AV1, 5.3) and the order of OBUs in an access unit (document 01, "One access unit").
+#![tactic(auto)]
+
 mod header;
 mod leb128;
 mod ordering;

@@ -23,14 +23,14 @@ pub const PACKET_LENGTH: usize = 188;
 pub const NULL_PID: u16 = 0x1FFF;
 
 // A packet's PCR.
-#[derive(Drop)]
+#[derive(Clone, Copy)]
 pub enum Clock {
     Pcr(Ticks27),
     None,
 }
 
 // What a packet says. `payload` is where the payload begins, 0 where there is none.
-#[derive(Drop)]
+#[derive(Clone, Copy)]
 pub struct Header {
     pub pid: u16,
     pub start: bool,

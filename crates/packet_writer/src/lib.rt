@@ -16,7 +16,7 @@ pub use sections::{put_pat, put_pmt};
 
 // What the first packet of a PES says beside its PID and its counter: the flags of its adaptation field, the times, and
 // how many bytes the unit has.
-#[derive(Drop)]
+#[derive(Clone, Copy)]
 pub struct Start {
     pub flags: u8,
     pub pts: Ticks90,

@@ -8,7 +8,7 @@ use crate::common::common_wrong;
 use refusal::{Refusal, Refused};
 
 // An entry: a program and the PID of its map.
-#[derive(Drop)]
+#[derive(Clone, Copy)]
 pub struct Program {
     pub number: u16,
     pub map_pid: u16,

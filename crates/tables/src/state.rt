@@ -7,7 +7,7 @@ use psi::Program;
 use refusal::Refused;
 
 // What a packet's PID is at that moment; of a listed one, the slot of its record.
-#[derive(Drop)]
+#[derive(Clone, Copy)]
 pub enum Kind {
     Null,
     Pat,
@@ -18,7 +18,7 @@ pub enum Kind {
 }
 
 // A packet that passed 21, 22 and 23: its index, what its header says, and what its PID is.
-#[derive(Drop)]
+#[derive(Clone, Copy)]
 pub struct Packet {
     pub index: usize,
     pub header: Header,
@@ -26,20 +26,20 @@ pub struct Packet {
 }
 
 // The first PAT: the packet that brought it, and what it says.
-#[derive(Drop)]
+#[derive(Clone, Copy)]
 pub struct PatFound {
     pub packet: usize,
     pub says: Program,
 }
 
-#[derive(Drop)]
+#[derive(Clone, Copy)]
 pub enum PatSeen {
     None,
     First(PatFound),
 }
 
 // The first PMT: the packet that brought it, its PCR PID, the PID of its AV1 entry, and how many streams it lists.
-#[derive(Drop)]
+#[derive(Clone, Copy)]
 pub struct PmtFound {
     pub packet: usize,
     pub pcr_pid: u16,
@@ -47,7 +47,7 @@ pub struct PmtFound {
     pub listed: usize,
 }
 
-#[derive(Drop)]
+#[derive(Clone, Copy)]
 pub enum PmtSeen {
     None,
     First(PmtFound),

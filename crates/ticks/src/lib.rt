@@ -5,7 +5,7 @@ ghost use Rattle.std.specs.Prelude.{◌≡◌};
 ghost use Rattle.ticks.specs.Ticks.{clock, pcr_base, pcr_extension, time_stamp};
 
 // So many ticks of 27 MHz.
-#[derive(Drop)]
+#[derive(Clone, Copy)]
 pub struct Ticks27(pub u64);
 
 // So many ticks of 90 kHz.
