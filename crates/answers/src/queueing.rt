@@ -13,7 +13,7 @@ use ticks::{Ticks27, Ticks90};
 // Of each of the first `units` units, oldest first: its length in the store, its times, and its mark, 0 or 1; the rest
 // is 0. total: how many bytes they have together.
 #[repr(C)]
-#[derive(Drop)]
+#[derive(Clone, Copy)]
 pub struct QueueState {
     pub units: u64,
     pub length: [u64; 8],

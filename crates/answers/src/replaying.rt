@@ -11,7 +11,7 @@ use ticks::Ticks27;
 
 // The state of a replay. has_last 0: there is no last time, and last is 0; has_above 0: none was above, and above is 0.
 #[repr(C)]
-#[derive(Drop)]
+#[derive(Clone, Copy)]
 pub struct ReplayState {
     pub fill: u64,
     pub highest: u64,

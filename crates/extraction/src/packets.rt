@@ -25,7 +25,7 @@ use tables::{
 use units::{Arrival, Extraction, fresh_extraction, take_payload};
 
 // The tables and the units. The records of the counters are lent beside it.
-#[derive(Drop)]
+#[derive(Clone, Copy)]
 pub struct State {
     pub tables: Tables,
     pub extraction: Extraction,

@@ -6,7 +6,7 @@ ghost use Rattle.mastering.specs.Steps.{greatest, numbers_from, chromaticity_pas
 use crate::numbers::Numbers;
 
 // In the content's order: chromaticities in steps of 0.00002, luminances in steps of 0.0001.
-#[derive(Drop)]
+#[derive(Clone, Copy)]
 pub struct Steps {
     pub red_x: u64,
     pub red_y: u64,

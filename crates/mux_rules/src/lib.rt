@@ -6,7 +6,7 @@ use ticks::Ticks27;
 
 // What the caller says of a segment that is to be written, beside the units and the video descriptor. The counters are
 // those of each PID's next payload.
-#[derive(Drop)]
+#[derive(Clone, Copy)]
 pub struct Channel {
     pub program: u64,
     pub map_pid: u64,

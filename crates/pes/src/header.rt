@@ -8,14 +8,14 @@ use refusal::{Refusal, Refused};
 use ticks::Ticks90;
 
 // The times of a PES: none (PTS_DTS_flags 00), or PTS and DTS.
-#[derive(Drop)]
+#[derive(Clone, Copy)]
 pub enum Times {
     Absent,
     Stamps(Ticks90, Ticks90),
 }
 
 // What a header says. `length` is PES_packet_length; `size` is the header's own size, behind which the unit begins.
-#[derive(Drop)]
+#[derive(Clone, Copy)]
 pub struct Header {
     pub length: u16,
     pub size: u16,

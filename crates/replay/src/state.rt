@@ -14,21 +14,21 @@ pub(crate) const BUFFER: u64 = 110592000000;
 const MOST_ADDED: u64 = 40608000000;
 
 // The time of the last arrival, where there was one.
-#[derive(Drop)]
+#[derive(Clone, Copy)]
 pub enum Last {
     Never,
     At(Ticks27),
 }
 
 // The index of the first arrival above the buffer, where there was one.
-#[derive(Drop)]
+#[derive(Clone, Copy)]
 pub enum Above {
     Never,
     At(u64),
 }
 
 // Fill and highest fill are in bits times 27,000,000; arrivals are counted since the fresh state.
-#[derive(Drop)]
+#[derive(Clone, Copy)]
 pub struct State {
     pub fill: u64,
     pub highest: u64,

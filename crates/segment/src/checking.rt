@@ -19,7 +19,7 @@ use units::{clear, close, note_first};
 const MOST_PACKETS: usize = 65535;
 
 // What an accepted segment has: its program, the PID of its AV1 stream, its units, its packets by class.
-#[derive(Drop)]
+#[derive(Clone, Copy)]
 pub struct Summary {
     pub program: u16,
     pub pid: u16,
@@ -27,7 +27,7 @@ pub struct Summary {
     pub totals: Totals,
 }
 
-#[derive(Drop)]
+#[derive(Clone, Copy)]
 pub enum SegmentCheck {
     Accepted(Summary),
     Refused(Refused),

@@ -130,7 +130,7 @@ module _ (edition : Edition) (segment : Bytes) where
         (λ program _. (
           lie_append segment t.records (named program.map_pid ∷ []) h.0 (tt, tt),
           ap (λ (q : Bytes). section_of (payload q)) at,
-          no_map_yet t.pat t.pmt e h.2 _,
+          no_map_yet t.pat t.pmt e h.2 (record { packet = i; section = section_of (payload p); says = program }),
         ))
     pat_lies (some first) e = later_lies 25 first.section (section_of (payload p))
 

@@ -1,7 +1,7 @@
 // The rules of document 01, "A segment", as definitions, and the laws about them; no functions.
 
 // Packets in their five classes.
-#[derive(Drop)]
+#[derive(Clone, Copy)]
 pub struct Totals {
     pub null: usize,
     pub section: usize,

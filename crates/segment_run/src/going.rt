@@ -18,7 +18,7 @@ enum Due {
 }
 
 // Packets that went on: how many, and whether they are on the AV1 PID.
-#[derive(Drop)]
+#[derive(Clone, Copy)]
 pub(crate) struct Went {
     pub packets: usize,
     pub av1: bool,

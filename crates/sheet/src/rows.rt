@@ -8,7 +8,7 @@ pub struct StreamRow {
 }
 
 // A unit: the index of its first packet, its length as carried, and its times.
-#[derive(Drop)]
+#[derive(Clone, Copy)]
 pub struct UnitRow {
     pub first_packet: u64,
     pub length: u64,
@@ -17,7 +17,7 @@ pub struct UnitRow {
 }
 
 // An OBU: its unit's number and its type, and where in the unit its payload stands, as carried.
-#[derive(Drop)]
+#[derive(Clone, Copy)]
 pub struct ObuRow {
     pub unit: u64,
     pub obu_type: u64,

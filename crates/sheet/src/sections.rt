@@ -12,7 +12,7 @@ const MOST_UNITS: u64 = 1024;
 const MOST_OBUS: u64 = 65536;
 
 // How many rows each section has, and the numbers at which those of the units and of the OBUs begin.
-#[derive(Drop)]
+#[derive(Clone, Copy)]
 pub(crate) struct Sections {
     pub streams: usize,
     pub units: usize,

@@ -54,7 +54,7 @@ pub enum PmtSeen {
 }
 
 // The verdict of a rule.
-#[derive(Drop)]
+#[derive(Clone, Copy)]
 pub enum Outcome {
     Passed,
     Refused(Refused),

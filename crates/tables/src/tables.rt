@@ -12,7 +12,7 @@ use pmt::Entry;
 
 // The edition that is followed, the first sections, and the last PCR that counted. The records of the counters are lent
 // beside it.
-#[derive(Drop)]
+#[derive(Clone, Copy)]
 pub struct Tables {
     pub edition: Edition,
     pub pat: PatSeen,

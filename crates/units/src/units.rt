@@ -47,7 +47,7 @@ const MOST_UNITS: usize = 1024;
 
 // The open PES, the units closed so far, and where in the output the next unit begins and how many bytes of it are
 // there.
-#[derive(Drop)]
+#[derive(Clone, Copy)]
 pub struct Extraction {
     pub pes: PesSeen,
     pub units: usize,

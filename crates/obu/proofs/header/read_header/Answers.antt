@@ -33,30 +33,30 @@ pub returns-then-forbidden_bit : goal.returns-then-forbidden_bit
 unfolding header_of
 returns-then-forbidden_bit c =
     c.refuse-then-forbidden_bit.ensures
-    ∙ pass_on 3 (some_bytes (goal.at.returns-then-forbidden_bit c).Else-obu-eq0
+    ∙ pass_on 3 (some_bytes (goal.at.returns-then-forbidden_bit c).Else-obu-eq0)
     (refuse 4 _ (sym c.forbidden_bit.ensures ∙ c.if-forbidden_bit.true))
 
 pub returns-then-extension_missing : goal.returns-then-extension_missing
 unfolding header_of
 returns-then-extension_missing c =
     c.refuse-then-extension_missing.ensures
-    ∙ pass_on 3 (some_bytes (goal.at.returns-then-extension_missing c).Else-obu-eq0
-    (pass_on 4 (not-forbidden (goal.at.returns-then-extension_missing c).Else-forbidden_bit
+    ∙ pass_on 3 (some_bytes (goal.at.returns-then-extension_missing c).Else-obu-eq0)
+    (pass_on 4 (not-forbidden (goal.at.returns-then-extension_missing c).Else-forbidden_bit)
     (refuse 4 _ (sym c.extension_missing.ensures ∙ c.if-extension_missing.true)))
 
 pub slice_bounds-sized_header-count : goal.slice_bounds-sized_header-count
 slice_bounds-sized_header-count c =
-    fixed_within _ _ _ (not-missing (goal.at.slice_bounds-sized_header-count c).Else-extension_missing c.if-obu-eq0.false c.fixed_bytes-fixed.ensures
+    fixed_within _ _ _ (not-missing (goal.at.slice_bounds-sized_header-count c).Else-extension_missing) c.if-obu-eq0.false c.fixed_bytes-fixed.ensures
 
 pub slice_bounds-sized_header-start : goal.slice_bounds-sized_header-start
 slice_bounds-sized_header-start c =
-    fixed_within _ _ _ (not-missing (goal.at.slice_bounds-sized_header-start c).Else-extension_missing c.if-obu-eq0.false c.fixed_bytes-fixed.ensures
+    fixed_within _ _ _ (not-missing (goal.at.slice_bounds-sized_header-start c).Else-extension_missing) c.if-obu-eq0.false c.fixed_bytes-fixed.ensures
 
 pub returns : goal.returns
 unfolding header_of
 returns c =
     let obu = c.args.obu.now in
-    pass_on 3 (some_bytes (goal.at.returns c).Else-obu-eq0
-    (pass_on 4 (not-forbidden (goal.at.returns c).Else-forbidden_bit
-    (pass_on 4 (not-missing (goal.at.returns c).Else-extension_missing
+    pass_on 3 (some_bytes (goal.at.returns c).Else-obu-eq0)
+    (pass_on 4 (not-forbidden (goal.at.returns c).Else-forbidden_bit)
+    (pass_on 4 (not-missing (goal.at.returns c).Else-extension_missing)
     (c.sized_header.ensures ∙ behind_fixed _ _ obu c.fixed_bytes-fixed.ensures)))
