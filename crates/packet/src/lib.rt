@@ -1,5 +1,7 @@
 // One transport packet (ISO/IEC 13818-1, 2.4.3) and the records of its streams' continuity counters (document 01, "A
 // segment").
+#![tactic(auto)]
+
 mod counter;
 mod header;
 mod streams;

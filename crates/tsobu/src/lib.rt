@@ -1,5 +1,7 @@
 // Start codes, the verdict on one tsOBU, and the walk over an access unit (document 01, "Payload bytes" and "One access
 // unit").
+#![tactic(auto)]
+
 mod judging;
 mod reader;
 mod start_codes;

@@ -1,4 +1,6 @@
 // One access unit (document 01, "One access unit").
+#![tactic(auto)]
+
 mod limits;
 mod reading;
 mod writing;

@@ -1,0 +1,13 @@
+-- The test is the one that the definition picks by.
+use mathlib.Core.Path.{refl}
+use Rattle.lists.proofs.Picks.{by_lt, by_ge}
+use Rattle.packet.specs.Streams.{with_pid}
+use Rattle.packet.proofs.streams.put_pid.Goals as goal
+
+pub returns-then-slot-ge-MOST_RECORDS : goal.returns-then-slot-ge-MOST_RECORDS
+unfolding with_pid
+returns-then-slot-ge-MOST_RECORDS c = by_ge _ c.if-slot-ge-MOST_RECORDS.true refl
+
+pub returns : goal.returns
+unfolding with_pid
+returns c = by_lt _ c.if-slot-ge-MOST_RECORDS.false refl
