@@ -1,5 +1,7 @@
 // The CRC of ISO/IEC 13818-1, Annex A, sixteen bytes at a time: by what each half of a byte leaves, in a long string by
 // what each whole byte leaves.
+#![tactic(auto)]
+
 ghost use Rattle.std.specs.Prelude.{◌≡◌, ◌+◌, ◌≤◌, length, drop};
 ghost use Rattle.crc.specs.Crc.{byte_step, crc_from, crc};
 ghost use Rattle.crc.specs.Parts.{zeros_step, word, word_at};

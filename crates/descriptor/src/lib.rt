@@ -1,4 +1,6 @@
 // The AV1 descriptors (000, 2; document 01, "The AV1 descriptors"; request 2026-12).
+#![tactic(auto)]
+
 mod edition;
 mod fields;
 mod reading;

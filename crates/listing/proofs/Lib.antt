@@ -3,6 +3,3 @@ pub mod Puttings
 pub mod Walked
 pub mod Texts
 pub mod Printed
-pub mod Again
-pub mod Loans
-pub mod Called

@@ -1,4 +1,6 @@
 // The mastering figures of metadata_hdr_mdcv (AV1 5.8; document 02, request 2026-14).
+#![tactic(auto)]
+
 mod figures;
 mod numbers;
 mod reading;

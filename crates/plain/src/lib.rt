@@ -1,5 +1,7 @@
 // Runs of packets of a segment that ask nothing of its tables: null packets, packets of one PID whose counters go on,
 // and those of them that go on with a PES.
+#![tactic(auto)]
+
 ghost use Rattle.std.specs.Prelude.{◌≡◌, ◌≤◌, length, drop};
 ghost use Rattle.lists.specs.Lists.{over};
 ghost use Rattle.packet.specs.Header.{packet_length, pid, packets};

@@ -1,5 +1,7 @@
 // Salvaging a damaged unit (document 02, request 2026-10). The writer's form of a legal payload is the payload without
 // its closing 03, so that what is kept is only copied.
+#![tactic(auto)]
+
 ghost use Rattle.std.specs.Prelude.{◌≡◌, map, ◌≤◌, length, take};
 ghost use Rattle.lists.specs.Lists.{over};
 ghost use Rattle.refusal.specs.Verdict.{refused, leaves};

@@ -3,7 +3,6 @@ use Rattle.std.specs.Prelude.{ℕ, suc, Bool, false, ◌≡◌, List, [], ◌∷
 use Rattle.lists.specs.Lists.{Bytes}
 use Rattle.descriptor.specs.Naming.{edition_says}
 use Rattle.packet.specs.Header.{packet_at, pid, fields}
-use Rattle.packet.specs.declared.counter.Counter.TheVariants as counter
 use Rattle.packet.specs.declared.counter.Last.{Last}
 use Rattle.packet.specs.declared.counter.Last.TheVariants as last
 use Rattle.packet.specs.declared.counter.Checked.{Checked}

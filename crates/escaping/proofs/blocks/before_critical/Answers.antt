@@ -1,5 +1,4 @@
 use native.Mathlib.Omega.{arith}
-use Prim.Native.Nat.{◌-◌}
 use mathlib.Core.Path.{refl}
 use Rattle.emulation.specs.Parts.{critical}
 use Rattle.escaping.proofs.Searching.{searched_start, searched_next, searched_all}

@@ -1,6 +1,6 @@
 -- The flags of the first j places stand (`Flags`); each turn sets one more.
 use Prim.Native.Nat.{◌-◌, ◌≤◌}
-use mathlib.Core.Path.{◌≡◌, ◌∙◌}
+use mathlib.Core.Path.{◌≡◌}
 use lib.ListN.{length}
 use Rattle.emulation.specs.Blocks.{block}
 use Rattle.emulation.specs.Parts.{critical}

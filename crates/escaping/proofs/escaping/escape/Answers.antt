@@ -42,6 +42,6 @@ returns c =
 pub returns-then-obu-gt-MOST_ESCAPED : goal.returns-then-obu-gt-MOST_ESCAPED
 unfolding escaping leaves
 returns-then-obu-gt-MOST_ESCAPED c = record {
-      result_value = refuse 2 _ (lt-ltb _ _ c.if-obu-gt-MOST_ESCAPED.true);
-      out_after = refl;
-    }
+  result_value = refuse 2 _ (lt-ltb _ _ c.if-obu-gt-MOST_ESCAPED.true);
+  out_after = refl;
+}

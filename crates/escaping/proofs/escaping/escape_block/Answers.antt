@@ -18,4 +18,4 @@ returns-then-crowd-eq0 c =
     }
 
 pub returns : goal.returns
-returns c = record { lays = (c.escape_dense.ensures).0; n_lt_count = (c.escape_dense.ensures).1 }
+returns c = record { lays = c.escape_dense.ensures.lays; n_lt_count = c.escape_dense.ensures.n_lt_count }

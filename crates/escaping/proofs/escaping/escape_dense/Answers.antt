@@ -1,5 +1,4 @@
 use native.Mathlib.Omega.{arith}
-use Prim.Native.Nat.{◌-◌}
 use Rattle.escaping.proofs.Dense.{laid_pair, laid_end}
 use Rattle.escaping.proofs.escaping.escape_dense.Goals as goal
 

@@ -1,5 +1,5 @@
 -- The first j places are laid (`Laid`), and each turn lays two more; where a 03 is left to go in, the place before it is gone back to.
-use Prim.Native.Nat.{◌+◌, ◌-◌}
+use Prim.Native.Nat.{◌-◌}
 use Rattle.emulation.specs.Blocks.{block}
 use Rattle.escaping.proofs.Dense.{Laid}
 use Rattle.escaping.proofs.escaping.escape_dense.Given as goal

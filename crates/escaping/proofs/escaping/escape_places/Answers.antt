@@ -1,5 +1,5 @@
 use native.Mathlib.Omega.{arith}
-use Prim.Native.Nat.{◌+◌, ◌-◌}
+use Prim.Native.Nat.{◌+◌}
 use mathlib.Core.Path.{sym, ◌∙◌}
 use mathlib.Core.List.{◌∷◌}
 use lib.ListN.{drop}
@@ -31,6 +31,6 @@ loop-place-preserved c =
 
 pub returns : goal.returns
 returns c = record {
-      gives = c.loop-place.invariant.0;
-      n_lt_count = c.loop-place.invariant.1 (omega arith);
-    }
+  gives = c.loop-place.invariant.0;
+  n_lt_count = c.loop-place.invariant.1 (omega arith);
+}

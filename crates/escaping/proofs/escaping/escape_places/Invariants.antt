@@ -1,7 +1,5 @@
 -- What is written, then the escaped form of the rest, is the escaped form of the OBU from i on.
-use Prim.Native.Nat.{◌+◌, ◌-◌}
-use mathlib.Core.Path.{◌∙◌}
-use mathlib.Core.List.{◌∷◌}
+use Prim.Native.Nat.{◌-◌}
 use lib.ListN.{length}
 use Rattle.emulation.specs.Payload.{escape}
 use Rattle.emulation.proofs.Giving.{Going}

@@ -1,5 +1,4 @@
 use native.Mathlib.Omega.{arith}
-use Prim.Native.Nat.{◌-◌}
 use Rattle.emulation.proofs.Outputs.{writes_rest}
 use Rattle.escaping.proofs.Laying.{gives_lays, lays_then, lays_rest}
 use Rattle.escaping.proofs.escaping.escape_prefix.Goals as goal

@@ -1,6 +1,5 @@
 -- One pass, by blocks: what is given of the bytes up to i stands in the output. A block that does not fit goes place by place.
 use Prim.Native.Nat.{◌-◌}
-use mathlib.Core.Path.{◌∙◌}
 use lib.ListN.{length}
 use Rattle.escaping.specs.Parts.{Lays}
 use Rattle.escaping.proofs.escaping.escape_prefix.Given as goal

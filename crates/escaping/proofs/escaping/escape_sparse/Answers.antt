@@ -1,5 +1,4 @@
 use native.Mathlib.Omega.{arith}
-use Prim.Native.Nat.{◌-◌}
 use Rattle.escaping.proofs.Laying.{lays_then}
 use Rattle.escaping.proofs.escaping.escape_sparse.Goals as goal
 
@@ -14,6 +13,6 @@ loop-place-preserved c =
 
 pub returns : goal.returns
 returns c = record {
-      lays = c.loop-place.invariant.0;
-      n_lt_count = c.loop-place.invariant.2 (omega arith);
-    }
+  lays = c.loop-place.invariant.0;
+  n_lt_count = c.loop-place.invariant.2 (omega arith);
+}

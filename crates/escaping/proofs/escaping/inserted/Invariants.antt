@@ -1,7 +1,6 @@
 -- One pass, by blocks: the bytes put up to i are counted. A clean block is passed over; in one without 00 00 00 a byte is put for each
 -- critical place; `inserted_places` counts those of another.
-use Prim.Native.Nat.{ℕ, ◌+◌, ◌-◌}
-use mathlib.Core.Path.{◌∙◌}
+use Prim.Native.Nat.{◌-◌}
 use lib.ListN.{length}
 use Rattle.escaping.specs.Parts.{Inserts}
 use Rattle.escaping.proofs.escaping.inserted.Given as goal

@@ -1,5 +1,4 @@
 use native.Mathlib.Omega.{arith}
-use Prim.Native.Nat.{◌-◌}
 use mathlib.Core.Path.{sym, ◌∙◌}
 use Rattle.escaping.proofs.Inserting.{inserts_plain, inserts_critical}
 use Rattle.escaping.proofs.escaping.inserted_places.Goals as goal
@@ -16,9 +15,9 @@ loop-place-preserved-else-critical_at c =
 
 pub returns : goal.returns
 returns c = record {
-      inserts = c.loop-place.invariant.2;
-      i_lt_place = omega arith;
-    }
+  inserts = c.loop-place.invariant.2;
+  i_lt_place = omega arith;
+}
 
 pub loop-place-preserved : goal.loop-place-preserved
 loop-place-preserved c = (omega arith, omega arith, c.loop-place.invariant.2)

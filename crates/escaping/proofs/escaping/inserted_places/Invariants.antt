@@ -1,6 +1,5 @@
 -- Up to `next` the bytes put are counted, by the laws of `Inserts`; `next` is `place`, or the place after it.
 use Prim.Native.Nat.{◌+◌, ◌-◌, ◌≤◌}
-use mathlib.Core.Path.{◌∙◌}
 use Rattle.escaping.specs.Parts.{Inserts}
 use Rattle.escaping.proofs.escaping.inserted_places.Given as goal
 

@@ -1,0 +1,13 @@
+-- Each read is that of the definition, in its order.
+use Rattle.sequence.specs.Header.{integer_mv}
+use Rattle.sequence.proofs.Steps.{and_then, held, failed}
+use Rattle.sequence.proofs.tools.integer_mv_if.Goals as goal
+
+pub returns-then-test : goal.returns-then-test
+unfolding integer_mv
+returns-then-test c =
+    held c.if-test.true
+    (and_then _ c.flag-choose.ensures c.skip_if.ensures)
+
+pub returns : goal.returns
+returns c = failed _ c.if-test.false
