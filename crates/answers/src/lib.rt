@@ -1,4 +1,6 @@
 // The C structs of include/av1ts.h, what the library's answers are in them, and what is handed in by them.
+#![tactic(auto)]
+
 mod access_unit;
 mod answer;
 mod metadata;

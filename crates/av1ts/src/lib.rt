@@ -1,5 +1,7 @@
 // The C interface. include/av1ts.h says of each function what it refuses and what it leaves; a slice is passed as a
 // pointer and a length. The structs are those of crates/answers.
+#![tactic(auto)]
+
 mod access_unit;
 mod metadata;
 mod payload;

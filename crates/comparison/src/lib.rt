@@ -1,4 +1,6 @@
 // The sequence headers of carried units beside a descriptor's fields (document 02, request 2026-04).
+#![tactic(auto)]
+
 ghost use Rattle.std.specs.Prelude.{◌≡◌, map, take, drop};
 ghost use Rattle.emulation.specs.Payload.{unescape};
 ghost use Rattle.obu.specs.Header.{header_of};

@@ -1,4 +1,6 @@
 // One packet of a segment by its rules (document 01, "A segment").
+#![tactic(auto)]
+
 mod packets;
 
 pub use packets::{State, Stepped, fresh_state, step};

@@ -1,4 +1,6 @@
 // Inner functions with C names, for bench/ alone: they are no part of libav1ts.a.
+#![tactic(auto)]
+
 mod checksum;
 mod header;
 

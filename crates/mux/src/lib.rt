@@ -1,4 +1,6 @@
 // The segment writer (document 02, request 2026-01).
+#![tactic(auto)]
+
 mod channel;
 mod cutting;
 mod frames;

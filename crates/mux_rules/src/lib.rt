@@ -1,5 +1,7 @@
 // The segment that send writes (document 02, request 2026-01), as definitions, and the theorems about them; no
 // functions.
+#![tactic(auto)]
+
 use queue::Queue;
 use refusal::Refused;
 use ticks::Ticks27;

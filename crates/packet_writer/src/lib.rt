@@ -1,5 +1,7 @@
 // The packets of a segment that is written (document 02, request 2026-01), each put over the front of an output. Where
 // a number has more bits than its field, or the output no room for a packet, the output stays as it was.
+#![tactic(auto)]
+
 use ticks::Ticks90;
 
 mod bytes;

@@ -1,4 +1,6 @@
 // The program map table (document 01, "A segment").
+#![tactic(auto)]
+
 mod entries;
 mod loops;
 mod section;

@@ -1,5 +1,7 @@
 // Sections of program-specific information: how one lies in a packet, what PAT and PMT have in common, and the PAT
 // (document 01, "A segment").
+#![tactic(auto)]
+
 mod common;
 mod pat;
 mod placing;

@@ -1,5 +1,5 @@
 -- What the answers of add and drop say, and what they leave. Assumes nothing.
-use Rattle.std.specs.Prelude.{Bool, true, false, ◌≡◌, List, ◌∷◌, length}
+use Rattle.std.specs.Prelude.{Bool, true, false, ◌≡◌, List, length}
 use Rattle.lists.specs.Lists.{Bytes}
 use Rattle.refusal.specs.Verdict.{Verdict, NoValue, passed, ◌>>◌}
 use Rattle.refusal.specs.Number.{refused_by}

@@ -1,4 +1,6 @@
 // The check of a segment (document 01, "A segment").
+#![tactic(auto)]
+
 mod checking;
 mod comparing;
 

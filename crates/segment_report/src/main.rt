@@ -1,10 +1,13 @@
 // Checks a segment from standard input and prints what it carries, or the refusal. An input of more than 16,384 packets
 // is not checked, and the program says so: its buffers stand on the stack.
-ghost use Rattle.std.specs.Prelude.{◌≡◌, length};
+#![tactic(auto)]
 
-use libc::{STDIN_FILENO, STDOUT_FILENO};
+ghost use Rattle.std.specs.Prelude.{◌≡◌, ◌≤◌, length, IfOk};
+
 use refusal::Refused;
 use segment::{SegmentCheck, Summary};
+use std::io;
+use std::io::Read;
 
 // The most units that a segment has.
 const MOST_UNITS: usize = 1024;
@@ -27,59 +30,68 @@ fn unit_buffer() -> [u8; MOST_BYTES]
     [0; MOST_BYTES]
 }
 
-fn print_figure(word: &[u8], n: u64) {
-    io::write_all(STDOUT_FILENO, word);
-    io::print_decimal(STDOUT_FILENO, n);
+// Reads until the buffer is full or the input ends; returns how many bytes were read.
+fn read_full<R: Read>(input: &mut R, buf: &mut [u8]) -> io::Result<usize>
+    ensures { IfOk result (λ n. n ≤ length buf.old) }
+{
+    let mut n = 0;
+    while n < buf.len() {
+        let got = input.read(&mut buf[n..])?;
+        if got == 0 {
+            break;
+        }
+        n += got;
+    }
+    Ok(n)
 }
 
-fn print_refused(refused: Refused) {
+fn print_refused(rt: &impl Print, refused: Refused) -> io::Result<()> {
     let why = refused.why;
-    print_figure(b"refused ", why.number() as u64);
-    print_figure(b" ", refused.place as u64);
-    io::write_all(STDOUT_FILENO, b"\n");
+    println!(rt; "refused {} {}", why.number(), refused.place)
 }
 
-fn print_accepted(summary: Summary) {
+fn print_accepted(rt: &impl Print, summary: Summary) -> io::Result<()> {
     let totals = summary.totals;
-    print_figure(b"program ", summary.program as u64);
-    print_figure(b" pid ", summary.pid as u64);
-    print_figure(b" units ", summary.units as u64);
-    print_figure(b"\nnull ", totals.null as u64);
-    print_figure(b" section ", totals.section as u64);
-    print_figure(b" av1 ", totals.av1 as u64);
-    print_figure(b" other_listed ", totals.other_listed as u64);
-    print_figure(b" unlisted ", totals.unlisted as u64);
-    io::write_all(STDOUT_FILENO, b"\n");
+    println!(rt;
+        "program {} pid {} units {}",
+        summary.program, summary.pid, summary.units
+    )?;
+    print!(rt;
+        "null {} section {} av1 {}",
+        totals.null, totals.section, totals.av1
+    )?;
+    println!(rt;
+        " other_listed {} unlisted {}",
+        totals.other_listed, totals.unlisted
+    )
 }
 
-fn print_unit(index: usize, length: usize, pts: u64, dts: u64) {
-    print_figure(b"unit ", index as u64);
-    print_figure(b" bytes ", length as u64);
-    print_figure(b" pts ", pts);
-    print_figure(b" dts ", dts);
-    io::write_all(STDOUT_FILENO, b"\n");
+fn print_unit(rt: &impl Print, index: usize, length: usize, pts: u64, dts: u64) -> io::Result<()> {
+    println!(rt; "unit {index} bytes {length} pts {pts} dts {dts}")
 }
 
-fn print_units(units: usize, lens: [usize; 1024], times: [u64; 2048]) {
+fn print_units(
+    rt: &impl Print,
+    units: usize,
+    lens: [usize; 1024],
+    times: [u64; 2048],
+) -> io::Result<()> {
     let mut i: usize = 0;
     while i < MOST_UNITS {
         if units <= i {
-            return;
+            return Ok(());
         }
-        print_unit(i, lens[i], times[2 * i], times[2 * i + 1]);
+        print_unit(rt, i, lens[i], times[2 * i], times[2 * i + 1])?;
         i += 1;
     }
+    Ok(())
 }
 
-fn main() {
+fn main(rt: HostRuntime) -> io::Result<()> {
     let mut bytes = input_buffer();
-    let n = io::read_full(STDIN_FILENO, &mut bytes);
+    let n = read_full(&mut rt.stdin().lock(), &mut bytes)?;
     if MOST_BYTES < n {
-        io::write_all(
-            STDOUT_FILENO,
-            b"not checked: the input is longer than 3080192 bytes\n",
-        );
-        return;
+        return println!(rt; "not checked: the input is longer than 3080192 bytes");
     }
     let mut out = unit_buffer();
     let mut lens = [0usize; MOST_UNITS];
@@ -88,10 +100,10 @@ fn main() {
     let checked = segment::check(0, &bytes[..n], &mut out, &mut lens, &mut times, &mut none);
     let answer = checked.answer;
     match answer {
-        SegmentCheck::Refused(refused) => print_refused(refused),
+        SegmentCheck::Refused(refused) => print_refused(&rt, refused),
         SegmentCheck::Accepted(summary) => {
-            print_accepted(summary);
-            print_units(summary.units, lens, times);
+            print_accepted(&rt, summary)?;
+            print_units(&rt, summary.units, lens, times)
         }
     }
 }

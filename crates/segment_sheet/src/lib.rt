@@ -1,4 +1,6 @@
 // The sheet of a segment that the check accepts (document 02, request 2026-09).
+#![tactic(auto)]
+
 mod ends;
 mod numbers;
 mod obus;

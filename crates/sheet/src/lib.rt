@@ -1,4 +1,6 @@
 // The sheet beside a segment (document 02, request 2026-09): reading it, and finding a unit in it.
+#![tactic(auto)]
+
 mod checking;
 mod finding;
 mod numbers;

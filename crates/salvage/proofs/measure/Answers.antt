@@ -1,5 +1,5 @@
 use native.Mathlib.Omega.{arith}
-use Prim.Native.Nat.{◌+◌, ◌-◌}
+use Prim.Native.Nat.{◌+◌}
 use lib.ListN.{set}
 use Rattle.salvage.proofs.Loops.{end_room, Measuring, measuring_step, measuring_past, measuring_done}
 use Rattle.salvage.proofs.measure.Goals.{After-judge_one-one}

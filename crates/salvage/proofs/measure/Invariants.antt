@@ -1,6 +1,6 @@
 -- One tsOBU a turn: what was noted of those before, then what the definition says of those from the next start code on, is what it says of
 -- all.
-use Prim.Native.Nat.{◌+◌, ◌-◌, ◌≤◌}
+use Prim.Native.Nat.{◌-◌}
 use lib.ListN.{length}
 use Rattle.salvage.proofs.Loops.{Measuring}
 use Rattle.salvage.proofs.measure.Given as goal

@@ -41,7 +41,7 @@ put-requires c =
 pub returns : goal.returns
 returns c =
     let h = put_all (found (goal.at.returns c).After-measure-measured) c.args.out.now c.args.marks.now c.if-measured.false c.if-out-measured.false
-        c.if-marks-measured.false _ _ _ c.is_accepted-accepted.ensures c.put.ensures.out_after c.put.ensures.marks_after in
+    c.if-marks-measured.false _ _ _ c.is_accepted-accepted.ensures c.put.ensures.out_after c.put.ensures.marks_after in
     record { result_value = h.0; out_after = h.1.0; marks_after = h.1.1 }
 
 pub returns-then-unit-gt-MOST_CARRIED : goal.returns-then-unit-gt-MOST_CARRIED

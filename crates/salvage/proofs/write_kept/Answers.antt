@@ -1,4 +1,3 @@
-use Prim.Native.Nat.{◌-◌}
 use Rattle.salvage.proofs.Loops.{end_room, keeping_room, keeping_step, keeping_done}
 use Rattle.salvage.proofs.write_kept.Goals as goal
 

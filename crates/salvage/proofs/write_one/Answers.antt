@@ -1,5 +1,4 @@
 -- A start code stands at 0, 1, 2; the payload's first bytes, which have room from 3 on, stand there.
-use Prim.Native.Nat.{◌-◌}
 use Rattle.salvage.proofs.Forms.{code_written}
 use Rattle.salvage.proofs.write_one.Goals as goal
 

@@ -23,8 +23,7 @@ after c =
 
 pub loop-text-init : goal.loop-text-init
 loop-text-init c =
-    let e = c.new-walk.ensures in
-    (
+    let e = c.new-walk.ensures in (
       ap (λ (w : Walk). w.src.now) e,
       subst (λ (n : ℕ). Listing c.args.unit.now c.args.text.now c.args.at c.args.text.now n c.args.at 0) (sym (ap (λ (w : Walk). w.at) e))
           (listing_start c.args.unit.now c.args.text.now c.args.at c.requires.0),
@@ -52,10 +51,9 @@ loop-text-preserved c =
     let place = c.loop-text.walk.at in
     let wrote = c.put_payload-end in
     let part : c.step-handed.result.payload.now ≡ handed_out unit (stepping unit place) =
-        c.step-handed.ensures.payload_value ∙ ap (λ (u : Bytes). handed_out u (stepping u place)) c.loop-text.invariant.0 in
+    c.step-handed.ensures.payload_value ∙ ap (λ (u : Bytes). handed_out u (stepping u place)) c.loop-text.invariant.0 in
     let puts = subst (λ (p : Bytes). Puts c.loop-text.text c.loop-text.end (payload_line c.loop-text.index p) wrote.new.text wrote.result) part
-        wrote.ensures.puts in
-    (
+    wrote.ensures.puts in (
       ap (λ (w : Walk). w.src.now) c.step-handed.ensures.self_after ∙ c.loop-text.invariant.0,
       subst (λ (n : ℕ). Listing unit c.args.text.now c.args.at wrote.new.text n wrote.result (c.loop-text.index + 1)) (sym (after at.In-Payload))
           (listing_step c.loop-text.invariant.1 c.in-Payload.field-0 (hands at.In-Payload) wrote.new.text wrote.result c.requires.1 puts

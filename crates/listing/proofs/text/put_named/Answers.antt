@@ -5,7 +5,7 @@ use Rattle.listing.proofs.text.put_named.Goals as goal
 
 pub returns : goal.returns
 returns c = record {
-      puts = puts_then (omega arith) c.put_word-end.ensures
+  puts = puts_then (omega arith) c.put_word-end.ensures
       c.put_decimal.ensures.puts;
-      upper_bound = omega arith;
-    }
+  upper_bound = omega arith;
+}

@@ -1,5 +1,4 @@
 use native.Mathlib.Omega.{arith}
-use Prim.Native.Nat.{◌-◌}
 use mathlib.Core.Path.{sym, ◌∙◌}
 use Rattle.tsobu.proofs.Places.{before_code, before_byte, before_end}
 use Rattle.tsobu.proofs.start_codes.find.Goals as goal

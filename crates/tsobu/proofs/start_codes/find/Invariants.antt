@@ -1,6 +1,6 @@
 -- No start code stands before i: what comes before the next one is the bytes passed, then what comes before it from i on.
 use Prim.Native.Nat.{◌+◌, ◌-◌, ◌≤◌}
-use mathlib.Core.Path.{◌≡◌, ◌∙◌}
+use mathlib.Core.Path.{◌≡◌}
 use lib.ListN.{length, drop}
 use Rattle.tsobu.proofs.Places.{before}
 use Rattle.tsobu.proofs.start_codes.find.Given as goal

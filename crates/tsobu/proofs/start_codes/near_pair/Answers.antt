@@ -1,5 +1,4 @@
 use native.Mathlib.Omega.{arith}
-use Prim.Native.Nat.{◌-◌}
 use Rattle.emulation.proofs.Judging.{lawful_past_one, lawful_past_two}
 use Rattle.tsobu.proofs.start_codes.near_pair.Goals as goal
 

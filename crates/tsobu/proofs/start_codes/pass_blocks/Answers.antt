@@ -1,7 +1,5 @@
 use native.Mathlib.Omega.{arith}
-use Prim.Native.Nat.{◌-◌}
 use mathlib.Core.Path.{sym, ◌∙◌}
-use borrow.Author.Tests.{not-true}
 use Rattle.tsobu.proofs.Scanning.{uncoded_passes}
 use Rattle.tsobu.proofs.start_codes.pass_blocks.Goals as goal
 

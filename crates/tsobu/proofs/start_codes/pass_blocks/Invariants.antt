@@ -1,6 +1,6 @@
 -- Blocks without a start code are passed over one by one: the next start code stays where it is.
 use Prim.Native.Nat.{◌+◌, ◌-◌, ◌≤◌}
-use mathlib.Core.Path.{◌≡◌, ◌∙◌}
+use mathlib.Core.Path.{◌≡◌}
 use lib.ListN.{length, drop}
 use Rattle.tsobu.proofs.Places.{before}
 use Rattle.tsobu.proofs.start_codes.pass_blocks.Given as goal

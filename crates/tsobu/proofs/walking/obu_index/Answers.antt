@@ -1,5 +1,4 @@
 use native.Mathlib.Omega.{arith}
-use Prim.Native.Nat.{◌-◌}
 use mathlib.Core.Path.{sym, ◌∙◌}
 use Rattle.tsobu.proofs.Places.{index_code, index_byte, index_end}
 use Rattle.tsobu.proofs.walking.obu_index.Goals as goal

@@ -1,6 +1,6 @@
 -- The start codes counted, and those before `at` from i on, are all that stand before `at`.
 use Prim.Native.Nat.{◌+◌, ◌-◌, ◌≤◌}
-use mathlib.Core.Path.{◌≡◌, ◌∙◌}
+use mathlib.Core.Path.{◌≡◌}
 use Rattle.tsobu.specs.Walk.{obu_index}
 use Rattle.tsobu.proofs.Places.{codes_before}
 use Rattle.tsobu.proofs.walking.obu_index.Given as goal

@@ -1,0 +1,15 @@
+-- The tests are those of the definition, in its order.
+use mathlib.Core.Path.{refl, sym}
+use borrow.Author.Tests.{eq-eqb, ne_eqb}
+use Rattle.lists.proofs.Tests.{or_by_true, or_by_false}
+use mathlib.Core.Bool.{or-false}
+use Rattle.lists.specs.Lists.{any}
+use Rattle.mux.proofs.channel.program_wrong.Goals as goal
+
+pub returns-then-channel-eq0 : goal.returns-then-channel-eq0
+unfolding any
+returns-then-channel-eq0 c = or_by_true _ (eq-eqb _ _ c.if-channel-eq0.true) refl
+
+pub returns : goal.returns
+unfolding any
+returns c = or_by_false (ne_eqb _ _ c.if-channel-eq0.false) (sym (or-false _))
