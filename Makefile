@@ -1,4 +1,4 @@
-# `make help` says what there is. What is made stands under build/ (ours) and target/ (rt's).
+# `make help` says what there is. What is made stands under build/ (ours) and crates/*/out/ (rt's).
 LIB := build/lib
 VERSION := $(shell sed -n 's/^.define AV1TS_VERSION //p' include/av1ts.h)
 SHARED := libav1ts.so.0.$(VERSION)
@@ -26,7 +26,7 @@ help:
 	@echo "make bench            speed beside plain C, libavcodec's way, a packet loop, SSE2 by hand and memcpy, as one table, and how cost grows"
 	@echo "make bench-instructions  instructions a byte of the same functions, by valgrind"
 	@echo "make fmt              lay out all files"
-	@echo "make clean            remove build/ and target/, what is proved too"
+	@echo "make clean            remove build/, target/ and crates/*/out/, what is proved too"
 
 run:
 	@tools/need rt gcc make
@@ -52,10 +52,10 @@ $(LIB)/libav1ts.a:
 files: $(LIB)/libav1ts.so
 	@:
 
-$(LIB)/libav1ts.so: target/staticlib/libav1ts.a include/av1ts.h
+$(LIB)/libav1ts.so: build/staticlib/libav1ts.a include/av1ts.h
 	@mkdir -p $(LIB)
 	@rm -f $(LIB)/libav1ts.so*
-	@cp target/staticlib/libav1ts.a include/av1ts.h $(LIB)/
+	@cp build/staticlib/libav1ts.a include/av1ts.h $(LIB)/
 	@echo 'AV1TS_$(VERSION) { global: av1ts_*; local: *; };' >$(LIB)/versions
 	@gcc -shared -Wl,-soname,libav1ts.so.0 -Wl,--version-script,$(LIB)/versions -o $(LIB)/$(SHARED) \
 	    -Wl,--whole-archive $(LIB)/libav1ts.a -Wl,--no-whole-archive
@@ -114,7 +114,7 @@ build/bench/libmeasured.a: lib
 	@tools/need cargo rustc
 	@tools/staticlib measured
 	@mkdir -p build/bench
-	@cp target/staticlib/libmeasured.a $@
+	@cp build/staticlib/libmeasured.a $@
 
 bench: build/bench/libmeasured.a
 	cargo run --quiet --release --package bench
@@ -127,8 +127,8 @@ bench-instructions:
 
 fmt:
 	@tools/need rt cargo
-	rt fmt
+	for crate in crates/*; do (cd $$crate && rt fmt) || exit 1; done
 	cargo fmt
 
 clean:
-	rm -rf build target
+	rm -rf build target crates/*/out

@@ -43,7 +43,7 @@ loop-place-preserved c =
 
 pub returns : goal.returns
 returns c = record {
-      lawful = lawful_rest _ _ _ _ c.loop-place.invariant (omega (arith, c.places-last.ensures, c.loop-place-test.false));
-      s_value = first_past
-          c.args.s.now;
-    }
+  lawful = lawful_rest _ _ _ _ c.loop-place.invariant (omega (arith, c.places-last.ensures, c.loop-place-test.false));
+  s_value = first_past
+      c.args.s.now;
+}

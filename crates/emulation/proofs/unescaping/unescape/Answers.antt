@@ -31,9 +31,9 @@ unescape_whole-requires c =
 pub returns-in-Illegal : goal.returns-in-Illegal
 unfolding leaves
 returns-in-Illegal c = record {
-      result_value = unescaping_illegal _ _ _ _ (omega arith) c.judge-judged.ensures c.in-Illegal.is;
-      out_after = refl;
-    }
+  result_value = unescaping_illegal _ _ _ _ (omega arith) c.judge-judged.ensures c.in-Illegal.is;
+  out_after = refl;
+}
 
 pub returns-else-out-written : goal.returns-else-out-written
 unfolding leaves
@@ -52,6 +52,6 @@ returns-else-out-written c =
 pub returns-then-payload-gt-MOST_UNESCAPED : goal.returns-then-payload-gt-MOST_UNESCAPED
 unfolding unescaping leaves
 returns-then-payload-gt-MOST_UNESCAPED c = record {
-      result_value = refuse 2 _ (lt-ltb _ _ c.if-payload-gt-MOST_UNESCAPED.true);
-      out_after = refl;
-    }
+  result_value = refuse 2 _ (lt-ltb _ _ c.if-payload-gt-MOST_UNESCAPED.true);
+  out_after = refl;
+}

@@ -30,6 +30,6 @@ loop-place-preserved c =
 
 pub returns : goal.returns
 returns c = record {
-      gives = c.loop-place.invariant.0;
-      n_lt_count = c.loop-place.invariant.1 (omega arith);
-    }
+  gives = c.loop-place.invariant.0;
+  n_lt_count = c.loop-place.invariant.1 (omega arith);
+}

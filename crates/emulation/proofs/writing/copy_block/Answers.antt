@@ -12,11 +12,10 @@ use Rattle.emulation.proofs.writing.copy_block.Goals as goal
 both : (c : Else-not-has_block-2)
     → let at = c.args in
     (at.i + block ≤ length at.s.now) × (at.n + block ≤ length at.out.now)
-both c =
-    (
-      leb-true _ _ (sym c.has_block.ensures ∙ c.if-not-has_block.false),
-      leb-true _ _ (sym c.has_block-2.ensures ∙ c.if-not-has_block-2.false),
-    )
+both c = (
+  leb-true _ _ (sym c.has_block.ensures ∙ c.if-not-has_block.false),
+  leb-true _ _ (sym c.has_block-2.ensures ∙ c.if-not-has_block-2.false),
+)
 
 pub returns-then-not-has_block : goal.returns-then-not-has_block
 returns-then-not-has_block c =

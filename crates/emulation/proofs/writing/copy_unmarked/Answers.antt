@@ -35,6 +35,6 @@ returns-then-unmarked c =
 
 pub returns : goal.returns
 returns c = record {
-      copied = (λ e. clash e refl);
-      out_unchanged = (λ e. refl);
-    }
+  copied = (λ e. clash e refl);
+  out_unchanged = (λ e. refl);
+}

@@ -136,9 +136,12 @@ loop-k-preserved c =
     )
 
 pub returns : goal.returns
-returns c = record { out_after = (copying_done c.loop-k.invariant.0
-    (omega (arith, c.requires.measured.obus, c.loop-k-test.false))).0; lens_after = (copying_done c.loop-k.invariant.0
-    (omega (arith, c.requires.measured.obus, c.loop-k-test.false))).1 }
+returns c = record {
+  out_after = (copying_done c.loop-k.invariant.0
+      (omega (arith, c.requires.measured.obus, c.loop-k-test.false))).0;
+  lens_after = (copying_done c.loop-k.invariant.0
+      (omega (arith, c.requires.measured.obus, c.loop-k-test.false))).1;
+}
 
 pub overflow_add-n : goal.overflow_add-n
 overflow_add-n c =

@@ -22,6 +22,9 @@ loop-i-preserved c =
     c.requires.1 (omega arith) _ c.write_obu-n.ensures.value _ c.write_obu-n.ensures.out_after
 
 pub returns : goal.returns
-returns c = record { value = (writing_end c.args.lens.now c.args.obus.now c.args.out.now c.loop-i.n c.loop-i.i c.loop-i.at c.loop-i.out c.loop-i.invariant
-    (omega arith)).0; out_after = (writing_end c.args.lens.now c.args.obus.now c.args.out.now c.loop-i.n c.loop-i.i c.loop-i.at c.loop-i.out c.loop-i.invariant
-    (omega arith)).1 }
+returns c = record {
+  value = (writing_end c.args.lens.now c.args.obus.now c.args.out.now c.loop-i.n c.loop-i.i c.loop-i.at c.loop-i.out c.loop-i.invariant
+      (omega arith)).0;
+  out_after = (writing_end c.args.lens.now c.args.obus.now c.args.out.now c.loop-i.n c.loop-i.i c.loop-i.at c.loop-i.out c.loop-i.invariant
+      (omega arith)).1;
+}
