@@ -8,6 +8,9 @@ use crate::packets::MOST_PAYLOAD;
 use packet::PACKET_LENGTH;
 use ticks::Ticks27;
 
+// The last continuity counter.
+const LAST_COUNTER: u64 = 15;
+
 // A PID of more than 13 bits, a counter of more than four, or no room for a packet.
 fn unfit(pid: u64, counter: u64, room: usize) -> bool
     ensures { result ≡ unfit pid counter room }
@@ -15,7 +18,7 @@ fn unfit(pid: u64, counter: u64, room: usize) -> bool
     if 8191 < pid {
         return true;
     }
-    if 15 < counter {
+    if LAST_COUNTER < counter {
         return true;
     }
     room < PACKET_LENGTH

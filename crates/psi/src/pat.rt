@@ -7,6 +7,11 @@ ghost use Rattle.psi.specs.Pat.{entry_of, programs, not_zero, map_pid_in_range, 
 use crate::common::common_wrong;
 use refusal::{Refusal, Refused};
 
+// The number of an entry that names no program.
+const NETWORK: u16 = 0;
+// The last PID that a program's map can have.
+const LAST_MAP_PID: u16 = 0x1FFE;
+
 // An entry: a program and the PID of its map.
 #[derive(Clone, Copy)]
 pub struct Program {
@@ -47,7 +52,7 @@ fn in_range(program: Program) -> PatRead
     if program.map_pid < 0x0010 {
         return refuse();
     }
-    if 0x1FFE < program.map_pid {
+    if LAST_MAP_PID < program.map_pid {
         return refuse();
     }
     PatRead::Program(program)
@@ -65,7 +70,7 @@ fn one_program(entries: &[u8]) -> PatRead
     while 4 <= entries.len() - i {
         let next = entry(entries[i], entries[i + 1], entries[i + 2], entries[i + 3]);
         i += 4;
-        if next.number != 0 {
+        if next.number != NETWORK {
             if found.number != 0 {
                 return refuse();
             }

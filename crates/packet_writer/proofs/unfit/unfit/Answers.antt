@@ -9,10 +9,10 @@ pub returns-then-pid-gt8191 : goal.returns-then-pid-gt8191
 unfolding unfit
 returns-then-pid-gt8191 c = or_by_true _ (lt-ltb _ _ c.if-pid-gt8191.true) refl
 
-pub returns-then-counter-gt15 : goal.returns-then-counter-gt15
+pub returns-then-counter-gt-LAST_COUNTER : goal.returns-then-counter-gt-LAST_COUNTER
 unfolding unfit
-returns-then-counter-gt15 c = or_by_false (le-ltb _ _ c.if-pid-gt8191.false) (or_by_true _ (lt-ltb _ _ c.if-counter-gt15.true) refl)
+returns-then-counter-gt-LAST_COUNTER c = or_by_false (le-ltb _ _ c.if-pid-gt8191.false) (or_by_true _ (lt-ltb _ _ c.if-counter-gt-LAST_COUNTER.true) refl)
 
 pub returns : goal.returns
 unfolding unfit
-returns c = or_by_false (le-ltb _ _ c.if-pid-gt8191.false) (or_by_false (le-ltb _ _ c.if-counter-gt15.false) refl)
+returns c = or_by_false (le-ltb _ _ c.if-pid-gt8191.false) (or_by_false (le-ltb _ _ c.if-counter-gt-LAST_COUNTER.false) refl)

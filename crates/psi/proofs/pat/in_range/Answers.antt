@@ -9,11 +9,11 @@ pub returns-then-program-lt16 : goal.returns-then-program-lt16
 unfolding map_pid_in_range
 returns-then-program-lt16 c = c.refuse.ensures ∙ refuse 25 _ (lt-ltb _ _ c.if-program-lt16.true)
 
-pub returns-then-program-gt8190 : goal.returns-then-program-gt8190
+pub returns-then-program-gt-LAST_MAP_PID : goal.returns-then-program-gt-LAST_MAP_PID
 unfolding map_pid_in_range
-returns-then-program-gt8190 c =
-    c.refuse-then-program-gt8190.ensures ∙ pass_on 25 (le-ltb _ _ c.if-program-lt16.false) (refuse 25 _ (lt-ltb _ _ c.if-program-gt8190.true))
+returns-then-program-gt-LAST_MAP_PID c =
+    c.refuse-then-program-gt-LAST_MAP_PID.ensures ∙ pass_on 25 (le-ltb _ _ c.if-program-lt16.false) (refuse 25 _ (lt-ltb _ _ c.if-program-gt-LAST_MAP_PID.true))
 
 pub returns : goal.returns
 unfolding map_pid_in_range
-returns c = pass_on 25 (le-ltb _ _ c.if-program-lt16.false) (pass_on 25 (le-ltb _ _ c.if-program-gt8190.false) refl)
+returns c = pass_on 25 (le-ltb _ _ c.if-program-lt16.false) (pass_on 25 (le-ltb _ _ c.if-program-gt-LAST_MAP_PID.false) refl)

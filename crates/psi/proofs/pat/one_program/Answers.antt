@@ -9,15 +9,15 @@ loop-i-init c = start _ _ refl
 pub returns-then-found-ne0 : goal.returns-then-found-ne0
 returns-then-found-ne0 c =
     c.refuse.ensures
-    ∙ sym (second c.loop-i.invariant _ (omega arith) c.entry-next.ensures c.if-found-ne0.true c.if-next-ne0.true)
+    ∙ sym (second c.loop-i.invariant _ (omega arith) c.entry-next.ensures c.if-found-ne0.true c.if-next-ne-NETWORK.true)
 
-pub loop-i-preserved-then-next-ne0 : goal.loop-i-preserved-then-next-ne0
-loop-i-preserved-then-next-ne0 c =
-    keep c.loop-i.invariant _ (omega arith) c.entry-next.ensures c.if-found-ne0.false c.if-next-ne0.true
+pub loop-i-preserved-then-next-ne-NETWORK : goal.loop-i-preserved-then-next-ne-NETWORK
+loop-i-preserved-then-next-ne-NETWORK c =
+    keep c.loop-i.invariant _ (omega arith) c.entry-next.ensures c.if-found-ne0.false c.if-next-ne-NETWORK.true
 
 pub loop-i-preserved : goal.loop-i-preserved
 loop-i-preserved c =
-    skip c.loop-i.invariant _ (omega arith) c.entry-next.ensures c.if-next-ne0.false
+    skip c.loop-i.invariant _ (omega arith) c.entry-next.ensures c.if-next-ne-NETWORK.false
 
 pub returns-then-found-eq0 : goal.returns-then-found-eq0
 returns-then-found-eq0 c =
