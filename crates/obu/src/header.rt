@@ -223,6 +223,9 @@ pub fn kind_number(header: Header) -> u8
     header.obu_type
 }
 
+// The type of a tile list.
+const TILE_LIST: u8 = 8;
+
 // The header of an OBU of so many bytes that begins with prefix; 3, 4, 5, 6, 42. JUDGED_BYTES bytes of it, or all if
 // there are fewer, are enough.
 pub fn judge(prefix: &[u8], bytes: usize) -> Judged
@@ -238,7 +241,7 @@ pub fn judge(prefix: &[u8], bytes: usize) -> Judged
     if delimiter_with_content(header, bytes) {
         return refuse(Refusal::OBU_SIZE);
     }
-    if header.obu_type == 8 {
+    if header.obu_type == TILE_LIST {
         return refuse(Refusal::TILE_LIST);
     }
     if content_missing(header, bytes) {

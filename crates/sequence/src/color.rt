@@ -10,6 +10,12 @@ use crate::cursor::{Cursor, flag, number, number_if, skip};
 use crate::fields::Sequence;
 use crate::points::Point;
 
+// twelve_bit where BitDepth is 12.
+const TWELVE: u8 = 1;
+
+// transfer_characteristics of sRGB.
+const SRGB_TRANSFER: u8 = 13;
+
 // subsampling_x, subsampling_y and chroma_sample_position.
 #[derive(Drop)]
 struct Color {
@@ -82,7 +88,7 @@ fn is_srgb(d: Description) -> bool
     if d.primaries != 1 {
         return false;
     }
-    if d.transfer != 13 {
+    if d.transfer != SRGB_TRANSFER {
         return false;
     }
     d.matrix == 0
@@ -128,7 +134,7 @@ fn subsampling(profile: u8, twelve: u8, payload: &[u8], at: Cursor) -> ColorRead
             next: at,
         };
     }
-    if twelve == 1 {
+    if twelve == TWELVE {
         return coded_subsampling(payload, at);
     }
     ColorRead {

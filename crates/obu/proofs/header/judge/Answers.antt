@@ -49,14 +49,14 @@ returns-then-delimiter_with_content c =
     (pass_on 5 (size_right (goal.at.returns-then-delimiter_with_content c).Else-size_wrong)
     (refuse 5 _ (sym c.delimiter_with_content.ensures ∙ c.if-delimiter_with_content.true)))
 
-pub returns-then-header-eq8 : goal.returns-then-header-eq8
+pub returns-then-header-eq-TILE_LIST : goal.returns-then-header-eq-TILE_LIST
 unfolding judged
-returns-then-header-eq8 c =
-    c.refuse-then-header-eq8.ensures
-    ∙ go_on _ _ (header-was (goal.at.returns-then-header-eq8 c).In-Passed)
-    (pass_on 5 (size_right (goal.at.returns-then-header-eq8 c).Else-size_wrong)
-    (pass_on 5 (no_content (goal.at.returns-then-header-eq8 c).Else-delimiter_with_content)
-    (refuse 6 _ (eq-eqb _ _ c.if-header-eq8.true))))
+returns-then-header-eq-TILE_LIST c =
+    c.refuse-then-header-eq-TILE_LIST.ensures
+    ∙ go_on _ _ (header-was (goal.at.returns-then-header-eq-TILE_LIST c).In-Passed)
+    (pass_on 5 (size_right (goal.at.returns-then-header-eq-TILE_LIST c).Else-size_wrong)
+    (pass_on 5 (no_content (goal.at.returns-then-header-eq-TILE_LIST c).Else-delimiter_with_content)
+    (refuse 6 _ (eq-eqb _ _ c.if-header-eq-TILE_LIST.true))))
 
 pub returns-then-content_missing : goal.returns-then-content_missing
 unfolding judged
@@ -65,7 +65,7 @@ returns-then-content_missing c =
     ∙ go_on _ _ (header-was (goal.at.returns-then-content_missing c).In-Passed)
     (pass_on 5 (size_right (goal.at.returns-then-content_missing c).Else-size_wrong)
     (pass_on 5 (no_content (goal.at.returns-then-content_missing c).Else-delimiter_with_content)
-    (pass_on 6 (ne_eqb _ _ c.if-header-eq8.false)
+    (pass_on 6 (ne_eqb _ _ c.if-header-eq-TILE_LIST.false)
     (refuse 42 _ (sym c.content_missing.ensures ∙ c.if-content_missing.true)))))
 
 pub returns-then-reduced_still : goal.returns-then-reduced_still
@@ -74,7 +74,7 @@ returns-then-reduced_still c =
     c.refuse-then-reduced_still.ensures ∙ go_on _ _ (header-was (goal.at.returns-then-reduced_still c).In-Passed)
     (pass_on 5 (size_right (goal.at.returns-then-reduced_still c).Else-size_wrong)
     (pass_on 5 (no_content (goal.at.returns-then-reduced_still c).Else-delimiter_with_content)
-    (pass_on 6 (ne_eqb _ _ c.if-header-eq8.false)
+    (pass_on 6 (ne_eqb _ _ c.if-header-eq-TILE_LIST.false)
     (pass_on 42 (some-content (goal.at.returns-then-reduced_still c).Else-content_missing)
     (refuse 42 _ (sym c.reduced_still.ensures ∙ c.if-reduced_still.true))))))
 
@@ -84,6 +84,6 @@ returns c =
     go_on _ _ (header-was (goal.at.returns c).In-Passed)
     (pass_on 5 (size_right (goal.at.returns c).Else-size_wrong)
     (pass_on 5 (no_content (goal.at.returns c).Else-delimiter_with_content)
-    (pass_on 6 (ne_eqb _ _ c.if-header-eq8.false)
+    (pass_on 6 (ne_eqb _ _ c.if-header-eq-TILE_LIST.false)
     (pass_on 42 (some-content (goal.at.returns c).Else-content_missing)
     (pass_on 42 (sym c.reduced_still.ensures ∙ c.if-reduced_still.false) refl)))))

@@ -7,9 +7,9 @@ pub returns-then-d-ne1 : goal.returns-then-d-ne1
 unfolding is_srgb
 returns-then-d-ne1 c = search ways
 
-pub returns-then-d-ne13 : goal.returns-then-d-ne13
+pub returns-then-d-ne-SRGB_TRANSFER : goal.returns-then-d-ne-SRGB_TRANSFER
 unfolding is_srgb
-returns-then-d-ne13 c = search ways
+returns-then-d-ne-SRGB_TRANSFER c = search ways
 
 pub returns : goal.returns
 unfolding is_srgb

@@ -12,16 +12,16 @@ pub returns-then-profile-eq1 : goal.returns-then-profile-eq1
 unfolding subsampling
 returns-then-profile-eq1 c = second _ (ne_eqb _ _ c.if-profile-eq0.false) (first _ (eq-eqb _ _ c.if-profile-eq1.true) done)
 
-pub returns-then-twelve-eq1 : goal.returns-then-twelve-eq1
+pub returns-then-twelve-eq-TWELVE : goal.returns-then-twelve-eq-TWELVE
 unfolding subsampling
-returns-then-twelve-eq1 c =
+returns-then-twelve-eq-TWELVE c =
     second _ (ne_eqb _ _ c.if-profile-eq0.false)
     (second _ (ne_eqb _ _ c.if-profile-eq1.false)
-    (first _ (eq-eqb _ _ c.if-twelve-eq1.true) c.coded_subsampling.ensures))
+    (first _ (eq-eqb _ _ c.if-twelve-eq-TWELVE.true) c.coded_subsampling.ensures))
 
 pub returns : goal.returns
 unfolding subsampling
 returns c =
     second _ (ne_eqb _ _ c.if-profile-eq0.false)
     (second _ (ne_eqb _ _ c.if-profile-eq1.false)
-    (second _ (ne_eqb _ _ c.if-twelve-eq1.false) done))
+    (second _ (ne_eqb _ _ c.if-twelve-eq-TWELVE.false) done))
