@@ -37,7 +37,8 @@ pub holds_queue : {c : QueueState} {store : Bytes} {units : List TimedUnit} → 
 holds_queue h q e =
     record { holds = e ∙ handed_in h; few = h.valid.few; stands = h.valid.stands; right = h.valid.right }
 
-pub sent_from : {v v' : Verdict Written} {c c' : Channel} {q q' : Queue} → v ≡ v' → c ≡ c' → q ≡ q' → sent_answer v c q ≡ sent_answer v' c' q'
+pub sent_from : {v v' : Verdict Written} {c c' : Channel} {q q' : Queue} → v ≡ v' → c ≡ c' → q ≡ q' → sent_answer v c q ≡ sent_answer v' c'
+    q'
 sent_from ev ec eq = sent_by (ap channel_state ec) (ap state_of eq) ev
 
 -- a channel by another name

@@ -3,7 +3,8 @@ use Rattle.std.specs.Prelude.{◌≡◌, List, length}
 use Rattle.lists.specs.Lists.{Bytes}
 use Rattle.refusal.specs.Verdict.{passed, ◌>>◌}
 use Rattle.refusal.specs.Verdict as verdict
-use Rattle.queue.specs.Queue.{TimedUnit, queue_of, QueueIs, adding, dropping, is_empty, units_after, store_after, store_with}
+use Rattle.queue.specs.Queue.{TimedUnit, queue_of, QueueIs, adding, dropping, is_empty, units_after, store_after}
+use Rattle.queue.specs.Queue.{store_with}
 use Rattle.mux_rules.specs.Packets.{segment}
 use Rattle.mux_rules.specs.Sending.{sending, units_left, channel_left}
 use Rattle.answers.specs.declared.queueing.QueueState.{QueueState}

@@ -129,7 +129,8 @@ sound (illegal payload place) e = is_refused_lem 10 place (unescaping payload (l
 -- the table passes, by computation
 tested : all test cases ≡ true
 unfolding all test same cases escape_after unescape dropped legal forbidden above3 first_forbidden unescaping at_place is_refused
-    is_unescaped is_video numbers same_delay reading wrong version_wrong zeros_wrong fields_of delay_of judged header_of sized_header size_of
+    is_unescaped is_video numbers same_delay reading wrong version_wrong zeros_wrong fields_of delay_of judged header_of sized_header
+    size_of
     header_with fixed_bytes leb128 leb_within low_first in_range given pick ◌>>◌ ◌>>=◌
 tested = refl
 

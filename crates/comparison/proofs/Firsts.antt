@@ -71,7 +71,8 @@ module _ (d : Fields) where
     unfolding first_of flatten until_frame pick
     frame_payload e = rw e
 
-    pub next_payload : is_frame (unescape p) ≡ false → first_of d (headers_in (p ∷ ps)) ≡ or_else (in_payload p) (first_of d (headers_in ps))
+    pub next_payload : is_frame (unescape p) ≡ false → first_of d (headers_in (p ∷ ps)) ≡ or_else (in_payload p)
+        (first_of d (headers_in ps))
     unfolding flatten until_frame pick
     next_payload e = rw e (first_append (sequence_content (header_of (unescape p)) (unescape p)) (headers_in ps))
 
@@ -89,7 +90,8 @@ module _ (d : Fields) where
         cut ∙ ap (λ (f : FieldFound). or_else (in_unit index (found_says f)) (first_from (suc index) d (headers_cut lens (drop n bytes)))) k
         ∙ ap (λ (i : ℕ). first_from i d (headers_cut lens (drop n bytes))) (sym (add-one index))
 
-    pub unit_differs : (m : ℕ) → found ≡ field.Field m → in_unit index (found_says found) ≡ first_from index d (headers_cut (n ∷ lens) bytes)
+    pub unit_differs : (m : ℕ) → found ≡ field.Field m → in_unit index (found_says found) ≡ first_from index d
+        (headers_cut (n ∷ lens) bytes)
     unit_differs m k =
         let later : Option Disagreement = first_from (suc index) d (headers_cut lens (drop n bytes)) in
         let first : FieldFound → Option Disagreement = λ f. or_else (in_unit index (found_says f)) later in

@@ -18,9 +18,11 @@ use Rattle.refusal.specs.Verdict.{passed, given}
 use Rattle.refusal.proofs.Verdicts.{All, never, passed_then, passed_after, passed_same}
 use Rattle.emulation.specs.Payload.{unescape}
 use Rattle.emulation.proofs.Steps.{unescaped_first}
-use Rattle.obu.specs.Header.{type_bits, forbidden_bit, extension_missing, fixed_bytes, size_bytes, size_of, header_with, sized_header, header_of}
+use Rattle.obu.specs.Header.{type_bits, forbidden_bit, extension_missing, fixed_bytes, size_bytes, size_of, header_with, sized_header}
+use Rattle.obu.specs.Header.{header_of}
 use Rattle.obu.specs.declared.header.Header.{Header}
-use Rattle.obu.specs.Order.{Kind, temporal_delimiter, frame_header, is, head_kind, tile_kind, last_kind, kind_of_number, kind_number, number_said}
+use Rattle.obu.specs.Order.{Kind, temporal_delimiter, frame_header, is, head_kind, tile_kind, last_kind, kind_of_number, kind_number}
+use Rattle.obu.specs.Order.{number_said}
 use Rattle.obu.specs.Order.{kind_of, after_frame, in_tiles, at_frame, before_frame, order_refusal}
 use Rattle.obu.proofs.Steps.{tiles_on, tiles_stop, one_frame_lem, one_header, no_frame, head_on, head_stop, delimited, not_delimited}
 use Rattle.tsobu.specs.StartCodes.{start_code3, at_start_code, Split, split, payloads}

@@ -75,7 +75,8 @@ module _ {d : Fields} {s : Bytes} {code : ℕ} (g : Going d s code) where
 
       -- another OBU
       module _ (other : frame_type (byte s (code + 3)) ≡ false) (found : FieldFound) (f : found_says found ≡ in_payload d lent) where
-        both : first_of d (headers_before_frame s) ≡ or_else (found_says found) (first_of d (headers_in d (payloads (drop (next_code s code) s))))
+        both : first_of d (headers_before_frame s) ≡ or_else (found_says found)
+            (first_of d (headers_in d (payloads (drop (next_code s code) s))))
         both =
             let rest : Option ℕ = first_of d (headers_in d (payloads (drop (next_code s code) s))) in
             sym g.same

@@ -237,7 +237,8 @@ module _ (r : ℕ) (s : Bytes) (i : ℕ) (hr : r < 2 ^ 32) (byte : (j : ℕ) →
   sixteen : zeros_step 4 (bit_xor (bit_xor (zeros_step 4 w2) (bit_xor (zeros_step 8 w1) (zeros_step 12 w0))) (word_at s (i + 12)))
       ≡ bit_xor (zeros_step 4 w3) (bit_xor (zeros_step 8 w2) (bit_xor (zeros_step 12 w1) (zeros_step 16 w0)))
   sixteen =
-      word_more (bit_xor (zeros_step 4 w2) (bit_xor (zeros_step 8 w1) (zeros_step 12 w0))) (word_at s (i + 12)) twelve_lt (word_at_lt (i + 12))
+      word_more (bit_xor (zeros_step 4 w2) (bit_xor (zeros_step 8 w1) (zeros_step 12 w0))) (word_at s (i + 12)) twelve_lt
+      (word_at_lt (i + 12))
       ∙ ap (bit_xor (zeros_step 4 w3))
       (zeros_linear 4 (zeros_step 4 w2) (bit_xor (zeros_step 8 w1) (zeros_step 12 w0)) (zeros_lt 4 w2 (word_at_lt (i + 8)))
       (xor_lt 32 (zeros_step 8 w1) (zeros_step 12 w0) (zeros_lt 8 w1 (word_at_lt (i + 4))) (zeros_lt 12 w0 w0_lt))

@@ -53,7 +53,8 @@ critical_marked =
     (λ t. let k = leb-false c 2 t in marked_of a b c h.0 h.1 (omega arith)))
 
 -- ---- at the code's place i
-pub critical_at : (s : Bytes) (i : ℕ) → i + 2 < length s → critical (drop i s) ≡ stuffed (get_or s i 0) (get_or s (i + 1) 0) (get_or s (i + 2) 0)
+pub critical_at : (s : Bytes) (i : ℕ) → i + 2 < length s → critical (drop i s) ≡ stuffed (get_or s i 0) (get_or s (i + 1) 0)
+    (get_or s (i + 2) 0)
 unfolding critical
 critical_at = three_at critical stuffed (λ a b c s. refl)
 

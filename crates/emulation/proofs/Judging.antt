@@ -98,7 +98,8 @@ lawful_block s i j d l h e =
 -- a forbidden sequence, where four bytes are there
 pub forbidden_four : (s : Bytes) (i : ℕ) → i + 3 < length s
     → forbidden (drop i s)
-    ≡ eqb (get_or s i 0) 0 && eqb (get_or s (i + 1) 0) 0 && (leb (get_or s (i + 2) 0) 2 || (eqb (get_or s (i + 2) 0) 3 && ltb 3 (get_or s (i + 3) 0)))
+    ≡ eqb (get_or s i 0) 0 && eqb (get_or s (i + 1) 0) 0 && (leb (get_or s (i + 2) 0) 2 ||
+    (eqb (get_or s (i + 2) 0) 3 && ltb 3 (get_or s (i + 3) 0)))
 forbidden_four s i h = forbidden_at s i (omega arith) ∙ rw (above3_at s (i + 3) h)
 
 -- the same behind 00 00
@@ -147,7 +148,8 @@ lawful_past_three s i j d l h f z p =
     let e : j + 1 + 2 ≡ j + 3 = omega arith in
     let n : j + 1 + 1 ≡ j + 2 = omega arith in
     subst (λ (k : ℕ). Lawful s i k d) e
-    (lawful_past_two s i (j + 1) d (lawful_plain s i j d l (omega arith) u) (omega arith) (subst (λ (k : ℕ). get_or s k 0 ≡ 0 → ⊥) (sym n) c))
+    (lawful_past_two s i (j + 1) d (lawful_plain s i j d l (omega arith) u) (omega arith)
+    (subst (λ (k : ℕ). get_or s k 0 ≡ 0 → ⊥) (sym n) c))
 
 -- neither of the two last bytes of 00 00 03 begins a forbidden sequence
 after_mark : (t : Bytes) → first_forbidden (0 ∷ 3 ∷ t) ≡ suc (suc (first_forbidden t))

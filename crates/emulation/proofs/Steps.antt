@@ -42,7 +42,8 @@ pub marked_three : AsksThree marked
 unfolding marked
 marked_three = record { none = refl; one = λ a. refl; two = λ a b. refl }
 
-pub marked_at : (s : Bytes) (i : ℕ) → i + 2 < length s → marked (drop i s) ≡ marked3 (get_or s i 0) (get_or s (i + 1) 0) (get_or s (i + 2) 0)
+pub marked_at : (s : Bytes) (i : ℕ) → i + 2 < length s → marked (drop i s) ≡ marked3 (get_or s i 0) (get_or s (i + 1) 0)
+    (get_or s (i + 2) 0)
 unfolding marked
 marked_at = three_at marked marked3 (λ a b c s. refl)
 

@@ -1,5 +1,6 @@
 -- What the promises of private functions cite; no public promise does. Assumes nothing.
-use Rattle.std.specs.Prelude.{ℕ, ◌+◌, ◌-◌, ◌≤◌, ◌<◌, Bool, true, false, ◌&&◌, ◌≡◌, [], ◌∷◌, ◌++◌, eqb, length, take, drop, get_or, set}
+use Rattle.std.specs.Prelude.{ℕ, ◌+◌, ◌-◌, ◌≤◌, ◌<◌, Bool, true, false, ◌&&◌, ◌≡◌, [], ◌∷◌, ◌++◌, eqb, length, take}
+use Rattle.std.specs.Prelude.{drop, get_or, set}
 use mir.Val.{bool_byte}
 use Rattle.lists.specs.Lists.{Bytes}
 use Rattle.emulation.specs.Payload.{escape}

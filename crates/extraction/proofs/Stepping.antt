@@ -18,7 +18,8 @@ use Rattle.packet.specs.declared.header.Header.{Header}
 use Rattle.packet.specs.declared.header.Clock.{Clock}
 use Rattle.packet.specs.declared.header.PacketRead.{PacketRead}
 use Rattle.packet.specs.declared.header.PacketRead.TheVariants as answer
-use Rattle.packet.specs.Header.{packet_length, packet_at, pid, fields, header_of, packet_says, has_payload, payload, payload_unit_start_indicator}
+use Rattle.packet.specs.Header.{packet_length, packet_at, pid, fields, header_of, packet_says, has_payload, payload}
+use Rattle.packet.specs.Header.{payload_unit_start_indicator}
 use Rattle.packet.specs.Counter.{StreamRecord, pids_of, checked_in}
 use Rattle.packet.specs.Streams.{look_up, numbers_of}
 use Rattle.packet.proofs.Headers.{payload_from, passed_fields}
@@ -123,7 +124,8 @@ module _ (edition : rules.Edition) (rooms : Rooms) (i : ℕ) (p : Bytes) where
       ≡ (at_place i (section_read edition k i (payload_unit_start_indicator p) (payload p) st.tables) >>= λ t. passed (with_tables t st))
   unfolding in_sequence rules25to28 on_tables pick
   content_section k st e h =
-      bind_same (rules25to28 i p k edition st) (in_sequence (pes_rules edition rooms i p k)) passed (λ st1. not_av1 edition rooms i p st1 k e)
+      bind_same (rules25to28 i p k edition st) (in_sequence (pes_rules edition rooms i p k)) passed
+      (λ st1. not_av1 edition rooms i p st1 k e)
       ∙ bind_unit (rules25to28 i p k edition st) ∙ rw h
 
   -- without payload there is nothing
@@ -136,7 +138,8 @@ module _ (edition : rules.Edition) (rooms : Rooms) (i : ℕ) (p : Bytes) where
   pub two_parts : (k : state.Kind) (st : State) (h : Header) → header_of p ≡ passed h → packet_rules edition rooms i p k st
       ≡ (on_tables (λ t. checked i p (clocked i p t)) st >>= unless_repeat p (in_sequence (after24 edition rooms i p k)))
   unfolding packet_rules ◌>>◌ at_place
-  two_parts k st h e = ap (λ (v : Verdict State). v >>= unless_repeat p (in_sequence (after24 edition rooms i p k))) (up_to_24 i p st ∙ rw e)
+  two_parts k st h e = ap (λ (v : Verdict State). v >>= unless_repeat p (in_sequence (after24 edition rooms i p k)))
+      (up_to_24 i p st ∙ rw e)
 
 module _ {edition : Edition} {segment : Bytes} {before now : Outputs} {c : code.State} {numbers : List ℕ} {st : State}
     (s : StateKept edition segment before now c numbers st)

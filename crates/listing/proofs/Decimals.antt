@@ -15,7 +15,8 @@ sub_one_suc : (k : ℕ) → suc k - 1 ≡ k
 sub_one_suc k = omega arith
 
 -- `places` gives the fewest digits
-places_from_lem : (turns k m n : ℕ) → m ≡ k + turns → 1 ≤ k → (1 < k → 10 ^ (k - 1) ≤ n) → n < 10 ^ m → IsDigitCount 10 1 n (places_from turns k n)
+places_from_lem : (turns k m n : ℕ) → m ≡ k + turns → 1 ≤ k → (1 < k → 10 ^ (k - 1) ≤ n) → n < 10 ^ m → IsDigitCount 10 1 n
+    (places_from turns k n)
 unfolding places_from
 places_from_lem zero k m n e one least holds = (one, subst (λ (j : ℕ). n < 10 ^ j) (let f : m ≡ k = omega arith in f) holds, least)
 places_from_lem (suc turns) k m n e one least holds =
@@ -53,7 +54,8 @@ decimal_is n k f = ap (λ (j : ℕ). last_digits 10 j n) (fewest_is n k f)
 
 digits_count : (k n : ℕ) → length (last_digits 10 k n) ≡ k
 digits_count zero n = refl
-digits_count (suc k) n = length-append (last_digits 10 k (n / 10)) (hex_digit_ascii (n % 10) ∷ []) ∙ let h = digits_count k (n / 10) in omega arith
+digits_count (suc k) n = length-append (last_digits 10 k (n / 10)) (hex_digit_ascii (n % 10) ∷ []) ∙ let h = digits_count k (n / 10) in
+    omega arith
 
 pub decimal_short : (n : ℕ) → n < 2 ^ 64 → length (decimal n) ≤ 20
 unfolding decimal

@@ -18,6 +18,7 @@ use Rattle.listing.specs.Listing.{header_line, obu_line, payload_lines, judging_
 printed : list_text (0 ∷ 0 ∷ 1 ∷ 0x12 ∷ 0 ∷ 0 ∷ 0 ∷ 1 ∷ 0x30 ∷ 0xAA ∷ 0 ∷ 0 ∷ [])
     ≡ ascii "obus 2 removed 0\n0 type 2 size 2 removed 0 width 1\n1 type 6 size 4 removed 0 width 0\n"
 unfolding pick any ◌>>=◌ ◌>>◌ given at_place in_turn above3 forbidden legal unescape dropped leb128 leb_within low_first in_range
-    fixed_bytes size_of header_with sized_header header_of judged kind_of_number after_frame at_frame before_frame order_refusal at_start_code split
+    fixed_bytes size_of header_with sized_header header_of judged kind_of_number after_frame at_frame before_frame order_refusal
+    at_start_code split
     sum tsobu_refusal read_unit checking tsobu_figures places_from decimal header_line obu_line payload_lines judging_listed list_text
 printed = refl

@@ -37,6 +37,7 @@ module _ (content : Bytes) where
     unfolding numbers_in ◌>>=◌ ◌>>◌ given pick
     numbers n w = rw (e, eq-eqb value 2 n, w)
 
-    pub figures : value ≡ 2 → body_wrong (drop width content) ≡ false → passed (figures_of (numbers_of (drop width content))) ≡ reading content
+    pub figures : value ≡ 2 → body_wrong (drop width content) ≡ false → passed (figures_of (numbers_of (drop width content))) ≡ reading
+        content
     unfolding reading ◌>>=◌
     figures n w = rw (numbers n w)

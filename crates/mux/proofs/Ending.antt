@@ -109,7 +109,8 @@ module _ {queue : Queue} {store : Bytes} {units : List TimedUnit} (q : QueueIs q
   unfolding slots
   filled_is =
       ap filled q.holds
-      ∙ ap (λ (n : ℕ). take n (map record_of units ++ drop (length units) (replicate most_units no_record))) (sym (length-map units record_of))
+      ∙ ap (λ (n : ℕ). take n (map record_of units ++ drop (length units) (replicate most_units no_record)))
+      (sym (length-map units record_of))
       ∙ take-append_seam (map record_of units) (drop (length units) (replicate most_units no_record))
 
   pub valid_formed : well_formed queue (length store) ≡ true

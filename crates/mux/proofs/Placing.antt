@@ -17,7 +17,8 @@ use Rattle.packet.specs.Writing.{flag, carrying, counter_after}
 use Rattle.packet.proofs.Writing.{length_carrying}
 use Rattle.queue.specs.declared.records.Queued.{Queued}
 use Rattle.queue.specs.Queue.{TimedUnit}
-use Rattle.mux_rules.specs.Packets.{header, first_most, first_part_of, other_parts, others_for, packets_for, frame_place, within, unit_bytes}
+use Rattle.mux_rules.specs.Packets.{header, first_most, first_part_of, other_parts, others_for, packets_for, frame_place, within}
+use Rattle.mux_rules.specs.Packets.{unit_bytes}
 use Rattle.mux_rules.specs.Packets.{first_flags, others, unit_packets, units_packets, packets_for_units}
 use Rattle.packet_writer.specs.declared.Start.{Start}
 use Rattle.packet_writer.specs.Putting.{head_size, start_put}
@@ -287,7 +288,8 @@ pub record Turn (pid counter : ℕ) (rs : List Queued) (store out₀ : Bytes) (i
       → after ≡ over (flatten (unit_packets pid next (unit_in r (drop at store)))) (mid_of to (length out - to) out)
       → Filling pid counter rs store out₀ (i + 1) (at + r.length) (to + 188 * n) next' (put_mid to (length out - to) out after)
 
-pub turn : (pid counter : ℕ) (rs : List Queued) (store out₀ : Bytes) → 188 * slots_packets rs ≤ length out₀ → formed rs (length store) ≡ true
+pub turn : (pid counter : ℕ) (rs : List Queued) (store out₀ : Bytes) → 188 * slots_packets rs ≤ length out₀ → formed rs (length store) ≡
+    true
     → {i at to next : ℕ} {out : Bytes} → Filling pid counter rs store out₀ i at to next out
     → (r : Queued) → drop i rs ≡ r ∷ drop (i + 1) rs → Turn pid counter rs store out₀ i at to next out r
 turn pid counter rs store out₀ fits all g r more =

@@ -112,7 +112,8 @@ unfolding slots_packets
 packets_none = refl
 
 -- ---- the units in the slots
-pub units_packets_lem : (rs : List Queued) (s : Bytes) → formed rs (length s) ≡ true → packets_for_units (slot_units rs s) ≡ slots_packets rs
+pub units_packets_lem : (rs : List Queued) (s : Bytes) → formed rs (length s) ≡ true → packets_for_units (slot_units rs s) ≡ slots_packets
+    rs
 unfolding slot_units packets_for_units slots_packets
 units_packets_lem [] s e = refl
 units_packets_lem (r ∷ rs) s e =

@@ -80,7 +80,8 @@ pub record Allowed (c : Channel) (d : Bytes) : Type 0 where
 pub allowed : (c : Channel) (d : Bytes) → channel_wrong c d ≡ false → Allowed c d
 unfolding channel_wrong
 allowed c d e =
-    let h = none_holds (λ (b : Bool). b) (wrong d ∷ map_pid_wrong c ∷ av1_pid_wrong c ∷ program_wrong c ∷ counters_wrong c ∷ pcr_wrong c ∷ []) e in
+    let h = none_holds (λ (b : Bool). b) (wrong d ∷ map_pid_wrong c ∷ av1_pid_wrong c ∷ program_wrong c ∷ counters_wrong c ∷ pcr_wrong c ∷
+    []) e in
     let m = none_holds (λ (b : Bool). b) (ltb c.map_pid 0x0010 ∷ ltb 0x1FFE c.map_pid ∷ []) h.1.0 in
     let p = none_holds (λ (b : Bool). b) (eqb c.av1_pid 0 ∷ ltb 0x1FFE c.av1_pid ∷ eqb c.av1_pid c.map_pid ∷ [])
     h.1.1.0 in
@@ -227,7 +228,8 @@ module _ (c : Channel) (d : Bytes) (ok : Allowed c d) (rooms : Rooms) where
       let ek : counter_after (counter_after kl 1) k ≡ counter_after (counter_after kl k) 1 = omega arith in
       let ei : s + (n + k) ≡ s + n + k = omega arith in
       renamed rest
-      (run_append current rooms g (unit_packets one_pid (counter_after kl 1) u) (units_packets one_pid (counter_after (counter_after kl 1) k) us)
+      (run_append current rooms g (unit_packets one_pid (counter_after kl 1) u)
+      (units_packets one_pid (counter_after (counter_after kl 1) k) us)
       ∙ ap (λ (v : Verdict Progress). v >>= λ g'. run current rooms g' (units_packets one_pid (counter_after (counter_after kl 1) k) us))
       (ap (λ (x : Progress). run current rooms x (unit_packets one_pid (counter_after kl 1) u)) (passed_same g _ r.is) ∙ one.is)
       ∙ ap (λ (m : ℕ). run current rooms then (units_packets one_pid m us)) ek)

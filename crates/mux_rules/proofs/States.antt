@@ -22,7 +22,8 @@ use Rattle.packet.proofs.Copies.{copy_not_due}
 use Rattle.psi.specs.Writing.{pat}
 use Rattle.pmt.specs.Writing.{pmt, map_for}
 use Rattle.segment_rules.specs.declared.Totals.{Totals}
-use Rattle.segment_rules.specs.State.{FirstPat, FirstPmt, Tables, State, Kind, Map, Av1, with_tables, kind_of, is_map_pid, listed_as, counting}
+use Rattle.segment_rules.specs.State.{FirstPat, FirstPmt, Tables, State, Kind, Map, Av1, with_tables, kind_of, is_map_pid, listed_as}
+use Rattle.segment_rules.specs.State.{counting}
 use Rattle.segment_rules.specs.Rules.{Rooms, on_tables, counting_pcr, last_pcr, checked, last_repeats, packet_rules}
 use Rattle.segment_rules.specs.Check.{Progress, step, run}
 use Rattle.segment_rules.proofs.ByKind.{counted}

@@ -68,7 +68,8 @@ module _ (q counter table extension : ℕ) (rest : Bytes) (hq : q < 8192) (hc : 
   section_found = ap section_of both.1.payload ∙ section_back table extension rest short
 
 -- no PCR of a packet without one counts
-pub still : (p : Bytes) (pmt : Option FirstPmt) (earlier : Clock) → packet.pcr_flag p ≡ false → last_pcr earlier (counting_pcr pmt p) ≡ earlier
+pub still : (p : Bytes) (pmt : Option FirstPmt) (earlier : Clock) → packet.pcr_flag p ≡ false → last_pcr earlier (counting_pcr pmt p) ≡
+    earlier
 still p pmt earlier e = ap (last_pcr earlier) (uncounted p pmt (no_clock p e))
 
 -- the counter that is due after a payload more
@@ -127,7 +128,8 @@ module _ (c : Channel) (d : Bytes) (rooms : Rooms) (i : ℕ) where
         (counted_by 0 (pat_is c n) fresh (seen 0 (laid 0 (pat_is c n)) ∷ []) clock.None
         (checked_first 0 (named 0) _ [] (pat_is c n) (sym pat_reads.pid) (first_check 0 0 (pat_is c n)))
         (still (pat_is c n) none clock.None pat_reads.clock))
-        (pat_said (payload_unit_start_indicator (pat_is c n)) (payload (pat_is c n)) (section_placed 0 n 0 0 rest (omega arith) hn (omega arith))
+        (pat_said (payload_unit_start_indicator (pat_is c n)) (payload (pat_is c n))
+        (section_placed 0 n 0 0 rest (omega arith) hn (omega arith))
         (section_found 0 n 0 0 rest (omega arith) hn (omega arith)) _ refl refl refl refl)
 
     pat_same : (s : Bool) (w : Bytes) → misplaced s w ≡ false → section_of w ≡ pat c.program c.map_pid → (t : Tables)
@@ -151,7 +153,8 @@ module _ (c : Channel) (d : Bytes) (rooms : Rooms) (i : ℕ) where
         (next_check i 0 a (pat_is c n) r.steady
         (r.counter ∙ sym e ∙ due_next (continuity_counter a.bytes) (has_payload (pat_is c n)) pat_has)))
         (still (pat_is c n) (some (first_pmt c d)) (clock.Pcr t) r.clock))
-        (pat_same (payload_unit_start_indicator (pat_is c n)) (payload (pat_is c n)) (section_placed 0 n 0 0 rest (omega arith) hn (omega arith))
+        (pat_same (payload_unit_start_indicator (pat_is c n)) (payload (pat_is c n))
+        (section_placed 0 n 0 0 rest (omega arith) hn (omega arith))
         (section_found 0 n 0 0 rest (omega arith) hn (omega arith)) _ refl)
 
   -- ---- the PMT

@@ -1,4 +1,5 @@
--- What `order_refusal` means. `order_means`: its verdict means what `OrderMeans` says; `order_only`: no other verdict does. Assumes nothing.
+-- What `order_refusal` means. `order_means`: its verdict means what `OrderMeans` says; `order_only`: no other verdict does. Assumes
+-- nothing.
 use Prim.Native.Nat.{ℕ, zero, suc, ◌+◌, ◌≤◌, ◌<◌, zero-le, suc-le-suc}
 use mathlib.Core.Bool.{Bool, true, false, true≢false}
 use mathlib.Core.Path.{◌≡◌, refl, sym, ap, ap₂, subst, ◌∙◌}

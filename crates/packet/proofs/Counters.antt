@@ -41,7 +41,8 @@ unfolding latest latest_repeats
 named_follows n = (refl, refl)
 
 -- a copy of the latest, which was none
-repeats_after_lem : (earlier : List Bytes) (p : Bytes) → (copy_of (latest earlier) p && not (latest_repeats earlier)) ≡ repeats_after earlier p
+repeats_after_lem : (earlier : List Bytes) (p : Bytes) → (copy_of (latest earlier) p && not (latest_repeats earlier)) ≡ repeats_after
+    earlier p
 unfolding latest latest_repeats repeats_after copy_of
 repeats_after_lem [] p = rw (and-false (has_payload p && not (discontinuity_indicator p)))
 repeats_after_lem (last ∷ earlier) p = refl
@@ -246,7 +247,8 @@ unfolding record_of pick
 kept_record n [] new r e = absurd (some_not_none r (sym e))
 kept_record n (s ∷ records) new r e = go (λ k. kept_record n records new r k) (eqb s.pid n) e
   where
-    go : (record_of n records ≡ some r → record_of n (records ++ new) ≡ some r) → (b : Bool) → pick b (some s) (record_of n records) ≡ some r
+    go : (record_of n records ≡ some r → record_of n (records ++ new) ≡ some r) → (b : Bool) → pick b (some s) (record_of n records) ≡ some
+        r
         → pick b (some s) (record_of n (records ++ new)) ≡ some r
     go more true k = k
     go more false k = more k

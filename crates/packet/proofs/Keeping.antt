@@ -1,4 +1,5 @@
--- The numbers that the code keeps of the records: how many they are (`numbers_long`), at the beginning (`fresh_numbers_lem`), what is read of
+-- The numbers that the code keeps of the records: how many they are (`numbers_long`), at the beginning (`fresh_numbers_lem`), what is read
+-- of
 -- them (`last_kept_lem`, `listed_kept`, `look_behind_two`), and what a write makes of them (`put_kept`, `pid_kept`, `pids-kept`,
 -- `pids-padded`). Assumes nothing.
 use Prim.Native.Nat.{ℕ, zero, suc, ◌+◌, ◌*◌, ◌/◌, ◌%◌, ◌≤◌, ◌<◌}
@@ -17,7 +18,8 @@ use Rattle.lists.proofs.Picks.{by_lt}
 use Rattle.packet.specs.Header.{continuity_counter}
 use Rattle.packet.specs.declared.counter.Last.TheVariants as last
 use Rattle.packet.specs.Counter.{StreamRecord, named, pids_of, last_kept, last_of}
-use Rattle.packet.specs.Streams.{look_up_from, look_up, most_records, padded, mark_of, index_of, numbers_of, listed_pids, last_from, last_in}
+use Rattle.packet.specs.Streams.{look_up_from, look_up, most_records, padded, mark_of, index_of, numbers_of, listed_pids, last_from}
+use Rattle.packet.specs.Streams.{last_in}
 use Rattle.packet.specs.Streams.{with_last, with_pid}
 use Rattle.packet.proofs.Slots.{first_has_not}
 

@@ -66,7 +66,8 @@ module _ (numbers : List ℕ) (count i : ℕ) where
 
       pub slot_here : get_or numbers (2 + i) 0 ≡ pid → look_up_from (2 + i) pid (drop i (listed_pids count numbers)) ≡ At (2 + i)
       slot_here e =
-          ap (look_up_from (2 + i) pid) next_pid ∙ first_has (2 + i) pid (get_or numbers (2 + i) 0) (drop (i + 1) (listed_pids count numbers)) e
+          ap (look_up_from (2 + i) pid) next_pid ∙ first_has (2 + i) pid (get_or numbers (2 + i) 0)
+          (drop (i + 1) (listed_pids count numbers)) e
 
       pub slot_next : (get_or numbers (2 + i) 0 ≡ pid → ⊥)
           → look_up_from (2 + i) pid (drop i (listed_pids count numbers))

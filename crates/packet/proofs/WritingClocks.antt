@@ -1,4 +1,5 @@
--- The PCR packet that the segment writer writes is read as one without payload (`pcr_reads`) that has the PCR (`pcr_is_lem`). Assumes nothing.
+-- The PCR packet that the segment writer writes is read as one without payload (`pcr_reads`) that has the PCR (`pcr_is_lem`). Assumes
+-- nothing.
 use Prim.Native.Nat.{ℕ, ◌^◌, ◌<◌}
 use mathlib.Core.Bool.{true, false}
 use mathlib.Core.Path.{◌≡◌, refl, sym, ap, ◌∙◌}

@@ -16,7 +16,8 @@ use Rattle.ticks.specs.declared.Ticks90.{Ticks90}
 use Rattle.ticks.specs.Writing.{time_bytes}
 use Rattle.ticks.proofs.Writing.{prefix_back, markers_back, stamp_back}
 use Rattle.pes.specs.declared.header.Times.TheVariants.{Stamps}
-use Rattle.pes.specs.Pes.{header_wrong, no_times, header_of, pes_data, time_stamp_wrong, times_wrong, times_of, least_length_byte, present_dts}
+use Rattle.pes.specs.Pes.{header_wrong, no_times, header_of, pes_data, time_stamp_wrong, times_wrong, times_of, least_length_byte}
+use Rattle.pes.specs.Pes.{present_dts}
 use Rattle.pes.specs.Pes as read
 use Rattle.pes.specs.Writing.{pts_alone, times, time_flags, length_written, pes_header}
 

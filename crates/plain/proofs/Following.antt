@@ -132,7 +132,8 @@ unfolding flatten
 none_put out l = refl
 
 -- they are among those there are, and have room
-pub going_bounded : (room n last : ℕ) (l : List Bytes) → (going_on room n last l ≤ length l) × (going_on room n last l * payload_length ≤ room)
+pub going_bounded : (room n last : ℕ) (l : List Bytes) → (going_on room n last l ≤ length l) ×
+    (going_on room n last l * payload_length ≤ room)
 going_bounded room n last [] = let z = going_none room n last in (omega (arith, z), omega (arith, z))
 going_bounded room n last (p ∷ l) =
     case (ltb room payload_length)

@@ -236,7 +236,8 @@ module _ {edition : Edition} {s : Bytes} {found : Found} {at : ℕ} (w : Walked 
       rw f
 
   -- it does not
-  pub walk_next : size ≤ length s - at → (next : Found) → next ≡ with_descriptor edition found (eqb at 0) (take (at + size - at) (drop at s))
+  pub walk_next : size ≤ length s - at → (next : Found) → next ≡ with_descriptor edition found (eqb at 0)
+      (take (at + size - at) (drop at s))
       → Walked edition s next (at + size)
   unfolding ◌>>◌ given pick
   walk_next k next p =

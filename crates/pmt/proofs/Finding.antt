@@ -202,7 +202,8 @@ module _ (edition : Edition) where
             case (videos_wrong e)
             (λ r. ap (taking es slot) (kind_wrong e p q r) ∙ ap (λ (a : Av1). map_from a pcr_pid l) (wrong_stays es (suc slot))
             ∙ never_right e (misplaced_in es) (av1_in es) slot r ∙ here)
-            (λ r. ap (taking es slot) (kind_right e p q r) ∙ ap (λ (a : Av1). map_from a pcr_pid l) (one_then es (suc slot) slot (video_in e))
+            (λ r. ap (taking es slot) (kind_right e p q r) ∙ ap (λ (a : Av1). map_from a pcr_pid l)
+            (one_then es (suc slot) slot (video_in e))
             ∙ only_one e (misplaced_in es) (av1_in es) slot r ∙ here)
 
     found : (es : List MapEntry) (slot : ℕ) → map_from (with_all edition es slot Missing) pcr_pid l ≡ verdict es slot

@@ -87,7 +87,8 @@ module _ (edition : Edition) (map_pid : ℕ) (s : Bytes) (most : 16 ≤ length s
       info_filled : (ds : List Bytes) × (descriptors (program_info s) ≡ passed ds)
       info_filled = let p = filled_loop edition (program_info s) found (ap (loop_found edition) (sym info_lent) ∙ f) in (p.0, p.1)
 
-      body : {r : Verdict ProgramMap} → r ≡ (list_read edition map_pid (entry_bytes s) >>= listed_map (pcr_pid s)) → r ≡ body_map edition map_pid s
+      body : {r : Verdict ProgramMap} → r ≡ (list_read edition map_pid (entry_bytes s) >>= listed_map (pcr_pid s)) → r ≡ body_map edition
+          map_pid s
       unfolding body_map
       body p = pass_on 26 info_fits (passes info_filled.0 info_filled.1 p)
 
@@ -95,7 +96,8 @@ module _ (edition : Edition) (map_pid : ℕ) (s : Bytes) (most : 16 ≤ length s
           → refused number 0 ≡ body_map edition map_pid s
       entries_refused number p = body (stop number 0 _ (ap (list_read edition map_pid) (sym entries_lent) ∙ p))
 
-      pub entries_passed : (l : Listed) → list_read edition map_pid (take (length s - 4 - (12 + n)) (drop (12 + n) s)) ≡ passed l → (pcr : ℕ)
+      pub entries_passed : (l : Listed) → list_read edition map_pid (take (length s - 4 - (12 + n)) (drop (12 + n) s)) ≡ passed l →
+          (pcr : ℕ)
           → pcr ≡ pcr_pid s
           → listed_map pcr l ≡ body_map edition map_pid s
       entries_passed l p pcr q =
@@ -134,4 +136,5 @@ section_map edition program map_pid s =
     (then_bind info _ g
     ∙ ap (λ (v : Verdict ProgramMap). info >> v)
     (then_bind (descriptors (program_info s)) _ g
-    ∙ ap (λ (v : Verdict ProgramMap). descriptors (program_info s) >> v) (lists_map edition (pcr_pid s) (entries map_pid (entry_bytes s))))))
+    ∙ ap (λ (v : Verdict ProgramMap). descriptors (program_info s) >> v)
+    (lists_map edition (pcr_pid s) (entries map_pid (entry_bytes s))))))

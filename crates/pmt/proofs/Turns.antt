@@ -37,13 +37,15 @@ no_place map_pid es [] h = absurd (omega arith)
 no_place map_pid es (b ∷ s) h = refl
 
 pub one_more : (n map_pid : ℕ) (es : List MapEntry) (s : Bytes) → 0 < length s
-    → entries_after (suc n) map_pid es s ≡ (entry map_pid (pids es) s >>= λ e. entries_after n map_pid (es ++ (e ∷ [])) (drop (entry_size s) s))
+    → entries_after (suc n) map_pid es s ≡ (entry map_pid (pids es) s >>= λ e. entries_after n map_pid (es ++ (e ∷ []))
+    (drop (entry_size s) s))
 unfolding entries_after
 one_more n map_pid es [] h = absurd (omega arith)
 one_more n map_pid es (b ∷ s) h = refl
 
 -- an entry that passed lies within the bytes
-pub entry_within : (map_pid : ℕ) (earlier : List ℕ) (s : Bytes) (e : MapEntry) → entry map_pid earlier s ≡ passed e → entry_size s ≤ length s
+pub entry_within : (map_pid : ℕ) (earlier : List ℕ) (s : Bytes) (e : MapEntry) → entry map_pid earlier s ≡ passed e → entry_size s ≤ length
+    s
 unfolding entry
 entry_within map_pid earlier s e p =
     let short = given_passed 26 _ (passed_after _ _ e p).0 in

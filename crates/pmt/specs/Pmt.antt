@@ -2,7 +2,8 @@
 -- exactly, no PID twice, none equal to 0, 0x1FFF or the map PID. After the CRC the entries are tried in order, each
 -- wholly for 26; 27 is given where bytes remain after a twelfth that passed; 28 last." (document 01, "A segment").
 -- Assumes nothing.
-use Rattle.std.specs.Prelude.{ℕ, zero, suc, ◌+◌, Bool, true, false, not, ◌&&◌, ◌||◌, List, [], ◌∷◌, ◌++◌, map, eqb, ltb, length, take, drop}
+use Rattle.std.specs.Prelude.{ℕ, zero, suc, ◌+◌, Bool, true, false, not, ◌&&◌, ◌||◌, List, [], ◌∷◌, ◌++◌, map, eqb, ltb}
+use Rattle.std.specs.Prelude.{length, take, drop}
 use Rattle.lists.specs.Lists.{Bytes, same, any, those}
 use Rattle.lists.specs.Bytes.{byte, bits, word}
 use Rattle.refusal.specs.Verdict.{Verdict, passed, refused, ◌>>=◌, ◌>>◌, given}

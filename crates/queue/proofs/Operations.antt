@@ -103,7 +103,8 @@ module _ {queue : Queue} {store : Bytes} {units : List TimedUnit} (q : QueueIs q
     module _ (h : queue.count < 8) where
       pub adds_unacceptable : unit_wrong u ≡ true → (r : Added) → r ≡ refusing 51 → Adds u units store r store
       unfolding adding
-      adds_unacceptable w r e = refused_by_lem 51 r e (pass_on 50 (lt-leb most_units (length units) (omega (arith, counts))) (refuse 51 _ w))
+      adds_unacceptable w r e = refused_by_lem 51 r e (pass_on 50 (lt-leb most_units (length units) (omega (arith, counts)))
+          (refuse 51 _ w))
 
       module _ (w : unit_wrong u ≡ false) (used : ℕ) (is : used ≡ queue.total) where
         longer_length : length (queued_bytes (units ++ (u ∷ []))) ≡ used + length u.carried

@@ -1,6 +1,7 @@
 -- The replay of a trace through the transport buffer of 000, 3.6.2. The words of document 02, request 2026-11, stand
 -- over each definition. Assumes nothing.
-use Rattle.std.specs.Prelude.{ℕ, zero, suc, ◌+◌, ◌-◌, ◌*◌, max, Bool, false, not, ◌&&◌, ◌||◌, List, [], ◌∷◌, eqb, leb, ltb, length}
+use Rattle.std.specs.Prelude.{ℕ, zero, suc, ◌+◌, ◌-◌, ◌*◌, max, Bool, false, not, ◌&&◌, ◌||◌, List, [], ◌∷◌, eqb, leb}
+use Rattle.std.specs.Prelude.{ltb, length}
 use Rattle.lists.specs.Lists.{pick}
 use Rattle.refusal.specs.Verdict.{Verdict, passed, refused, ◌>>◌, NoValue, given}
 use Rattle.refusal.specs.Number.{refused_by}

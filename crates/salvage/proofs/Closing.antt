@@ -109,6 +109,7 @@ module _ (p : Bytes) (h : 3 ≤ length p) where
 
   pub by_third : get_or p (length p - 3) 0 ≡ 0 → get_or p (length p - 2) 0 ≡ 0 → eqb (get_or p (length p - 1) 0) 3 ≡ closes p
   by_third a b =
-      let f : marked3 (get_or p (length p - 3) 0) (get_or p (length p - 2) 0) (get_or p (length p - 1) 0) ≡ eqb (get_or p (length p - 1) 0) 3 =
+      let f : marked3 (get_or p (length p - 3) 0) (get_or p (length p - 2) 0) (get_or p (length p - 1) 0) ≡ eqb (get_or p (length p - 1) 0)
+      3 =
       rw (eq-eqb (get_or p (length p - 3) 0) 0 a, eq-eqb (get_or p (length p - 2) 0) 0 b) in
       sym f ∙ closes_last p h

@@ -192,7 +192,8 @@ module _ {s out₀ out : Bytes} {n code : ℕ} (k : Keeping s out₀ out n code)
         (record {
           at = next_at k.at h;
           part =
-              subst₂ (λ (m : ℕ) (w : Bytes). Part out₀ (forms (payloads s)) (n + m) (forms (payloads (drop (next_code s code) s))) w) (sym f)
+              subst₂ (λ (m : ℕ) (w : Bytes). Part out₀ (forms (payloads s)) (n + m) (forms (payloads (drop (next_code s code) s))) w)
+              (sym f)
               (sym (tail_placed n out (form lent) after k.part.within g)) p;
         })
 

@@ -41,7 +41,8 @@ abbrev Passing : Bytes → Type 0
 Passing p = salvage_refusal p ≡ passed tt
 
 -- none of them has more bytes than all
-all_pass : (ps : List Bytes) → All (λ p. tsobu_refusal p ≡ passed tt) ps → sum (map length (map unescape ps)) ≤ most_obu_bytes → All Passing ps
+all_pass : (ps : List Bytes) → All (λ p. tsobu_refusal p ≡ passed tt) ps → sum (map length (map unescape ps)) ≤ most_obu_bytes → All Passing
+    ps
 unfolding sum
 all_pass [] h k = tt
 all_pass (p ∷ ps) h k = (passes_all p h.0 (omega arith), all_pass ps h.1 (omega arith))

@@ -28,7 +28,8 @@ pub data KeptOf : List Bytes → List Bytes → Type 0 where
 
 -- and the result holds their OBUs
 abbrev pub KeptInOrder : Type 0
-KeptInOrder = (s : Bytes) → KeptOf (payloads s) (kept_payloads s) × (obus_in (salvaged s) ≡ map unescape (kept_payloads s))
+KeptInOrder = (s : Bytes) → KeptOf (payloads s) (kept_payloads s) ×
+    (obus_in (salvaged s) ≡ map unescape (kept_payloads s))
 
 -- "kept with a closing 03 removed", exactly where the payload of one that passes ends in 00 00 03; the payload is then
 -- the writer's form and that 03, otherwise the writer's form; a tsOBU that is dropped has its number as its mark, which

@@ -62,7 +62,8 @@ pub no_multiple : (s : Bytes) → (length s % packet_length ≡ 0 → ⊥) → t
 unfolding segment_length_wrong
 no_multiple s h = rw (ne_eqb (length s % packet_length) 0 h, or-true)
 
-pub by_count : (s : Bytes) → (length s ≡ 0 → ⊥) → length s % packet_length ≡ 0 → ltb 65535 (length s / packet_length) ≡ segment_length_wrong s
+pub by_count : (s : Bytes) → (length s ≡ 0 → ⊥) → length s % packet_length ≡ 0 → ltb 65535 (length s / packet_length) ≡ segment_length_wrong
+    s
 unfolding segment_length_wrong
 by_count s h k = rw (ne_eqb (length s) 0 h, eq-eqb (length s % packet_length) 0 k)
 

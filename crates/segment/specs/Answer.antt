@@ -66,7 +66,8 @@ pub record Checks (v : Verdict Accepted) (m : ProgramMap) (before : Outputs) (fi
 -- in the edition of this number
 abbrev pub ChecksIn : ℕ → Bytes → Outputs → List ℕ → Checked → Outputs → List ℕ → Type 0
 ChecksIn n segment before firsts r after firsts' =
-    Checks (check_in n (rooms_of before) segment) (map_checked n (rooms_of before) segment) before firsts r after firsts'
+    Checks (check_in n (rooms_of before) segment) (map_checked n (rooms_of before) segment) before firsts r after
+    firsts'
 
 -- and with the comparison of 2026-04 beside it
 pub record ChecksCompared (n : ℕ) (segment : Bytes) (before : Outputs) (r : AnsweredBeside) (after : Outputs)

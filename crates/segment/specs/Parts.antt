@@ -19,7 +19,8 @@ use Rattle.segment_rules.specs.State as state
 use Rattle.segment_rules.specs.State.{AccessUnit}
 use Rattle.packet.specs.Header.{packet_length, packets}
 use Rattle.segment_rules.specs.Rules.{Rooms}
-use Rattle.segment_rules.specs.Check.{Accepted, Outputs, Progress, rooms_of, holding, holding_firsts, rule20, start, run}
+use Rattle.segment_rules.specs.Check.{Accepted, Outputs, Progress, rooms_of, holding, holding_firsts, rule20, start}
+use Rattle.segment_rules.specs.Check.{run}
 use Rattle.segment_rules.specs.Check.{accepted, ending}
 use Rattle.tables.specs.declared.tables.Tables.{Tables}
 use Rattle.tables.specs.Tables.{tables_kept}
@@ -92,7 +93,8 @@ ChecksInOrder edition segment before old r after firsts =
 unfoldable pub disagreeing : Video → List Bytes → Option Disagreement
 disagreeing video.Absent units = none
 disagreeing (video.Present first second third last) units =
-    first_from 0 (fields_of (video_tag ∷ video_length ∷ first ∷ second ∷ third ∷ last ∷ [])) (map headers_before_frame units)
+    first_from 0 (fields_of (video_tag ∷ video_length ∷ first ∷ second ∷ third ∷ last ∷ []))
+    (map headers_before_frame units)
 
 -- and of an accepted segment, whose units stand in these outputs; none where it is refused
 abbrev pub disagreement_in : SegmentCheck → Video → Bytes → List ℕ → Option Disagreement

@@ -510,7 +510,8 @@ module _ (R S : Records) (grows : (l l' new : List StreamRecord) → S l l' → 
   pub packet_alike : (i j : ℕ) (kind : Kind) → AlikeRules R S (packet_rules edition rooms i q kind) (packet_rules edition rooms j q kind)
   unfolding packet_rules unless_repeat
   packet_alike i j kind st st' a =
-      both_bind (Alike S) (Alike S) (in_sequence (up_to24 i q) st) (in_sequence (up_to24 j q) st') _ _ (to_24_alike R S i j q counts st st' a)
+      both_bind (Alike S) (Alike S) (in_sequence (up_to24 i q) st) (in_sequence (up_to24 j q) st') _ _
+      (to_24_alike R S i j q counts st st' a)
       (λ st1 st1' b. both_pick (Alike S) _ _ _ _ _ _
       (sym (said_repeats (pid q) st1.tables.records)
       ∙ repeats (said st1.tables.records) (said st1'.tables.records) b.tables.records

@@ -128,7 +128,8 @@ module _ (edition : Edition) (rooms : Rooms) (i : ℕ) (p : Bytes) (st : State) 
 
   -- ---- the AV1 PID: its PCR and its counter, then, where it is no repeat, the rules of a PES (`starts`, `opens` and `adds` of
   -- Sequence.antt say what these are)
-  pub av1_packet : packet_rules edition rooms i p Av1 st ≡ (counted i p st >>= unless_repeat p (in_sequence (pes_rules edition rooms i p Av1)))
+  pub av1_packet : packet_rules edition rooms i p Av1 st ≡ (counted i p st >>= unless_repeat p
+      (in_sequence (pes_rules edition rooms i p Av1)))
   unfolding in_sequence section_read ◌>>=◌
   av1_packet = two_parts Av1
       ∙ bind_same (counted i p st) _ _

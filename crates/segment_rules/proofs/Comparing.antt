@@ -222,7 +222,8 @@ all_headers : (ws : List Bytes) → All (λ w. tsobu_refusal w ≡ passed tt) ws
 all_headers [] h = tt
 all_headers (w ∷ ws) h = (header_there w h.0, all_headers ws h.1)
 
-pub headers_read : (s : Bytes) (l : List Bytes) → read_unit s ≡ passed l → All (λ obu. (h : Header) × (header_of obu ≡ passed h)) (obus_in s)
+pub headers_read : (s : Bytes) (l : List Bytes) → read_unit s ≡ passed l → All (λ obu. (h : Header) × (header_of obu ≡ passed h))
+    (obus_in s)
 unfolding read_unit
 headers_read s l e =
     let a = passed_so _ _ l e in

@@ -65,7 +65,8 @@ cut_from unit front (w ∷ ws) carried e =
     (ap (λ (n : ℕ). map (cut_out carried) (places_from unit n ws)) (sym next)
     ∙ cut_from unit ((front ++ code) ++ w) ws carried (whole ∙ sym (append_assoc (front ++ code) w (joined ws))))
 
-pub places_cut : (unit : ℕ) (carried : Bytes) → at_start_code carried ≡ true → map (cut_out carried) (places_in unit carried) ≡ payloads carried
+pub places_cut : (unit : ℕ) (carried : Bytes) → at_start_code carried ≡ true → map (cut_out carried) (places_in unit carried) ≡ payloads
+    carried
 places_cut unit carried e = cut_from unit [] (payloads carried) carried (from_code carried e)
 
 -- they stand from this place on, one behind the other, up to the end; each has something, and a type of four bits

@@ -91,7 +91,8 @@ module _ (edition : Edition) (rooms : Rooms) (lens : most_units ≤ rooms.lens) 
 
     -- the rules of a PES, where the packet's bytes have room
     module _ (st : State) (room : so_far st.extraction + length p ≤ rooms.bytes) where
-      start_apart : has_payload p ≡ true → payload_unit_start_indicator p ≡ true → Without 8 (in_sequence (pes_rules edition rooms i p Av1) st)
+      start_apart : has_payload p ≡ true → payload_unit_start_indicator p ≡ true → Without 8
+          (in_sequence (pes_rules edition rooms i p Av1) st)
       unfolding on_units
       start_apart h s =
           subst (Without 8) (sym (starts edition rooms i p st h s))
@@ -110,7 +111,8 @@ module _ (edition : Edition) (rooms : Rooms) (lens : most_units ≤ rooms.lens) 
           (sym (le-ltb rooms.times (2 * with_next st1.extraction) (omega arith))))))
           tt)))))))
 
-      add_apart : has_payload p ≡ true → payload_unit_start_indicator p ≡ false → Without 8 (in_sequence (pes_rules edition rooms i p Av1) st)
+      add_apart : has_payload p ≡ true → payload_unit_start_indicator p ≡ false → Without 8
+          (in_sequence (pes_rules edition rooms i p Av1) st)
       add_apart h s =
           subst (Without 8) (sym (adds edition rooms i p st h s))
           (try 29 _ _ refl (λ _. try 31 _ _ refl (λ _.

@@ -23,7 +23,8 @@ use Rattle.pes.specs.declared.header.Times.{Times}
 use Rattle.pes.specs.Pes.{no_times, times_of}
 use Rattle.psi.specs.Section.{section_of, common_wrong, up_to_crc, table_id_extension}
 use Rattle.pmt.specs.Pmt.{MapEntry, MapContent, pcr_pid, pids, descriptors, program_info, program_info_length, entries, entry_bytes}
-use Rattle.pmt.specs.Pmt.{is_registration, registration_first, registration_later, is_av1, misplaced_registration, one_av1, av1_entry, read_pmt}
+use Rattle.pmt.specs.Pmt.{is_registration, registration_first, registration_later, is_av1, misplaced_registration, one_av1, av1_entry}
+use Rattle.pmt.specs.Pmt.{read_pmt}
 use Rattle.lists.specs.Bytes.{Octets}
 use Rattle.segment_rules.specs.State as state
 use Rattle.segment_rules.specs.State.{FirstPat, FirstPmt, Tables, State, Kind, kind_of, listed_as, is_map_pid, with_tables, with_pmt}
@@ -122,7 +123,8 @@ NoneIn edition e = any (is_registration edition) e.descriptors ≡ false
 
 -- none of a section's entries has one, if it has entries
 abbrev pub Unregistered : Edition → Bytes → Type 0
-Unregistered edition section = (map_pid : ℕ) (es : List MapEntry) → entries map_pid (entry_bytes section) ≡ passed es → All (NoneIn edition) es
+Unregistered edition section = (map_pid : ℕ) (es : List MapEntry) → entries map_pid (entry_bytes section) ≡ passed es → All (NoneIn edition)
+    es
 
 -- the reading of a section that is right up to 28, which then is given
 right_up_to28 : ℕ → ℕ → Bytes → Verdict MapContent

@@ -207,26 +207,35 @@ examples =
     ∷ []
 
 pub examples_checked : All (λ e. answer_of (check_compared e.edition rooms (flatten e.packets)) ≡ e.answer) examples
-unfolding bytes_before pat_packet pmt_packet draft_packet long_packet clock_packet pes_packet pes900 pes1800 pes_untimed pes_sequence other_packet
+unfolding bytes_before pat_packet pmt_packet draft_packet long_packet clock_packet pes_packet pes900 pes1800 pes_untimed pes_sequence
+    other_packet
     examples flatten pick same all any those ◌>>=◌ ◌>>◌ given at_place in_turn emulation.above3 emulation.forbidden emulation.legal
-    emulation.unescape obu.fixed_bytes obu.size_of obu.header_with obu.sized_header obu.header_of obu.judged leb128.low_first leb128.leb_within
-    leb128.in_range leb128.leb128 order.kind_of_number order.after_frame order.in_tiles order.at_frame order.before_frame order.order_refusal
-    codes.at_start_code codes.split unit.sum tsobu.tsobu_refusal unit.read_unit descriptor.version_wrong descriptor.zeros_wrong descriptor.wrong
+    emulation.unescape obu.fixed_bytes obu.size_of obu.header_with obu.sized_header obu.header_of obu.judged leb128.low_first
+    leb128.leb_within
+    leb128.in_range leb128.leb128 order.kind_of_number order.after_frame order.in_tiles order.at_frame order.before_frame
+    order.order_refusal
+    codes.at_start_code codes.split unit.sum tsobu.tsobu_refusal unit.read_unit descriptor.version_wrong descriptor.zeros_wrong
+    descriptor.wrong
     packet.packets_of packet.adaptation_flags packet.pcr packet.header_length packet.payload packet.fields_wrong counter.due
     counter.counter_right counter.without_pcr counter.copy_of counter.check counter.record_of counter.checked_in crc.bit_step crc.bits_step
-    crc.byte_step crc.crc_from section.misplaced section.fields_wrong section.crc_wrong section.common_wrong pat.programs pat.map_pid_in_range
+    crc.byte_step crc.crc_from section.misplaced section.fields_wrong section.crc_wrong section.common_wrong pat.programs
+    pat.map_pid_in_range
     pat.one_program pat.read_pat pmt.descriptors_within pmt.pid_wrong pmt.entry pmt.entries_after pmt.video_wrong pmt.registration_first
-    pmt.registration_later pmt.is_av1 pmt.misplaced_registration pmt.one_av1 pmt.av1_entry pmt.read_pmt pes.least_length_byte pes.time_stamp_wrong
+    pmt.registration_later pmt.is_av1 pmt.misplaced_registration pmt.one_av1 pmt.av1_entry pmt.read_pmt pes.least_length_byte
+    pes.time_stamp_wrong
     pes.times_wrong pes.header_wrong pes.dts pes.times_of check.segment_length_wrong check.accepted check.ending check.step check.run
     check.check_segment edition.edition_of check.pts_and_dts rules.in_sequence rules.on_tables rules.on_units rules.counting_pcr
     rules.later_section rules.pat_section rules.pmt_section rules.section_read rules.length_differs rules.close_open rules.close_if_open
     rules.rule rules.rule21 rules.rule22 rules.rule23 rules.pcr_counts rules.checked rules.rule24 rules.rules25to28 rules.closing
     rules.rule29 rules.rule30 rules.rule31 rules.rule34 rules.rule8 rules.added_to rules.carried rules.unless_repeat rules.packet_rules
-    state.is_map_pid state.listed_as state.kind_of state.counting bits.bits_of bits.◌>>=◌ bits.◌>>◌ bits.return bits.f_from bits.flag bits.skip
-    bits.when bits.times bits.zeros_from bits.uvlc sequence.timing_info sequence.decoder_model_info sequence.timed_model sequence.delay_length
+    state.is_map_pid state.listed_as state.kind_of state.counting bits.bits_of bits.◌>>=◌ bits.◌>>◌ bits.return bits.f_from bits.flag
+    bits.skip
+    bits.when bits.times bits.zeros_from bits.uvlc sequence.timing_info sequence.decoder_model_info sequence.timed_model
+    sequence.delay_length
     sequence.operating_parameters sequence.decoder_model sequence.display_delay sequence.operating_point sequence.operating_points
     sequence.reduced_point sequence.frame_size sequence.id_lengths sequence.frame_ids sequence.integer_mv sequence.order_tools
-    sequence.screen_tools sequence.inter_tools sequence.described_color sequence.color_description sequence.is_srgb sequence.coded_subsampling
+    sequence.screen_tools sequence.inter_tools sequence.described_color sequence.color_description sequence.is_srgb
+    sequence.coded_subsampling
     sequence.subsampling sequence.positioned sequence.grey sequence.other_color sequence.chroma_format sequence.nine sequence.color_config
     sequence.frames_and_tools sequence.sequence_header compare.of_header compare.of_descriptor compare.first_differing compare.reading
     compare.comparing comparison.sequence_content comparison.first_of comparison.first_from compared.compared_with compared.check_compared

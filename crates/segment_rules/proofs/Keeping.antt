@@ -69,7 +69,8 @@ module _ (P : State → Type 0) where
   rule_keeps i p number given_when st h = holds_then P _ _ (λ _ _. h)
 
 -- the rest is left out for a repeated packet
-pub holds_unless : (P : State → Type 0) (p : Bytes) (rest : Rule) (st : State) → P st → Holds P (rest st) → Holds P (unless_repeat p rest st)
+pub holds_unless : (P : State → Type 0) (p : Bytes) (rest : Rule) (st : State) → P st → Holds P (rest st) → Holds P
+    (unless_repeat p rest st)
 unfolding unless_repeat
 holds_unless P p rest st h k = holds_pick P _ _ _ h k
 

@@ -14,7 +14,8 @@ use Rattle.lists.proofs.Tests.{case, and_both}
 use Rattle.refusal.specs.Verdict.{Verdict, passed, refused, ◌>>=◌}
 use Rattle.refusal.proofs.Verdicts.{passed_then}
 use Rattle.packet.specs.Header.{pid, continuity_counter, has_payload, discontinuity_indicator}
-use Rattle.packet.specs.Counter.{StreamRecord, due, counter_right, bytes_same, copy_of, repeats, updated, follows, check, record_of, checked_in}
+use Rattle.packet.specs.Counter.{StreamRecord, due, counter_right, bytes_same, copy_of, repeats, updated, follows, check, record_of}
+use Rattle.packet.specs.Counter.{checked_in}
 use Rattle.packet.proofs.Counters.{check_right, check_wrong, check_passed, some_not_none, some_same}
 use Rattle.packet.proofs.Copies.{same_front, copy_not_due}
 use Rattle.segment_rules.proofs.Sequence.{bind_assoc, bind_where, bind_same}
@@ -196,7 +197,8 @@ module _ (p p' : Bytes) (copies : copy_of (some p) p' ≡ true) where
       (and-false (copy_of (some p') q) ∙ sym no_repeat)
 
   pub next_checked : (q : Bytes) (records after : List StreamRecord) → pid q ≡ pid p → copy_of (some p) q ≡ false
-      → record_of (pid p) records ≡ some after_original → checked_in 0 records q ≡ passed after → checked_in 0 (mark records) q ≡ passed after
+      → record_of (pid p) records ≡ some after_original → checked_in 0 records q ≡ passed after → checked_in 0 (mark records) q ≡ passed
+      after
   unfolding ◌>>=◌
   next_checked q [] after e f h k = absurd (some_not_none after_original (sym (sym none_there ∙ h)))
   next_checked q (r ∷ records) after e f h k =

@@ -163,7 +163,8 @@ others n [] e = tt
 others n (m ∷ l) e = let k = or_neither (eqb n m) (any (eqb n) l) e in (other m n k.0, others n l k.1)
 
 -- none of the named PIDs is this one
-none_named : (n : ℕ) (pat : Option FirstPat) (pmt : Option FirstPmt) → eqb n 0 ≡ false → is_map_pid pat n ≡ false → listed_as pmt n ≡ Unlisted
+none_named : (n : ℕ) (pat : Option FirstPat) (pmt : Option FirstPmt) → eqb n 0 ≡ false → is_map_pid pat n ≡ false → listed_as pmt n ≡
+    Unlisted
     → All (λ m. eqb m n ≡ false) (named_pids pat pmt)
 unfolding is_map_pid listed_as is_unlisted
 none_named n none pmt z m l = (other 0 n z, tt)

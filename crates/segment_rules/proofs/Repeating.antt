@@ -99,7 +99,8 @@ self (refused number place) = tt
 equal_counts : (q : Bytes) (l l' : List StreamRecord) → Equal l l' → Both Equal (checked_in 0 l q) (checked_in 0 l' q)
 equal_counts q l l' e = subst (λ (x : List StreamRecord). Both Equal (checked_in 0 l q) (checked_in 0 x q)) e (self (checked_in 0 l q))
 
-equal_repeats : (q : Bytes) (l l' : List StreamRecord) → Equal l l' → last_repeats (record_of (pid q) l) ≡ last_repeats (record_of (pid q) l')
+equal_repeats : (q : Bytes) (l l' : List StreamRecord) → Equal l l' → last_repeats (record_of (pid q) l) ≡ last_repeats
+    (record_of (pid q) l')
 equal_repeats q l l' e = ap (λ (x : List StreamRecord). last_repeats (record_of (pid q) x)) e
 
 equal_grows : (l l' new : List StreamRecord) → Equal l l' → Equal (l ++ new) (l' ++ new)

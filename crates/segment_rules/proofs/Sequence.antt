@@ -45,7 +45,8 @@ pub then_same : {A B : Type 0} (v : Verdict A) {w w' : Verdict B} → w ≡ w' �
 then_same v e = ap (λ x. v >> x) e
 
 -- ---- rules in sequence
--- the rules of two lists in sequence are those of the first, and then those of the second: `packet_rules` is the whole table in sequence, of
+-- the rules of two lists in sequence are those of the first, and then those of the second: `packet_rules` is the whole table in sequence,
+-- of
 -- a packet that is no repeat
 pub sequence_append : (a b : List Rule) (st : State) → in_sequence (a ++ b) st ≡ (in_sequence a st >>= in_sequence b)
 unfolding in_sequence ◌>>=◌

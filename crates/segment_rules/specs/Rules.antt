@@ -257,7 +257,8 @@ module _ (i : ℕ) (p : Bytes) where
     times_past rooms x = ltb rooms.times (2 * with_next x)
 
     abbrev pub output_past : Rooms → Extraction → Bool
-    output_past rooms x = (av1_payload && bytes_past rooms x) || (av1_start && (length_past rooms x || times_past rooms x))
+    output_past rooms x = (av1_payload && bytes_past rooms x) ||
+        (av1_start && (length_past rooms x || times_past rooms x))
 
     unfoldable pub rule8 : Rooms → Rule
     rule8 rooms = rule 8 (λ st. output_past rooms st.extraction)

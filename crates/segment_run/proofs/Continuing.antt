@@ -262,49 +262,53 @@ module _ (edition : Edition) (segment : Bytes) (before : Outputs) (lens times : 
   -- one more in front of them
   module _ (k : ℕ) (h : k < length segment / packet_length) (out : List ℕ) (c : State) (numbers : List ℕ) (st : state.State)
       (s : StateKept edition segment before (outputs_of out lens times) c numbers st) (counter : ℕ) (r : Ready c st n slot counter f)
-      (g : goes_on n counter (packet_at segment k) ≡ true) (room : payload_length ≤ length out - place c) (fits : place c ≤ length out) where
-    abbrev one : (st' : state.State) × (packet_rules (edition_says edition) (rooms_of before) k (packet_at segment k) state.Av1 st ≡ passed st')
-        × StateKept edition segment before (outputs_of (placed out (place c) (payload (packet_at segment k))) lens times)
-        (longer c payload_length) (with_last numbers slot (last.Packet (next_counter counter) k false)) st'
-        × (st'.extraction.units ≡ st.extraction.units)
-        × Ready (longer c payload_length) st' n slot (next_counter counter) f
-    one = one_goes out c numbers st s counter r k g h room fits
+      (g : goes_on n counter (packet_at segment k) ≡ true) (room : payload_length ≤ length out - place c) (fits : place c ≤ length out)
+    where
+      abbrev one : (st' : state.State) × (packet_rules (edition_says edition) (rooms_of before) k (packet_at segment k) state.Av1 st
+          ≡ passed
+          st')
+          × StateKept edition segment before (outputs_of (placed out (place c) (payload (packet_at segment k))) lens times)
+          (longer c payload_length) (with_last numbers slot (last.Packet (next_counter counter) k false)) st'
+          × (st'.extraction.units ≡ st.extraction.units)
+          × Ready (longer c payload_length) st' n slot (next_counter counter) f
+      one = one_goes out c numbers st s counter r k g h room fits
 
-    abbrev out1 : List ℕ
-    out1 = placed out (place c) (payload (packet_at segment k))
+      abbrev out1 : List ℕ
+      out1 = placed out (place c) (payload (packet_at segment k))
 
-    kept_long : length out1 ≡ length out
-    kept_long =
-        let size = long out c numbers st s counter r k g h room fits in
-        placed_long out (place c) (omega (arith, size, room)) (payload (packet_at segment k)) (omega (arith, size, room))
+      kept_long : length out1 ≡ length out
+      kept_long =
+          let size = long out c numbers st s counter r k g h room fits in
+          placed_long out (place c) (omega (arith, size, room)) (payload (packet_at segment k)) (omega (arith, size, room))
 
-    one_went : (m : ℕ)
-        → Went m (k + 1) out1 (longer c payload_length) (with_last numbers slot (last.Packet (next_counter counter) k false)) one.0
-        (next_counter counter)
-        → Went (suc m) k out c numbers st counter
-    unfolding flatten
-    one_went m rest =
-        let p = packet_at segment k in
-        let size = long out c numbers st s counter r k g h room fits in
-        let l = drop (k + 1) (packets segment) in
-        let seam : c.extraction.start + (c.extraction.bytes + payload_length) ≡ place c + length (payload p) = omega (arith, size) in
-        let bytes : c.extraction.bytes + payload_length + m * payload_length ≡ c.extraction.bytes + suc m * payload_length = omega arith in
-        let listed : payload p ++ payloads m l ≡ payloads (suc m) (drop k (packets segment)) =
-        ap (λ (x : ℕ). payload p ++ payloads m (drop x (packets segment))) (add-one k)
-        ∙ ap (payloads (suc m)) (sym (next_packet segment k h)) in
-        let put : placed out1 (c.extraction.start + (c.extraction.bytes + payload_length)) (payloads m l)
-        ≡ placed out (place c) (payloads (suc m) (drop k (packets segment))) =
-        ap (λ (x : ℕ). placed out1 x (payloads m l)) seam ∙ placed_twice out (place c) fits (payload p) (payloads m l)
-        ∙ ap (placed out (place c)) listed in
-        one_gone edition segment before state.Av1 slot k numbers counter st (longer c (suc m * payload_length))
-        (outputs_of (placed out (place c) (payloads (suc m) (drop k (packets segment)))) lens times) m one.0
-        (ap (kind_of st.tables) (of_pid n counter p (counts_too n counter p g)) ∙ r.kind) one.1 one.3
-        (subst (λ (x : List ℕ). Gone edition segment before state.Av1 slot m (k + 1)
-        (with_last numbers slot (last.Packet (next_counter counter) k false)) (next_counter counter) one.0
-        (longer c (suc m * payload_length)) (outputs_of x lens times)) put
-        (subst (λ (x : ℕ). Gone edition segment before state.Av1 slot m (k + 1)
-        (with_last numbers slot (last.Packet (next_counter counter) k false)) (next_counter counter) one.0 (with_bytes c x)
-        (outputs_of (placed out1 (c.extraction.start + (c.extraction.bytes + payload_length)) (payloads m l)) lens times)) bytes rest))
+      one_went : (m : ℕ)
+          → Went m (k + 1) out1 (longer c payload_length) (with_last numbers slot (last.Packet (next_counter counter) k false)) one.0
+          (next_counter counter)
+          → Went (suc m) k out c numbers st counter
+      unfolding flatten
+      one_went m rest =
+          let p = packet_at segment k in
+          let size = long out c numbers st s counter r k g h room fits in
+          let l = drop (k + 1) (packets segment) in
+          let seam : c.extraction.start + (c.extraction.bytes + payload_length) ≡ place c + length (payload p) = omega (arith, size) in
+          let bytes : c.extraction.bytes + payload_length + m * payload_length ≡ c.extraction.bytes + suc m * payload_length =
+          omega arith in
+          let listed : payload p ++ payloads m l ≡ payloads (suc m) (drop k (packets segment)) =
+          ap (λ (x : ℕ). payload p ++ payloads m (drop x (packets segment))) (add-one k)
+          ∙ ap (payloads (suc m)) (sym (next_packet segment k h)) in
+          let put : placed out1 (c.extraction.start + (c.extraction.bytes + payload_length)) (payloads m l)
+          ≡ placed out (place c) (payloads (suc m) (drop k (packets segment))) =
+          ap (λ (x : ℕ). placed out1 x (payloads m l)) seam ∙ placed_twice out (place c) fits (payload p) (payloads m l)
+          ∙ ap (placed out (place c)) listed in
+          one_gone edition segment before state.Av1 slot k numbers counter st (longer c (suc m * payload_length))
+          (outputs_of (placed out (place c) (payloads (suc m) (drop k (packets segment)))) lens times) m one.0
+          (ap (kind_of st.tables) (of_pid n counter p (counts_too n counter p g)) ∙ r.kind) one.1 one.3
+          (subst (λ (x : List ℕ). Gone edition segment before state.Av1 slot m (k + 1)
+          (with_last numbers slot (last.Packet (next_counter counter) k false)) (next_counter counter) one.0
+          (longer c (suc m * payload_length)) (outputs_of x lens times)) put
+          (subst (λ (x : ℕ). Gone edition segment before state.Av1 slot m (k + 1)
+          (with_last numbers slot (last.Packet (next_counter counter) k false)) (next_counter counter) one.0 (with_bytes c x)
+          (outputs_of (placed out1 (c.extraction.start + (c.extraction.bytes + payload_length)) (payloads m l)) lens times)) bytes rest))
 
   -- so many packets are left from index k on
   pub goes : (left k : ℕ) → k + left ≡ length segment / packet_length → (out : List ℕ) (c : State) (numbers : List ℕ) (st : state.State)

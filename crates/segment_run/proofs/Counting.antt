@@ -20,7 +20,8 @@ use Rattle.packet.specs.declared.header.Clock.{Clock}
 use Rattle.packet.specs.declared.counter.Last.{Last}
 use Rattle.packet.specs.declared.counter.Last.TheVariants as last
 use Rattle.packet.specs.declared.streams.Slot.TheVariants as slots
-use Rattle.packet.specs.Counter.{StreamRecord, named, due, counter_right, bytes_same, copy_of, repeats, check, pids_of, record_of, checked_in}
+use Rattle.packet.specs.Counter.{StreamRecord, named, due, counter_right, bytes_same, copy_of, repeats, check, pids_of, record_of}
+use Rattle.packet.specs.Counter.{checked_in}
 use Rattle.packet.specs.Counter.{last_kept, last_of}
 use Rattle.packet.specs.Streams.{most_records, look_up, mark_of, index_of, last_in, with_last}
 use Rattle.packet.proofs.Copies.{copy_not_due}
@@ -42,7 +43,8 @@ use Rattle.tables.proofs.Counting.{slot_within}
 
 -- ---- the counter
 -- a packet with payload whose counter is the next one is right
-right_after : (q p : Bytes) (counter : ℕ) → continuity_counter q ≡ counter → has_payload p ≡ true → continuity_counter p ≡ next_counter counter
+right_after : (q p : Bytes) (counter : ℕ) → continuity_counter q ≡ counter → has_payload p ≡ true → continuity_counter p ≡ next_counter
+    counter
     → counter_right (some q) p ≡ true
 unfolding counter_right due pick
 right_after q p counter e h k =
@@ -53,7 +55,8 @@ right_after q p counter e h k =
     ∙ or-true (discontinuity_indicator p)
 
 -- and no copy
-not_equal : (q p : Bytes) → counter_right (some q) p ≡ true → has_payload p ≡ true → discontinuity_indicator p ≡ false → bytes_same q p ≡ false
+not_equal : (q p : Bytes) → counter_right (some q) p ≡ true → has_payload p ≡ true → discontinuity_indicator p ≡ false → bytes_same q p ≡
+    false
 unfolding copy_of
 not_equal q p r h d =
     case (bytes_same q p)

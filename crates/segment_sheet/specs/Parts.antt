@@ -17,7 +17,11 @@ use Rattle.segment_sheet.specs.Content.{obu_of}
 
 -- the stream in a slot of the map
 abbrev pub stream_at : List Entry → ℕ → StreamRow
-stream_at entries i = record { pid = (get_or entries i no_entry).pid; stream_type = (get_or entries i no_entry).stream_type }
+stream_at entries i = record {
+  pid = (get_or entries i no_entry).pid;
+  stream_type =
+      (get_or entries i no_entry).stream_type;
+}
 
 -- the unit with an index, of the first packets, the lengths and the times in turn
 abbrev pub unit_at : List ℕ → List ℕ → List ℕ → ℕ → UnitRow

@@ -7,7 +7,8 @@ use mathlib.Core.List.{List, [], ◌∷◌, ◌++◌, map, flatten}
 use Rattle.lists.specs.Lists.{any, those}
 use Rattle.sheet.specs.Sheet.{Content, big_endian, sheet_numbers, sheet_of, numbers_of, in_bytes}
 use Rattle.sheet.specs.Reading.{wrong, length_wrong, content_of, content_wrong, rows, number, value_from, any_two, any_below, count_past}
-use Rattle.sheet.specs.Reading.{pid_past, stream_type_past, firsts_not_ascending, firsts_reach, length_past, time_past, obus_of, few_or_many}
+use Rattle.sheet.specs.Reading.{pid_past, stream_type_past, firsts_not_ascending, firsts_reach, length_past, time_past, obus_of}
+use Rattle.sheet.specs.Reading.{few_or_many}
 use Rattle.sheet.specs.Reading.{not_in_unit_order, names_no_unit, obu_type_past, overlap, empty, not_ascending, passes_length}
 
 abbrev small : Content

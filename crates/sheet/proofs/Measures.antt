@@ -85,7 +85,8 @@ module _ (s : Bytes) where
       module _ (d : ℕ) (ed : d ≡ number s (1 + 2 * a + 1 + 4 * b)) where
         obus_as : d ≡ obu_count s
         obus_as =
-            ed ∙ ap (λ (n : ℕ). number s (1 + 2 * n + 1 + 4 * b)) ea ∙ ap (λ (n : ℕ). number s (1 + 2 * stream_count s + 1 + 4 * n)) units_as
+            ed ∙ ap (λ (n : ℕ). number s (1 + 2 * n + 1 + 4 * b)) ea ∙ ap (λ (n : ℕ). number s (1 + 2 * stream_count s + 1 + 4 * n))
+            units_as
 
         pub many_obus : 65536 < d → none ≡ measuring s
         many_obus h = no_form (λ f. absurd (omega (arith, f.obus, obus_as)))

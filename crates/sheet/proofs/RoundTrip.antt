@@ -169,7 +169,8 @@ module _ (c : Content) where
     obus_back : rows (obu_row (sheet_of c)) 4 (obu_count (sheet_of c)) (obu_section (sheet_of c) + 1) ≡ c.obus
     obus_back =
         ap (λ (n : ℕ). rows (obu_row (sheet_of c)) 4 n (obu_section (sheet_of c) + 1)) obus_counted
-        ∙ rows_back obu_numbers 4 (λ a. refl) (sheet_of c) (obu_row (sheet_of c)) (obu_back (sheet_of c)) c.obus (obu_section (sheet_of c) + 1)
+        ∙ rows_back obu_numbers 4 (λ a. refl) (sheet_of c) (obu_row (sheet_of c)) (obu_back (sheet_of c)) c.obus
+        (obu_section (sheet_of c) + 1)
         (behind _ obu_section_lem)
 
     pub content_back : content_of (sheet_of c) ≡ c

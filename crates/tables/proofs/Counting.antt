@@ -23,7 +23,8 @@ use Rattle.packet.specs.declared.counter.Counter.TheVariants as counter
 use Rattle.packet.specs.declared.counter.Counted.{Counted}
 use Rattle.packet.specs.declared.counter.Checked.{Checked}
 use Rattle.packet.specs.declared.streams.Slot.TheVariants as slots
-use Rattle.packet.specs.Counter.{StreamRecord, named, bytes_same, equals_last, updated, check, checked_in, given_back, counter_says, pids_of}
+use Rattle.packet.specs.Counter.{StreamRecord, named, bytes_same, equals_last, updated, check, checked_in, given_back, counter_says}
+use Rattle.packet.specs.Counter.{pids_of}
 use Rattle.packet.specs.Counter.{record_of, last_kept, last_of, counted, Of, Checks}
 use Rattle.packet.specs.Streams.{most_records, look_up, numbers_of, last_in, with_last}
 use Rattle.packet.proofs.Slots.{look_up_at, look_up_none}

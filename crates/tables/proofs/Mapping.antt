@@ -53,7 +53,8 @@ put_next entries i d h numbers after e =
     ∙ ap₂ (λ (n : ℕ) (l : List ℕ). with_pids (2 + (i + 1)) (drop n entries) l) (sym (add-one i)) (sym e)
 
 -- none is left
-pub put_all : (entries : List Entry) (i : ℕ) → length entries ≤ i → (numbers : List ℕ) → with_pids (2 + i) (drop i entries) numbers ≡ numbers
+pub put_all : (entries : List Entry) (i : ℕ) → length entries ≤ i → (numbers : List ℕ) → with_pids (2 + i) (drop i entries) numbers ≡
+    numbers
 unfolding with_pids
 put_all entries i h numbers = ap (λ (l : List Entry). with_pids (2 + i) l numbers) (drop_of_length-le entries {i = i} h)
 
@@ -115,7 +116,8 @@ module _ {segment : Bytes} {c : Tables} {numbers : List ℕ} {t : state.Tables} 
   pub pmt_refused : (r : Refused) → a ≡ answer.Refused r → rule ≡ refused_by r
   unfolding pmt_section mapped
   pmt_refused r g =
-      sym (first (stop _ _ _ (same_read ∙ refused_first answered (map_of rules) _ _ (sym read ∙ ap (λ (x : PmtAnswer). answer_says x p) g))))
+      sym (first (stop _ _ _ (same_read ∙ refused_first answered (map_of rules) _ _
+      (sym read ∙ ap (λ (x : PmtAnswer). answer_says x p) g))))
 
   -- what the map says is kept, and the listed PIDs are put in their slots
   pub pmt_read : (n : ℕ) (after : List ℕ) → a ≡ answer.Map → n ≡ (get_or p.entries p.av1 no_entry).pid

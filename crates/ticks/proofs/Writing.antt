@@ -31,7 +31,8 @@ module _ (t : Ticks27) where
   pub extension_back : pcr_extension (byte (pcr_bytes t) 4) (byte (pcr_bytes t) 5) ≡ extension t
   extension_back = omega arith
 
-  pub base_back : pcr_base (byte (pcr_bytes t) 0) (byte (pcr_bytes t) 1) (byte (pcr_bytes t) 2) (byte (pcr_bytes t) 3) (byte (pcr_bytes t) 4)
+  pub base_back : pcr_base (byte (pcr_bytes t) 0) (byte (pcr_bytes t) 1) (byte (pcr_bytes t) 2) (byte (pcr_bytes t) 3)
+      (byte (pcr_bytes t) 4)
       ≡ base t
   base_back =
       ap (λ (x : ℕ). base t / 2 ^ 25 * 2 ^ 25 + base t / 2 ^ 17 % 256 * 2 ^ 17 + base t / 2 ^ 9 % 256 * 2 ^ 9 + base t / 2 % 256 * 2 + x)

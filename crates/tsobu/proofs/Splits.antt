@@ -114,7 +114,8 @@ unfoldable pub starts : ℕ → List Bytes → List ℕ
 starts place [] = []
 starts place (p ∷ ps) = place ∷ starts (place + 3 + length p) ps
 
-pub codes_yes : (place a : ℕ) (s : Bytes) → at_start_code (a ∷ s) ≡ true → start_codes_from place (a ∷ s) ≡ place ∷ start_codes_from (suc place) s
+pub codes_yes : (place a : ℕ) (s : Bytes) → at_start_code (a ∷ s) ≡ true → start_codes_from place (a ∷ s) ≡ place ∷ start_codes_from
+    (suc place) s
 unfolding start_codes_from
 codes_yes place a s e = rw (e, start_codes_from)
 

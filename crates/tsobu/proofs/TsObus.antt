@@ -47,7 +47,8 @@ module _ (first : Bytes) (n d : ℕ) (q : Obu) (e : obu_says q ≡ judged first 
   figures_passed h k = go_on h _ (sym e ∙ ap obu_says k) refl
 
 -- so they give the figures of the payload
-pub figures_short : (payload first : Bytes) (n d k : ℕ) → most_judged ≤ k → first ≡ take k (unescape payload) → n ≡ length (unescape payload)
+pub figures_short : (payload first : Bytes) (n d k : ℕ) → most_judged ≤ k → first ≡ take k (unescape payload) → n ≡ length
+    (unescape payload)
     → d ≡ dropped payload → first_figures first n d ≡ legal_figures payload
 unfolding first_figures
 figures_short payload first n d k h e f g =

@@ -18,7 +18,11 @@ at_start_code (a ∷ b ∷ c ∷ s) = start_code3 a b c
 unfoldable pub start_codes_from : ℕ → Bytes → List ℕ
 start_codes_from place [] = []
 start_codes_from place (a ∷ s) =
-    elim (at_start_code (a ∷ s)) [ true ↦ place ∷ start_codes_from (suc place) s | false ↦ start_codes_from (suc place) s ]
+    elim (at_start_code (a ∷ s)) [
+      | true ↦ place ∷ start_codes_from (suc place) s
+      | false ↦ start_codes_from (suc place)
+          s
+    ]
 
 abbrev pub start_codes : Bytes → List ℕ
 start_codes s = start_codes_from 0 s

@@ -1,6 +1,7 @@
 -- "Stepping: a walk over an access unit hands out one payload at a time, as a part of the lent bytes, and at the end
 -- says so. It checks 9 at the start and 3 and 10 at each step, and stays at a step that refused." Assumes nothing.
-use Rattle.std.specs.Prelude.{ℕ, ◌+◌, Bool, true, false, not, ◌&&◌, ◌≡◌, ◌⊎◌, List, [], ◌∷◌, leb, ltb, eqb, length, take, drop}
+use Rattle.std.specs.Prelude.{ℕ, ◌+◌, Bool, true, false, not, ◌&&◌, ◌≡◌, ◌⊎◌, List, [], ◌∷◌, leb, ltb, eqb, length}
+use Rattle.std.specs.Prelude.{take, drop}
 use Rattle.std.specs.Borrow.{Bor}
 use Rattle.lists.specs.Lists.{Bytes, those}
 use Rattle.refusal.specs.Verdict.{Verdict, passed, refused, ◌>>◌, given, at_place}

@@ -94,7 +94,8 @@ module _ (number : ℕ) (w : WalkNumber number) where
       (λ f. not_so number place _ (obu_said (unescape p) (unescape_some p some)) (pass_on 3 z (pass_on 10 (ap not f) refl) ∙ e))
       (λ f. inr (same_number (sym e ∙ sym (pass_on 3 z (refuse 10 _ (ap not f)))), some, f)))
 
-  step_refused : (unit : Bytes) (at place : ℕ) → at_start_code (drop at unit) ≡ true → tsobu_refusal (payload_at unit at) ≡ refused number place
+  step_refused : (unit : Bytes) (at place : ℕ) → at_start_code (drop at unit) ≡ true → tsobu_refusal (payload_at unit at) ≡ refused number
+      place
       → stepping unit at ≡ refused number (obu_index unit at)
   step_refused unit at place c e = by (payload_refused (payload_from unit at) place (ap tsobu_refusal (sym (payload_is unit at)) ∙ e))
     where

@@ -182,7 +182,8 @@ widths_long s c sizes h e =
 
 -- ---- reading, behind the verdict of checking
 module _ (s : Bytes) (bytes lengths widths : ℕ) where
-  pub reading_refused : (number place : ℕ) → checking s ≡ refused number place → refused number place ≡ reading_widths s bytes lengths widths
+  pub reading_refused : (number place : ℕ) → checking s ≡ refused number place → refused number place ≡ reading_widths s bytes lengths
+      widths
   unfolding reading_widths ◌>>=◌
   reading_refused number place e = rw e
 

@@ -201,7 +201,8 @@ pub record Judging (s : Bytes) (at kinds widths : List ℕ) (bytes drops code k 
   pub kinds_noted : Noted kind_in s kinds code k
   pub widths_noted : Noted width_in s widths code k
 
-pub judging_start : (s : Bytes) (at kinds widths : List ℕ) → length at ≡ 64 → length kinds ≡ 64 → length widths ≡ 64 → at_start_code s ≡ true
+pub judging_start : (s : Bytes) (at kinds widths : List ℕ) → length at ≡ 64 → length kinds ≡ 64 → length widths ≡ 64 → at_start_code s ≡
+    true
     → Judging s at kinds widths 0 0 0 0
 judging_start s at kinds widths l m n c =
     record {
@@ -359,7 +360,8 @@ pub record Copying (s : Bytes) (ends out₀ lens₀ out lens : List ℕ) (code n
   pub bytes : Part out₀ (flatten (obus_in s)) n (flatten (map unescape (payloads (drop code s)))) out
   pub lengths : Part lens₀ (map length (obus_in s)) k (map length (map unescape (payloads (drop code s)))) lens
 
-pub copying_start : (s : Bytes) (ends out lens : List ℕ) → at_start_code s ≡ true → take (length (payloads s)) ends ≡ ends_from 0 (payloads s)
+pub copying_start : (s : Bytes) (ends out lens : List ℕ) → at_start_code s ≡ true → take (length (payloads s)) ends ≡ ends_from 0
+    (payloads s)
     → Copying s ends out lens out lens 0 0 0
 copying_start s ends out lens c e =
     record { passing = passing_start s ends c e; bytes = start out (flatten (obus_in s)); lengths = start lens (map length (obus_in s)) }
@@ -391,7 +393,8 @@ module _ {s : Bytes} {ends out₀ lens₀ out lens : List ℕ} {code n k : ℕ} 
   copying_place = room next_length lens_fit
 
   pub copying_step : (written : ℕ) → written ≡ length (unescape (payload_at s code))
-      → Copying s ends out₀ lens₀ (placed out n (unescape (payload_at s code))) (set lens k written) (next_code s code) (n + written) (k + 1)
+      → Copying s ends out₀ lens₀ (placed out n (unescape (payload_at s code))) (set lens k written) (next_code s code) (n + written)
+      (k + 1)
   copying_step written e =
       let p = put_all (unescape (payload_at s code)) next_bytes fits in
       let q = put next_length lens_fit in

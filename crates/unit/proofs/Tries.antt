@@ -71,7 +71,8 @@ module _ (lens : List ℕ) (bytes : Bytes) (i at : ℕ) (a : At lens bytes i at)
   judged_next : judged (lent_obu lens bytes i at) (get_or lens i 0) ≡ judged (next_obu lens bytes i at) (length (next_obu lens bytes i at))
   judged_next = ap₂ judged (lent_obu_lem lens bytes i at) (sym (next_long lens bytes i at a k))
 
-  obu_passed : (h : Header) → judged (lent_obu lens bytes i at) (get_or lens i 0) ≡ passed h → obu_refusal (next_obu lens bytes i at) ≡ passed tt
+  obu_passed : (h : Header) → judged (lent_obu lens bytes i at) (get_or lens i 0) ≡ passed h → obu_refusal (next_obu lens bytes i at) ≡
+      passed tt
   unfolding ◌>>◌
   obu_passed h e = let j = sym judged_next ∙ e in rw j
 
@@ -86,7 +87,8 @@ module _ (lens : List ℕ) (bytes : Bytes) where
 
   module _ (i at : ℕ) (numbers : List ℕ) (j : Judging lens bytes i at numbers) where
     -- the next OBU passed
-    pub judging_next : i < length lens → length lens ≤ most_obus → (h : Header) → judged (lent_obu lens bytes i at) (get_or lens i 0) ≡ passed h
+    pub judging_next : i < length lens → length lens ≤ most_obus → (h : Header) → judged (lent_obu lens bytes i at) (get_or lens i 0) ≡
+        passed h
         → (t : ℕ) → t ≡ kind_number h → Judging lens bytes (i + 1) (at + get_or lens i 0) (set numbers i t)
     judging_next k m h e t f =
         let obu : Bytes = next_obu lens bytes i at in

@@ -27,7 +27,8 @@ use Rattle.unit.specs.declared.reading.Counts.{Counts}
 use Rattle.segment_rules.specs.State as state
 use Rattle.segment_rules.specs.State.{OpenPes, State, with_extraction, with_pes, with_unit}
 use Rattle.segment_rules.specs.Rules.{Rooms, Rule, in_sequence, on_units, rule, rule29, rule30, rule31, rule34, rule8, carried, added_to}
-use Rattle.segment_rules.specs.Rules.{av1_start, av1_more, close_open, close_if_open, close_pes, unit_of, length_wrong, is_open, is_pcr, open_bytes}
+use Rattle.segment_rules.specs.Rules.{av1_start, av1_more, close_open, close_if_open, close_pes, unit_of, length_wrong, is_open, is_pcr}
+use Rattle.segment_rules.specs.Rules.{open_bytes}
 use Rattle.segment_rules.specs.Rules.{carried_so_far, most_units, with_next, payload_rules, pes_rules}
 use Rattle.segment_rules.specs.Check.{Outputs, outputs_of, rooms_of}
 use Rattle.segment_rules.proofs.Sequence.{bind_same, then_same, sequence_append, rule_then, starts, adds}
@@ -258,7 +259,8 @@ module _ (edition : Edition) (rooms : Rooms) (i : ℕ) (p : Bytes) (st : State) 
       >> (at_place i (given 30 (edition.times_needed && no_times (payload p)))
       >> (in_sequence (rule31 i p state.Av1 ∷ rule34 i p state.Av1 ∷ rule8 i p state.Av1 rooms ∷ []) st
       >>= λ st1. passed
-      (with_extraction (with_pes (record { first = i; header = header_of (payload p); bytes = pes_data (payload p) }) st1.extraction) st1))))
+      (with_extraction (with_pes (record { first = i; header = header_of (payload p); bytes = pes_data (payload p) }) st1.extraction)
+      st1))))
   unfolding in_sequence rule rule29 rule30
   opens_parts =
       rule_then i 29 st _ not_more
@@ -323,7 +325,8 @@ module _ (edition : Edition) (i : ℕ) (p w : Bytes) (st : State) (before : Outp
       then_three : {v : Verdict State}
           → v
           ≡ (in_sequence (rule31 i p state.Av1 ∷ rule34 i p state.Av1 ∷ rule8 i p state.Av1 (rooms_of before) ∷ []) st
-          >>= λ st1. passed (with_extraction (with_pes (record { first = i; header = header_of w; bytes = pes_data w }) st1.extraction) st1))
+          >>= λ st1. passed (with_extraction (with_pes (record { first = i; header = header_of w; bytes = pes_data w }) st1.extraction)
+          st1))
           → v ≡ rules
       then_three g = parts (pass_at i 29 right (pass_at i 30 (sym by_times ∙ k) g))
 
@@ -377,7 +380,8 @@ refused_also before rules st r q k after other t =
     refines_refused (in_sequence rules st) _ r.outcome q k (sym (refused_refines (in_sequence rules st) _ r.outcome q k t))
 
 -- ---- what is handed back
-pub fresh_refused : {A : Type 0} (r : ExtractionResult) (o : Outcome) → r ≡ record { extraction = fresh_extraction; outcome = o } → (now : A)
+pub fresh_refused : {A : Type 0} (r : ExtractionResult) (o : Outcome) → r ≡ record { extraction = fresh_extraction; outcome = o } →
+    (now : A)
     → UnitsRefused now r now
 fresh_refused r o e now q k = (
   e ∙ ap (λ (x : Outcome). record { extraction = fresh_extraction; outcome = x }) (sym (ap (λ (x : ExtractionResult). x.outcome) e) ∙ k),

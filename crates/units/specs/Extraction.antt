@@ -9,7 +9,8 @@ use Rattle.descriptor.specs.Edition.{Edition}
 use Rattle.packet.specs.Header.{has_payload, payload, payload_unit_start_indicator}
 use Rattle.segment_rules.specs.State as state
 use Rattle.segment_rules.specs.State.{OpenPes, State}
-use Rattle.segment_rules.specs.Rules.{Rooms, Rule, in_sequence, is_pcr, close_pes, open_bytes, carried_units, carried_so_far}
+use Rattle.segment_rules.specs.Rules.{Rooms, Rule, in_sequence, is_pcr, close_pes, open_bytes, carried_units}
+use Rattle.segment_rules.specs.Rules.{carried_so_far}
 use Rattle.segment_rules.specs.Rules.{pes_rules}
 use Rattle.segment_rules.specs.Check.{Outputs, outputs_of, rooms_of, lengths, times_in_turn}
 use Rattle.tables.specs.declared.state.Outcome.{Outcome}

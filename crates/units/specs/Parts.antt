@@ -10,7 +10,8 @@ use Rattle.pes.specs.declared.header.Times.{Times}
 use Rattle.pes.specs.declared.header.Times.TheVariants.{Absent, Stamps}
 use Rattle.segment_rules.specs.State as state
 use Rattle.segment_rules.specs.State.{OpenPes, State, with_unit}
-use Rattle.segment_rules.specs.Rules.{Rooms, in_sequence, is_pcr, close_open, unit_of, rule31, rule34, rule8, payload_rules}
+use Rattle.segment_rules.specs.Rules.{Rooms, in_sequence, is_pcr, close_open, unit_of, rule31, rule34, rule8}
+use Rattle.segment_rules.specs.Rules.{payload_rules}
 use Rattle.segment_rules.specs.Check.{Outputs, outputs_of, rooms_of, pts_and_dts}
 use Rattle.tables.specs.declared.state.Outcome.{Outcome}
 use Rattle.tables.specs.Tables.{Refines}

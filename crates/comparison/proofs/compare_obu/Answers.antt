@@ -28,15 +28,18 @@ header c =
 pub returns-then-header-ne1 : goal.returns-then-header-ne1
 returns-then-header-ne1 c =
     let u = unescape c.args.payload.now in
-    other_obu c.args.fields (header_of u) u _ (header (goal.at.returns-then-header-ne1 c).After-read_header-read ∙ ap judged_says c.in-Passed.is) c.if-header-ne1.true
+    other_obu c.args.fields (header_of u) u _ (header (goal.at.returns-then-header-ne1 c).After-read_header-read ∙ ap judged_says
+    c.in-Passed.is) c.if-header-ne1.true
 
 pub returns-in-Refused : goal.returns-in-Refused
 returns-in-Refused c =
     let u = unescape c.args.payload.now in
-    no_header c.args.fields (header_of u) u _ (header (goal.at.returns-in-Refused c).After-read_header-read ∙ ap judged_says c.in-Refused.is)
+    no_header c.args.fields (header_of u) u _ (header (goal.at.returns-in-Refused c).After-read_header-read ∙ ap judged_says
+    c.in-Refused.is)
 
 pub returns-else-header-ne1 : goal.returns-else-header-ne1
 returns-else-header-ne1 c =
     let u = unescape c.args.payload.now in
     c.compare_content.ensures
-    ∙ one_header c.args.fields (header_of u) u _ (header (goal.at.returns-else-header-ne1 c).After-read_header-read ∙ ap judged_says c.in-Passed.is) c.if-header-ne1.false
+    ∙ one_header c.args.fields (header_of u) u _ (header (goal.at.returns-else-header-ne1 c).After-read_header-read ∙ ap judged_says
+    c.in-Passed.is) c.if-header-ne1.false

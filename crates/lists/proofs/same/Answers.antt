@@ -1,5 +1,4 @@
 use native.Mathlib.Omega.{arith}
-use Prim.Native.Nat.{◌-◌}
 use mathlib.Core.Path.{sym, ◌∙◌}
 use Rattle.lists.proofs.Comparing.{other_lengths, differ, agree, compared}
 use Rattle.lists.proofs.same.Goals as goal

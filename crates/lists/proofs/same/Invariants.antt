@@ -1,6 +1,6 @@
 -- What is compared from place i on decides, since the bytes before it are equal.
 use Prim.Native.Nat.{◌-◌, ◌≤◌}
-use mathlib.Core.Path.{◌≡◌, ◌∙◌}
+use mathlib.Core.Path.{◌≡◌}
 use lib.ListN.{length, drop}
 use Rattle.lists.specs.Lists.{same}
 use Rattle.lists.proofs.same.Given as goal

@@ -40,7 +40,8 @@ loop-n-preserved c =
     let h : k < length s / 188 = omega arith in
     let p = take (k * 188 + 188 - k * 188) (drop (k * 188) s) in
     let lent = lent_packet s k in
-    let long = payload_long s a.from a.pid a.last a.out.now c.loop-n.out c.loop-n.n c.loop-n.counter c.loop-n.written c.loop-n.invariant h p lent in
+    let long = payload_long s a.from a.pid a.last a.out.now c.loop-n.out c.loop-n.n c.loop-n.counter c.loop-n.written c.loop-n.invariant h p
+    lent in
     let r : 184 ≤ length c.loop-n.out - c.loop-n.written = omega arith in
     follows_one s a.from a.pid a.last a.out.now c.loop-n.out c.loop-n.n c.loop-n.counter c.loop-n.written c.loop-n.invariant h p lent
     (sym c.goes_on.ensures ∙ c.if-not-goes_on.false) r _
@@ -62,6 +63,7 @@ returns-then-out-written-lt-PAYLOAD_LENGTH c =
     let s = a.segment.now in
     let h : a.from + c.loop-n.n < length s / 188 = omega (arith, c.loop-n-test.true) in
     record {
-      value = no_room s a.from a.pid a.last a.out.now c.loop-n.out c.loop-n.n c.loop-n.counter c.loop-n.written c.loop-n.invariant h c.if-out-written-lt-PAYLOAD_LENGTH.true;
+      value = no_room s a.from a.pid a.last a.out.now c.loop-n.out c.loop-n.n c.loop-n.counter c.loop-n.written c.loop-n.invariant h
+          c.if-out-written-lt-PAYLOAD_LENGTH.true;
       out_after = c.loop-n.invariant.stands;
     }

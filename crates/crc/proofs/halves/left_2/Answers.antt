@@ -5,7 +5,9 @@ use native.Mathlib.Omega.{arith}
 use Rattle.lists.specs.Lists.{pick}
 use Rattle.crc.proofs.Rows.{spread, rows}
 use Rattle.crc.proofs.Entries.{arm, lower, upper, both}
-use Rattle.crc.proofs.halves.left_2.Goals.{in-0, in-1, in-2, in-3, in-4, in-5, in-6, in-7, in-8, in-9, in-10, in-11, in-12, in-13, in-14, in_default, in-0-2, in-1-2, in-2-2, in-3-2, in-4-2, in-5-2, in-6-2, in-7-2, in-8-2, in-9-2, in-10-2, in-11-2, in-12-2, in-13-2, in-14-2, in_default-2}
+use Rattle.crc.proofs.halves.left_2.Goals.{in-0, in-1, in-2, in-3, in-4, in-5, in-6, in-7, in-8, in-9, in-10, in-11, in-12, in-13, in-14}
+use Rattle.crc.proofs.halves.left_2.Goals.{in_default, in-0-2, in-1-2, in-2-2, in-3-2, in-4-2, in-5-2, in-6-2, in-7-2, in-8-2, in-9-2}
+use Rattle.crc.proofs.halves.left_2.Goals.{in-10-2, in-11-2, in-12-2, in-13-2, in-14-2, in_default-2}
 use Rattle.crc.proofs.halves.left_2.Goals as goal
 
 pub returns : goal.returns

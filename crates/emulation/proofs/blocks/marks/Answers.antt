@@ -1,5 +1,4 @@
 use native.Mathlib.Omega.{arith}
-use Prim.Native.Nat.{◌-◌}
 use mathlib.Core.Path.{refl, sym, ◌∙◌}
 use Rattle.emulation.specs.Parts.{marked}
 use Rattle.emulation.proofs.Hits.{counted_start, counted_yes, counted_no, counted_all}

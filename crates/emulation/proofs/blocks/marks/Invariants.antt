@@ -1,6 +1,5 @@
 -- The count is that of the first j places (`Counted`); each turn looks at one place more, and at the end they are the block.
 use Prim.Native.Nat.{◌-◌}
-use mathlib.Core.Path.{◌∙◌}
 use Rattle.emulation.specs.Blocks.{block}
 use Rattle.emulation.specs.Parts.{marked}
 use Rattle.emulation.proofs.Hits.{Counted}

@@ -3,7 +3,11 @@ use Rattle.emulation.proofs.Judging.{lawful_then, lawful_first, lawful_dropped, 
 use Rattle.emulation.proofs.unescaping.first_forbidden.Goals as goal
 
 pub returns-then-s-from : goal.returns-then-s-from
-returns-then-s-from c = record { place_value = (lawful_behind c.args.s.now c.args.from c.if-s-from.true).0; count_value = (lawful_behind c.args.s.now c.args.from c.if-s-from.true).1 }
+returns-then-s-from c = record {
+  place_value = (lawful_behind c.args.s.now c.args.from c.if-s-from.true).0;
+  count_value =
+      (lawful_behind c.args.s.now c.args.from c.if-s-from.true).1;
+}
 
 pub returns : goal.returns
 returns c =

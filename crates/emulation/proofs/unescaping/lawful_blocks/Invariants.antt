@@ -1,6 +1,5 @@
 -- In a block without 00 00 nothing begins and nothing is dropped; in one with no forbidden place each 00 00 03 drops one byte.
-use Prim.Native.Nat.{ℕ, ◌+◌, ◌-◌}
-use mathlib.Core.Path.{◌∙◌}
+use Prim.Native.Nat.{◌-◌}
 use lib.ListN.{length}
 use Rattle.emulation.specs.Parts.{Lawful}
 use Rattle.emulation.proofs.unescaping.lawful_blocks.Given as goal

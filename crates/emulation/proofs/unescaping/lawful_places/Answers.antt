@@ -1,5 +1,4 @@
 use native.Mathlib.Omega.{arith}
-use Prim.Native.Nat.{◌-◌}
 use mathlib.Core.Path.{sym, ◌∙◌}
 use Rattle.emulation.proofs.Steps.{first_found}
 use Rattle.emulation.proofs.Critical.{paired_of}

@@ -1,6 +1,5 @@
 -- Place by place: a byte that is not 00 rules out the places whose pair it would belong to, and at 00 00 the tests decide.
 use Prim.Native.Nat.{◌-◌}
-use mathlib.Core.Path.{◌∙◌}
 use lib.ListN.{length}
 use Rattle.emulation.specs.Parts.{Lawful}
 use Rattle.emulation.proofs.unescaping.lawful_places.Given as goal

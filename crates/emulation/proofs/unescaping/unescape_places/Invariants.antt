@@ -1,7 +1,5 @@
 -- What is written, then what the rest of the payload unescapes to, is what the payload unescapes to from i on.
-use Prim.Native.Nat.{◌+◌, ◌-◌}
-use mathlib.Core.Path.{◌∙◌}
-use mathlib.Core.List.{◌∷◌}
+use Prim.Native.Nat.{◌-◌}
 use lib.ListN.{length}
 use Rattle.emulation.specs.Payload.{unescape}
 use Rattle.emulation.proofs.Giving.{Going}

@@ -1,5 +1,4 @@
 use native.Mathlib.Omega.{arith}
-use Prim.Native.Nat.{◌-◌}
 use Rattle.emulation.proofs.Outputs.{writes_rest}
 use Rattle.emulation.proofs.Giving.{gives_then, gives_copied, gives_rest}
 use Rattle.emulation.proofs.unescaping.unescape_prefix.Goals as goal
@@ -19,4 +18,9 @@ loop-i-preserved c =
     gives_then c.loop-i.invariant (rw same at c.unescape_places-reached.ensures.gives)
 
 pub returns : goal.returns
-returns c = record { value = (gives_rest c.loop-i.invariant (omega arith) (writes_rest c.loop-i.invariant.written.within c.copy_rest.ensures)).0; out_after = (gives_rest c.loop-i.invariant (omega arith) (writes_rest c.loop-i.invariant.written.within c.copy_rest.ensures)).1 }
+returns c = record {
+  value = (gives_rest c.loop-i.invariant (omega arith)
+      (writes_rest c.loop-i.invariant.written.within c.copy_rest.ensures)).0;
+  out_after
+      = (gives_rest c.loop-i.invariant (omega arith) (writes_rest c.loop-i.invariant.written.within c.copy_rest.ensures)).1;
+}

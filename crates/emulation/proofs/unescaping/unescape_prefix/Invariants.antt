@@ -1,7 +1,6 @@
 -- One pass, by blocks: what is given of the bytes up to i stands in the output. A block without 00 00 03 is copied where it has room;
 -- another is a run; what has no room for a run goes place by place.
 use Prim.Native.Nat.{◌-◌}
-use mathlib.Core.Path.{◌∙◌}
 use lib.ListN.{length}
 use Rattle.emulation.specs.Payload.{unescape}
 use Rattle.emulation.specs.Parts.{Gives}

@@ -30,7 +30,8 @@ returns-then-not-has_block-2 c =
 pub returns : goal.returns
 returns c =
     let at = c.args in
-    c.write_block.ensures ∙ sym (block_copied_lem at.s.now at.out.now at.i at.n (both (goal.at.returns c).Else-not-has_block-2).0 (both (goal.at.returns c).Else-not-has_block-2).1)
+    c.write_block.ensures ∙ sym (block_copied_lem at.s.now at.out.now at.i at.n (both (goal.at.returns c).Else-not-has_block-2).0
+    (both (goal.at.returns c).Else-not-has_block-2).1)
 
 pub write_block-requires : goal.write_block-requires
 write_block-requires c = both (goal.at.write_block-requires c).Else-not-has_block-2

@@ -1,6 +1,6 @@
 -- The bytes taken so far are the first of the block.
 use Prim.Native.Nat.{◌-◌, ◌≤◌}
-use mathlib.Core.Path.{◌≡◌, ◌∙◌}
+use mathlib.Core.Path.{◌≡◌}
 use lib.ListN.{length, drop, take}
 use Rattle.emulation.specs.Blocks.{block}
 use Rattle.emulation.proofs.writing.load_block.Given as goal

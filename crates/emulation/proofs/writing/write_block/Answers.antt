@@ -1,6 +1,6 @@
 use native.Mathlib.Omega.{arith}
 use native.Mathlib.Numerals.{add-one}
-use Prim.Native.Nat.{ℕ, ◌+◌, ◌-◌}
+use Prim.Native.Nat.{ℕ, ◌+◌}
 use mathlib.Core.Path.{◌≡◌, ap, ◌∙◌}
 use mathlib.Core.List.{◌++◌}
 use lib.ListN.{drop, take, length-set}
@@ -26,5 +26,6 @@ returns c =
     let n = c.args.n in
     let w = drop c.args.i c.args.s.now in
     let e : c.loop-j.j ≡ block = omega arith in
-    c.loop-j.invariant.3 ∙ ap (λ (k : ℕ). paste o n c.load_block-bytes.result k) e ∙ ap (λ (l : Bytes). paste o n l block) c.load_block-bytes.ensures
+    c.loop-j.invariant.3 ∙ ap (λ (k : ℕ). paste o n c.load_block-bytes.result k) e ∙ ap (λ (l : Bytes). paste o n l block)
+    c.load_block-bytes.ensures
     ∙ ap (λ (l : Bytes). take n o ++ l ++ drop (n + block) o) (take-take block block w (omega arith))

@@ -27,7 +27,8 @@ loop-place-preserved c =
     let e = sym c.critical_at.ensures ∙ c.if-critical_at.false in
     let put = c.put-count-else-critical_at.ensures in
     let w = writes_fitted (escape (drop (c.loop-place.place + 1) s)) c.loop-place.invariant.0.written.within put in
-    going_on c.loop-place.invariant (escape_at_uncritical s c.loop-place.place (omega arith) e) (omega arith) w (put_onward put (omega arith))
+    going_on c.loop-place.invariant (escape_at_uncritical s c.loop-place.place (omega arith) e) (omega arith) w
+    (put_onward put (omega arith))
 
 pub returns : goal.returns
 returns c = record {

@@ -8,4 +8,9 @@ loop-i-preserved c =
     lays_then c.loop-i.invariant (gives_lays c.escape_places-reached.ensures.gives)
 
 pub returns : goal.returns
-returns c = record { value = (lays_rest c.loop-i.invariant (omega arith) (writes_rest c.loop-i.invariant.written.within c.copy_rest.ensures)).0; out_after = (lays_rest c.loop-i.invariant (omega arith) (writes_rest c.loop-i.invariant.written.within c.copy_rest.ensures)).1 }
+returns c = record {
+  value = (lays_rest c.loop-i.invariant (omega arith)
+      (writes_rest c.loop-i.invariant.written.within c.copy_rest.ensures)).0;
+  out_after
+      = (lays_rest c.loop-i.invariant (omega arith) (writes_rest c.loop-i.invariant.written.within c.copy_rest.ensures)).1;
+}

@@ -20,9 +20,11 @@ returns-then-not-is_taken c =
     let now = outputs_of a.out.now a.lens.now a.times.now in (
       (λ edition before p st same right there s.
           let fits = passed_fields p _ right in
-          not_taken (edition_says edition) (rooms_of before) k.index p (kind_says k.kind) st k.header right c.check_counter-counted.result.outcome
+          not_taken (edition_says edition) (rooms_of before) k.index p (kind_says k.kind) st k.header right
+          c.check_counter-counted.result.outcome
           c.check_counter-counted.result.repeat (StateKept edition a.segment.now before now c.clocked-next.result numbers)
-          (counted s k p c.clocked-next.result c.check_counter-counted.result numbers same fits there c.clocked-next.ensures c.check_counter-counted.ensures.counter_refines)
+          (counted s k p c.clocked-next.result c.check_counter-counted.result numbers same fits there c.clocked-next.ensures
+          c.check_counter-counted.ensures.counter_refines)
           k.header.has_payload (sym (ap (λ (h : Header). h.has_payload) fits))
           (sym c.is_taken.ensures ∙ c.if-not-is_taken.true)),
       (refl, ((λ k p. (ap (λ (x : State). x.extraction) c.clocked-next.ensures.0, refl)), (λ q k. refl))),
@@ -40,9 +42,11 @@ returns c =
       (λ edition before p st same right there s.
           let fits = passed_fields p _ right in
           let Stands = StateKept edition a.segment.now before now c.clocked-next.result numbers in
-          let counts = counted s k p c.clocked-next.result c.check_counter-counted.result numbers same fits there c.clocked-next.ensures c.check_counter-counted.ensures.counter_refines in
+          let counts = counted s k p c.clocked-next.result c.check_counter-counted.result numbers same fits there c.clocked-next.ensures
+          c.check_counter-counted.ensures.counter_refines in
           with_content (edition_says edition) (rooms_of before) k.index p (kind_says k.kind) st k.header right
-          c.check_counter-counted.result.outcome c.check_counter-counted.result.repeat Stands counts taken.0 taken.2 c.take_content.result.outcome _
+          c.check_counter-counted.result.outcome c.check_counter-counted.result.repeat Stands counts taken.0 taken.2
+          c.take_content.result.outcome _
           (c.take_content.ensures.0 edition before p _ same fits (sym (ap (λ (h : Header). h.has_payload) fits) ∙ taken.1)
           (next_stands (edition_says edition) (rooms_of before) k.index p (kind_says k.kind) st k.header right
           c.check_counter-counted.result.outcome c.check_counter-counted.result.repeat Stands counts taken.0))),

@@ -24,7 +24,8 @@ returns-then-is_av1 c =
           (record {
             carries = h;
             starts = sym (ap (λ (x : Header). x.start) e);
-            same = payload_same p k.header c.packet_at.result.now c.rest-payload.result.now e (c.packet_at.ensures ∙ sym same) c.rest-payload.ensures h;
+            same = payload_same p k.header c.packet_at.result.now c.rest-payload.result.now e (c.packet_at.ensures ∙ sym same)
+                c.rest-payload.ensures h;
           })
           (ap is_pcr (pcr_here s) ∙ sym c.is_pcr.ensures) s.extraction)),
       (refl, ((λ k p. never_passed _ (c.take_payload-taken.ensures.1.0 k) p), (λ q k. (c.take_payload-taken.ensures.1.1 q k).1))),
@@ -38,7 +39,8 @@ returns c =
           content_read s k.index p h k.kind c.read_section-turn.result _ k.header.start c.rest-payload.result.now c.at_place.result
           (sym c.is_av1.ensures ∙ c.if-is_av1.false) same
           (ap (λ (x : Header). x.start) e)
-          (payload_same p k.header c.packet_at.result.now c.rest-payload.result.now e (c.packet_at.ensures ∙ sym same) c.rest-payload.ensures h)
+          (payload_same p k.header c.packet_at.result.now c.rest-payload.result.now e (c.packet_at.ensures ∙ sym same)
+          c.rest-payload.ensures h)
           c.at_place.ensures c.read_section-turn.ensures.section_refines),
       (refl, ((λ k p. (refl, refl)), (λ q k. refl))),
     )

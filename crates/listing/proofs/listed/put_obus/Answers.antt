@@ -52,10 +52,12 @@ loop-text-preserved c =
     let wrote = c.put_payload-end in
     let part : c.step-handed.result.payload.now ≡ handed_out unit (stepping unit place) =
     c.step-handed.ensures.payload_value ∙ ap (λ (u : Bytes). handed_out u (stepping u place)) c.loop-text.invariant.0 in
-    let puts = subst (λ (p : Bytes). Puts c.loop-text.text c.loop-text.end (payload_line c.loop-text.index p) wrote.new.text wrote.result) part
+    let puts = subst (λ (p : Bytes). Puts c.loop-text.text c.loop-text.end (payload_line c.loop-text.index p) wrote.new.text wrote.result)
+    part
     wrote.ensures.puts in (
       ap (λ (w : Walk). w.src.now) c.step-handed.ensures.self_after ∙ c.loop-text.invariant.0,
-      subst (λ (n : ℕ). Listing unit c.args.text.now c.args.at wrote.new.text n wrote.result (c.loop-text.index + 1)) (sym (after at.In-Payload))
+      subst (λ (n : ℕ). Listing unit c.args.text.now c.args.at wrote.new.text n wrote.result (c.loop-text.index + 1))
+          (sym (after at.In-Payload))
           (listing_step c.loop-text.invariant.1 c.in-Payload.field-0 (hands at.In-Payload) wrote.new.text wrote.result c.requires.1 puts
           wrote.ensures.upper_bound wrote.auto.text),
     )

@@ -1,5 +1,4 @@
 use native.Mathlib.Omega.{arith}
-use Prim.Native.Nat.{◌-◌}
 use Rattle.lists.proofs.Fitting.{fitted_next, fitted_all}
 use Rattle.lists.proofs.outputs.copy_rest.Goals as goal
 

@@ -5,7 +5,8 @@ use mathlib.Core.Bool.{false, or-false}
 use Rattle.lists.specs.Lists.{any}
 use Rattle.descriptor.specs.Descriptor.{wrong}
 use Rattle.mux_rules.specs.Sending.{map_pid_wrong, av1_pid_wrong, program_wrong, counters_wrong, channel_wrong}
-use Rattle.mux.proofs.channel.channel_wrong.Goals.{Else-av1_pid_wrong, Else-counters_wrong, Else-map_pid_wrong, Else-program_wrong, Else-video_wrong}
+use Rattle.mux.proofs.channel.channel_wrong.Goals.{Else-av1_pid_wrong, Else-counters_wrong, Else-map_pid_wrong, Else-program_wrong}
+use Rattle.mux.proofs.channel.channel_wrong.Goals.{Else-video_wrong}
 use Rattle.mux.proofs.channel.channel_wrong.Goals as goal
 
 video_right : (c : Else-video_wrong) → wrong c.args.video.now ≡ false

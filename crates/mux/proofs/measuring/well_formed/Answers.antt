@@ -43,7 +43,8 @@ pub returns : goal.returns
 unfolding well_formed
 returns c = let q = c.args.queue in
     and_by_true (le-leb q.count most_units (omega arith))
-    (formed_none c.loop-i.left ∙ ap (λ l. formed l c.loop-i.left) (sym (slot_last q.units q.count c.loop-i.i (omega arith))) ∙ c.loop-i.invariant.1)
+    (formed_none c.loop-i.left ∙ ap (λ l. formed l c.loop-i.left) (sym (slot_last q.units q.count c.loop-i.i (omega arith))) ∙
+    c.loop-i.invariant.1)
 
 pub loop-i-init : goal.loop-i-init
 loop-i-init c = (omega arith, refl)

@@ -36,7 +36,8 @@ returns-then-out-packets c = λ units q.
     let a = c.args in
     let n = c.queue_packets-units.ensures in
     let v = valid_packets q in
-    sends_short q a.channel a.video.now a.out.now (allows (goal.at.returns-then-out-packets c).Else-channel_wrong) (omega (arith, n.0, v, c.if-packets-gt-MOST_PACKETS.false))
+    sends_short q a.channel a.video.now a.out.now (allows (goal.at.returns-then-out-packets c).Else-channel_wrong)
+    (omega (arith, n.0, v, c.if-packets-gt-MOST_PACKETS.false))
     (omega (arith, n.0, v, c.if-out-packets.true)) _ c.refuse-then-out-packets.ensures
 
 pub put_units-requires : goal.put_units-requires
@@ -64,8 +65,10 @@ returns c = λ units q.
     let n = c.queue_packets-units.ensures in
     let v = valid_packets q in
     let fits = c.if-out-packets.false in
-    sends_sent q a.channel a.video.now a.out.now (allows (goal.at.returns c).Else-channel_wrong) (omega (arith, n.0, v, c.if-packets-gt-MOST_PACKETS.false))
+    sends_sent q a.channel a.video.now a.out.now (allows (goal.at.returns c).Else-channel_wrong)
+    (omega (arith, n.0, v, c.if-packets-gt-MOST_PACKETS.false))
     (omega (arith, n.0, v, fits)) _ _ _ _ _ (omega (arith, n.0, v)) (omega (arith, n.0, v))
     (c.channel_after-next.ensures ∙ ap (channel_after a.channel) (n.0 ∙ v)) c.clear-cleared.ensures
-    (all_written a.channel a.video.now (allows (goal.at.returns c).Else-channel_wrong) a.out.now _ c.put_tables.ensures (omega (arith, fits)) units _ _
+    (all_written a.channel a.video.now (allows (goal.at.returns c).Else-channel_wrong) a.out.now _ c.put_tables.ensures
+    (omega (arith, fits)) units _ _
     (valid_units q) (omega (arith, n.0, v, fits)) c.put_units.ensures)

@@ -12,7 +12,8 @@ pub returns-then-n-room : goal.returns-then-n-room
 unfolding first_size
 returns-then-n-room c = let a = c.args in
     record {
-      value = by_true _ (ap (λ (k : ℕ). ltb a.n (k - a.head)) (sym c.first_most.ensures.value) ∙ lt-ltb a.n (c.first_most.result - a.head) c.if-n-room.true) refl;
+      value = by_true _ (ap (λ (k : ℕ). ltb a.n (k - a.head)) (sym c.first_most.ensures.value) ∙ lt-ltb a.n (c.first_most.result - a.head)
+          c.if-n-room.true) refl;
       upper_bound = (omega arith, omega arith);
     }
 
@@ -20,7 +21,8 @@ pub returns : goal.returns
 unfolding first_size
 returns c = let a = c.args in
     record {
-      value = by_false _ (ap (λ (k : ℕ). ltb a.n (k - a.head)) (sym c.first_most.ensures.value) ∙ le-ltb a.n (c.first_most.result - a.head) c.if-n-room.false)
+      value = by_false _ (ap (λ (k : ℕ). ltb a.n (k - a.head)) (sym c.first_most.ensures.value) ∙ le-ltb a.n (c.first_most.result - a.head)
+          c.if-n-room.false)
           (ap (λ (k : ℕ). k - a.head) c.first_most.ensures.value);
       upper_bound = (omega arith, omega arith);
     }

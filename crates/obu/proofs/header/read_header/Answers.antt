@@ -46,11 +46,13 @@ returns-then-extension_missing c =
 
 pub slice_bounds-sized_header-count : goal.slice_bounds-sized_header-count
 slice_bounds-sized_header-count c =
-    fixed_within _ _ _ (not-missing (goal.at.slice_bounds-sized_header-count c).Else-extension_missing) c.if-obu-eq0.false c.fixed_bytes-fixed.ensures
+    fixed_within _ _ _ (not-missing (goal.at.slice_bounds-sized_header-count c).Else-extension_missing) c.if-obu-eq0.false
+    c.fixed_bytes-fixed.ensures
 
 pub slice_bounds-sized_header-start : goal.slice_bounds-sized_header-start
 slice_bounds-sized_header-start c =
-    fixed_within _ _ _ (not-missing (goal.at.slice_bounds-sized_header-start c).Else-extension_missing) c.if-obu-eq0.false c.fixed_bytes-fixed.ensures
+    fixed_within _ _ _ (not-missing (goal.at.slice_bounds-sized_header-start c).Else-extension_missing) c.if-obu-eq0.false
+    c.fixed_bytes-fixed.ensures
 
 pub returns : goal.returns
 unfolding header_of

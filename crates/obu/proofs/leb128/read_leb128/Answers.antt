@@ -1,4 +1,3 @@
-use Prim.Native.Nat.{◌-◌}
 use mathlib.Core.Path.{◌∙◌}
 use Rattle.obu.proofs.Lebs.{so_far_start, so_far_more, so_far_last, so_far_cut}
 use Rattle.obu.proofs.Lebs.{so_far_long}

@@ -1,4 +1,3 @@
-use Prim.Native.Nat.{◌-◌}
 use mathlib.Core.Path.{◌∙◌}
 use Rattle.obu.proofs.Orders.{at_start, goes_on, breaks, too_soon, in_order}
 use Rattle.obu.proofs.ordering.order.Goals as goal

@@ -1,6 +1,5 @@
 -- The invariant: the position that the kinds before i reach. The measure is what is left of the kinds.
 use Prim.Native.Nat.{◌-◌}
-use mathlib.Core.Path.{◌∙◌}
 use lib.ListN.{length}
 use Rattle.obu.proofs.Orders.{Reached}
 use Rattle.obu.proofs.ordering.order.Given as goal

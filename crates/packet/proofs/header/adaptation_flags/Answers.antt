@@ -9,7 +9,8 @@ use Rattle.packet.proofs.header.adaptation_flags.Goals as goal
 
 pub returns-then-not-has_adaptation_field : goal.returns-then-not-has_adaptation_field
 unfolding adaptation_flags
-returns-then-not-has_adaptation_field c = by_false _ (sym (and_by_false _ (sym c.has_adaptation_field.ensures ∙ c.if-not-has_adaptation_field.true) refl)) refl
+returns-then-not-has_adaptation_field c = by_false _ (sym (and_by_false _
+    (sym c.has_adaptation_field.ensures ∙ c.if-not-has_adaptation_field.true) refl)) refl
 
 pub returns-then-adaptation_field_length-eq0 : goal.returns-then-adaptation_field_length-eq0
 unfolding adaptation_flags

@@ -5,7 +5,8 @@ use borrow.Author.Tests.{eq-eqb, ne_eqb}
 use lib.Dec.{eqb}
 use Rattle.lists.proofs.Tests.{or_by_true, or_by_false}
 use Rattle.packet.specs.Header.{transport_scrambling_control, adaptation_field_control, adaptation_length_wrong, fields_wrong}
-use Rattle.packet.proofs.header.fields_wrong.Goals.{Else-adaptation_field_control-eq0, Else-adaptation_length_wrong, Else-transport_scrambling_control-ne0}
+use Rattle.packet.proofs.header.fields_wrong.Goals.{Else-adaptation_field_control-eq0, Else-adaptation_length_wrong}
+use Rattle.packet.proofs.header.fields_wrong.Goals.{Else-transport_scrambling_control-ne0}
 use Rattle.packet.proofs.header.fields_wrong.Goals as goal
 
 -- scrambling is 0
@@ -23,7 +24,8 @@ length_right c = sym c.adaptation_length_wrong.ensures ∙ c.if-adaptation_lengt
 
 pub returns-then-adaptation_field_control-eq0 : goal.returns-then-adaptation_field_control-eq0
 unfolding fields_wrong
-returns-then-adaptation_field_control-eq0 c = or_by_false (not_scrambled (goal.at.returns-then-adaptation_field_control-eq0 c).Else-transport_scrambling_control-ne0)
+returns-then-adaptation_field_control-eq0 c = or_by_false (not_scrambled
+    (goal.at.returns-then-adaptation_field_control-eq0 c).Else-transport_scrambling_control-ne0)
     (or_by_true _ (eq-eqb _ _ (sym c.adaptation_field_control.ensures ∙ c.if-adaptation_field_control-eq0.true)) refl)
 
 pub returns-then-adaptation_length_wrong : goal.returns-then-adaptation_length_wrong
@@ -51,4 +53,5 @@ returns c =
 
 pub returns-then-transport_scrambling_control-ne0 : goal.returns-then-transport_scrambling_control-ne0
 unfolding fields_wrong
-returns-then-transport_scrambling_control-ne0 c = or_by_true _ (ap not (ne_eqb _ _ (λ e. c.if-transport_scrambling_control-ne0.true (c.transport_scrambling_control.ensures ∙ e)))) refl
+returns-then-transport_scrambling_control-ne0 c = or_by_true _ (ap not
+    (ne_eqb _ _ (λ e. c.if-transport_scrambling_control-ne0.true (c.transport_scrambling_control.ensures ∙ e)))) refl

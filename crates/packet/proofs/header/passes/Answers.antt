@@ -41,7 +41,8 @@ returns-then-transport_error_indicator c =
 
 pub returns-then-byte_at-ne1 : goal.returns-then-byte_at-ne1
 returns-then-byte_at-ne1 c =
-    ap not c.header_wrong.ensures ∙ by-fields _ (in-sync (goal.at.returns-then-byte_at-ne1 c).Else-byte_at-ne71) (no-error (goal.at.returns-then-byte_at-ne1 c).Else-transport_error_indicator)
+    ap not c.header_wrong.ensures ∙ by-fields _ (in-sync (goal.at.returns-then-byte_at-ne1 c).Else-byte_at-ne71)
+    (no-error (goal.at.returns-then-byte_at-ne1 c).Else-transport_error_indicator)
 
 pub returns : goal.returns
 unfolding header_of

@@ -11,7 +11,8 @@ returns-then-program-gt65535 c = or_by_true _ (lt-ltb _ _ c.if-program-gt65535.t
 
 pub returns-then-map_pid-gt8191 : goal.returns-then-map_pid-gt8191
 unfolding pat_unfit
-returns-then-map_pid-gt8191 c = or_by_false (le-ltb _ _ c.if-program-gt65535.false) (or_by_true _ (lt-ltb _ _ c.if-map_pid-gt8191.true) refl)
+returns-then-map_pid-gt8191 c = or_by_false (le-ltb _ _ c.if-program-gt65535.false)
+    (or_by_true _ (lt-ltb _ _ c.if-map_pid-gt8191.true) refl)
 
 pub returns : goal.returns
 unfolding pat_unfit

@@ -12,7 +12,8 @@ returns-then-n-ne6 c = or_by_true _ (ap not (ne_eqb _ _ c.if-n-ne6.true)) refl
 
 pub returns-then-program-gt65535 : goal.returns-then-program-gt65535
 unfolding pmt_unfit
-returns-then-program-gt65535 c = or_by_false (ap not (eq-eqb _ _ c.if-n-ne6.false)) (or_by_true _ (lt-ltb _ _ c.if-program-gt65535.true) refl)
+returns-then-program-gt65535 c = or_by_false (ap not (eq-eqb _ _ c.if-n-ne6.false))
+    (or_by_true _ (lt-ltb _ _ c.if-program-gt65535.true) refl)
 
 pub returns-then-pid-gt8191 : goal.returns-then-pid-gt8191
 unfolding pmt_unfit

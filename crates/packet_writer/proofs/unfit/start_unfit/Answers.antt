@@ -14,7 +14,8 @@ returns-then-start-ge8589934592 c = or_by_true _ (le-leb _ _ c.if-start-ge858993
 
 pub returns-then-start-ge8589934592-2 : goal.returns-then-start-ge8589934592-2
 unfolding start_unfit
-returns-then-start-ge8589934592-2 c = or_by_false (lt-leb _ _ c.if-start-ge8589934592.false) (or_by_true _ (le-leb _ _ c.if-start-ge8589934592-2.true) refl)
+returns-then-start-ge8589934592-2 c = or_by_false (lt-leb _ _ c.if-start-ge8589934592.false)
+    (or_by_true _ (le-leb _ _ c.if-start-ge8589934592-2.true) refl)
 
 pub returns-then-size-n : goal.returns-then-size-n
 unfolding start_unfit

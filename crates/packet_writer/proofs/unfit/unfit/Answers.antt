@@ -11,7 +11,8 @@ returns-then-pid-gt8191 c = or_by_true _ (lt-ltb _ _ c.if-pid-gt8191.true) refl
 
 pub returns-then-counter-gt-LAST_COUNTER : goal.returns-then-counter-gt-LAST_COUNTER
 unfolding unfit
-returns-then-counter-gt-LAST_COUNTER c = or_by_false (le-ltb _ _ c.if-pid-gt8191.false) (or_by_true _ (lt-ltb _ _ c.if-counter-gt-LAST_COUNTER.true) refl)
+returns-then-counter-gt-LAST_COUNTER c = or_by_false (le-ltb _ _ c.if-pid-gt8191.false)
+    (or_by_true _ (lt-ltb _ _ c.if-counter-gt-LAST_COUNTER.true) refl)
 
 pub returns : goal.returns
 unfolding unfit

@@ -6,7 +6,8 @@ use lib.ListN.{drop}
 use Rattle.lists.specs.Lists.{Bytes, any}
 use Rattle.pes.specs.Pes.{conditions, header_wrong}
 use Rattle.lists.proofs.Elements.{any_now, any_later, any_last}
-use Rattle.pes.proofs.conditions.header_wrong.Goals.{Else-fixed_bits_wrong, Else-flags_wrong, Else-length_byte_short, Else-not_aligned, Else-not_whole, Else-scrambled, Else-start_wrong}
+use Rattle.pes.proofs.conditions.header_wrong.Goals.{Else-fixed_bits_wrong, Else-flags_wrong, Else-length_byte_short, Else-not_aligned}
+use Rattle.pes.proofs.conditions.header_wrong.Goals.{Else-not_whole, Else-scrambled, Else-start_wrong}
 use Rattle.pes.proofs.conditions.header_wrong.Goals as goal
 
 -- behind the first k conditions, those that are left decide
@@ -75,27 +76,33 @@ returns-then-start_wrong c = any_now _ _ _ (sym c.start_wrong.ensures ∙ c.if-s
 
 pub returns-then-fixed_bits_wrong : goal.returns-then-fixed_bits_wrong
 unfolding header_wrong
-returns-then-fixed_bits_wrong c = any_now _ _ _ (sym c.fixed_bits_wrong.ensures ∙ c.if-fixed_bits_wrong.true) ∙ past-1 (goal.at.returns-then-fixed_bits_wrong c).Else-start_wrong
+returns-then-fixed_bits_wrong c = any_now _ _ _ (sym c.fixed_bits_wrong.ensures ∙ c.if-fixed_bits_wrong.true) ∙ past-1
+    (goal.at.returns-then-fixed_bits_wrong c).Else-start_wrong
 
 pub returns-then-scrambled : goal.returns-then-scrambled
 unfolding header_wrong
-returns-then-scrambled c = any_now _ _ _ (sym c.scrambled.ensures ∙ c.if-scrambled.true) ∙ past-2 (goal.at.returns-then-scrambled c).Else-fixed_bits_wrong
+returns-then-scrambled c = any_now _ _ _ (sym c.scrambled.ensures ∙ c.if-scrambled.true) ∙ past-2
+    (goal.at.returns-then-scrambled c).Else-fixed_bits_wrong
 
 pub returns-then-not_aligned : goal.returns-then-not_aligned
 unfolding header_wrong
-returns-then-not_aligned c = any_now _ _ _ (sym c.not_aligned.ensures ∙ c.if-not_aligned.true) ∙ past-3 (goal.at.returns-then-not_aligned c).Else-scrambled
+returns-then-not_aligned c = any_now _ _ _ (sym c.not_aligned.ensures ∙ c.if-not_aligned.true) ∙ past-3
+    (goal.at.returns-then-not_aligned c).Else-scrambled
 
 pub returns-then-flags_wrong : goal.returns-then-flags_wrong
 unfolding header_wrong
-returns-then-flags_wrong c = any_now _ _ _ (sym c.flags_wrong.ensures ∙ c.if-flags_wrong.true) ∙ past-4 (goal.at.returns-then-flags_wrong c).Else-not_aligned
+returns-then-flags_wrong c = any_now _ _ _ (sym c.flags_wrong.ensures ∙ c.if-flags_wrong.true) ∙ past-4
+    (goal.at.returns-then-flags_wrong c).Else-not_aligned
 
 pub returns-then-not_whole : goal.returns-then-not_whole
 unfolding header_wrong
-returns-then-not_whole c = any_now _ _ _ (sym c.not_whole.ensures ∙ c.if-not_whole.true) ∙ past-5 (goal.at.returns-then-not_whole c).Else-flags_wrong
+returns-then-not_whole c = any_now _ _ _ (sym c.not_whole.ensures ∙ c.if-not_whole.true) ∙ past-5
+    (goal.at.returns-then-not_whole c).Else-flags_wrong
 
 pub returns-then-length_byte_short : goal.returns-then-length_byte_short
 unfolding header_wrong
-returns-then-length_byte_short c = any_now _ _ _ (sym c.length_byte_short.ensures ∙ c.if-length_byte_short.true) ∙ past-6 (goal.at.returns-then-length_byte_short c).Else-not_whole
+returns-then-length_byte_short c = any_now _ _ _ (sym c.length_byte_short.ensures ∙ c.if-length_byte_short.true) ∙ past-6
+    (goal.at.returns-then-length_byte_short c).Else-not_whole
 
 pub returns : goal.returns
 unfolding header_wrong

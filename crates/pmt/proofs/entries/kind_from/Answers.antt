@@ -24,10 +24,12 @@ pub returns-then-videos : goal.returns-then-videos
 unfolding kind_from
 returns-then-videos c =
     by_false _ c.if-found.false
-    (by_false _ c.if-not-found.false (by_false _ (ap not (eq-eqb _ _ c.if-stream_type-ne-AV1_STREAM_TYPE.false)) (by_true _ c.if-videos.true refl)))
+    (by_false _ c.if-not-found.false (by_false _ (ap not (eq-eqb _ _ c.if-stream_type-ne-AV1_STREAM_TYPE.false))
+    (by_true _ c.if-videos.true refl)))
 
 pub returns : goal.returns
 unfolding kind_from
 returns c =
     by_false _ c.if-found.false
-    (by_false _ c.if-not-found.false (by_false _ (ap not (eq-eqb _ _ c.if-stream_type-ne-AV1_STREAM_TYPE.false)) (by_false _ c.if-videos.false refl)))
+    (by_false _ c.if-not-found.false (by_false _ (ap not (eq-eqb _ _ c.if-stream_type-ne-AV1_STREAM_TYPE.false))
+    (by_false _ c.if-videos.false refl)))

@@ -17,7 +17,8 @@ long c = long_enough 2 _ 16 (sym c.common_wrong.ensures ∙ c.if-common_wrong.fa
 
 pub returns-then-common_wrong : goal.returns-then-common_wrong
 returns-then-common_wrong c = record {
-  result_value = c.refuse.ensures.result_value ∙ refuse 26 _ (sym c.common_wrong.ensures ∙ c.if-common_wrong.true) ∙ sym (section_map _ _ _ _);
+  result_value = c.refuse.ensures.result_value ∙ refuse 26 _ (sym c.common_wrong.ensures ∙ c.if-common_wrong.true) ∙ sym
+      (section_map _ _ _ _);
   map_value = refused_beside c.refuse.result _ c.refuse.ensures.result_value c.refuse.ensures.map_value;
 }
 
@@ -42,6 +43,8 @@ pub returns-then-program_number-program : goal.returns-then-program_number-progr
 returns-then-program_number-program c = record {
   result_value = c.refuse-then-program_number-program.ensures.result_value
       ∙ pass_on 26 (sym c.common_wrong.ensures ∙ c.if-common_wrong.false)
-      (refuse 26 _ (ap not (ne_eqb _ _ (λ e. c.if-program_number-program.true (c.program_number.ensures ∙ e))))) ∙ sym (section_map _ _ _ _);
-  map_value = refused_beside c.refuse-then-program_number-program.result _ c.refuse-then-program_number-program.ensures.result_value c.refuse-then-program_number-program.ensures.map_value;
+      (refuse 26 _ (ap not (ne_eqb _ _ (λ e. c.if-program_number-program.true (c.program_number.ensures ∙ e))))) ∙ sym
+      (section_map _ _ _ _);
+  map_value = refused_beside c.refuse-then-program_number-program.result _ c.refuse-then-program_number-program.ensures.result_value
+      c.refuse-then-program_number-program.ensures.map_value;
 }

@@ -23,7 +23,8 @@ pub returns-then-byte_at-table : goal.returns-then-byte_at-table
 returns-then-byte_at-table c = sym (other_table _ _ (other c.byte_at.ensures c.if-byte_at-table.true))
 
 pub returns-then-not-highest_bit : goal.returns-then-not-highest_bit
-returns-then-not-highest_bit c = sym (other_syntax _ _ (found 7 c.byte_at-2.ensures c.highest_bit.ensures (ap not c.if-not-highest_bit.true)))
+returns-then-not-highest_bit c = sym (other_syntax _ _ (found 7 c.byte_at-2.ensures c.highest_bit.ensures
+    (ap not c.if-not-highest_bit.true)))
 
 pub returns-then-not-lowest_bit : goal.returns-then-not-lowest_bit
 returns-then-not-lowest_bit c = sym (not_current _ _ (found 0 c.byte_at-3.ensures c.lowest_bit.ensures (ap not c.if-not-lowest_bit.true)))

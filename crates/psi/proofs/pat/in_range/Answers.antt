@@ -12,7 +12,8 @@ returns-then-program-lt16 c = c.refuse.ensures ∙ refuse 25 _ (lt-ltb _ _ c.if-
 pub returns-then-program-gt-LAST_MAP_PID : goal.returns-then-program-gt-LAST_MAP_PID
 unfolding map_pid_in_range
 returns-then-program-gt-LAST_MAP_PID c =
-    c.refuse-then-program-gt-LAST_MAP_PID.ensures ∙ pass_on 25 (le-ltb _ _ c.if-program-lt16.false) (refuse 25 _ (lt-ltb _ _ c.if-program-gt-LAST_MAP_PID.true))
+    c.refuse-then-program-gt-LAST_MAP_PID.ensures ∙ pass_on 25 (le-ltb _ _ c.if-program-lt16.false)
+    (refuse 25 _ (lt-ltb _ _ c.if-program-gt-LAST_MAP_PID.true))
 
 pub returns : goal.returns
 unfolding map_pid_in_range

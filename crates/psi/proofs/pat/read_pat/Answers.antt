@@ -36,10 +36,18 @@ returns-then-end-ne0 c =
     (refuse 25 _ (ap (λ (n : ℕ). not (eqb (n % 4) 0)) (up_to_crc_length s 8) ∙ ap not (ne_eqb _ _ c.if-end-ne0.true)))
 
 pub slice_bounds-one_program-count : goal.slice_bounds-one_program-count
-slice_bounds-one_program-count c = omega (arith, long_enough _ _ _ (common_right (goal.at.slice_bounds-one_program-count c).Else-common_wrong))
+slice_bounds-one_program-count c = omega (
+  arith,
+  long_enough _ _ _
+      (common_right (goal.at.slice_bounds-one_program-count c).Else-common_wrong),
+)
 
 pub slice_bounds-one_program-start : goal.slice_bounds-one_program-start
-slice_bounds-one_program-start c = omega (arith, long_enough _ _ _ (common_right (goal.at.slice_bounds-one_program-start c).Else-common_wrong))
+slice_bounds-one_program-start c = omega (
+  arith,
+  long_enough _ _ _
+      (common_right (goal.at.slice_bounds-one_program-start c).Else-common_wrong),
+)
 
 pub returns : goal.returns
 unfolding read_pat
@@ -48,4 +56,5 @@ returns c =
     c.one_program.ensures
     ∙ pass_on 25 (common_right (goal.at.returns c).Else-common_wrong)
     (pass_on 25 (ap (λ (n : ℕ). not (eqb (n % 4) 0)) (up_to_crc_length s 8) ∙ ap not (eq-eqb _ _ c.if-end-ne0.false))
-    (ap (λ (l : Bytes). one_program (those not_zero (programs l))) (up_to_crc_lem s 8 (omega (arith, long_enough _ _ _ (common_right (goal.at.returns c).Else-common_wrong))))))
+    (ap (λ (l : Bytes). one_program (those not_zero (programs l)))
+    (up_to_crc_lem s 8 (omega (arith, long_enough _ _ _ (common_right (goal.at.returns c).Else-common_wrong))))))

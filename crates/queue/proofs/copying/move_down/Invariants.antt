@@ -6,7 +6,8 @@ use Rattle.queue.proofs.Moving.{moving}
 use Rattle.queue.proofs.copying.move_down.Given as goal
 
 abbrev pub invariant-loop-i : goal.invariant-loop-i
-invariant-loop-i l = (l.i ≤ l.n) × Part l.initial.store (moving l.initial.store l.from l.n) l.i (drop l.i (moving l.initial.store l.from l.n)) l.store
+invariant-loop-i l = (l.i ≤ l.n) × Part l.initial.store (moving l.initial.store l.from l.n) l.i
+    (drop l.i (moving l.initial.store l.from l.n)) l.store
 
 abbrev pub decreases-loop-i : goal.decreases-loop-i
 decreases-loop-i l = l.n - l.i

@@ -10,7 +10,8 @@ use Rattle.segment.proofs.checking.conclude.Goals as goal
 
 pub returns-in-Accepted : goal.returns-in-Accepted
 returns-in-Accepted c edition before old g at =
-    accepted_checks (edition_says edition) before old (ending g) c.finish-checked.result _ _ (c.finish-checked.ensures edition before old g at) _
+    accepted_checks (edition_says edition) before old (ending g) c.finish-checked.result _ _
+    (c.finish-checked.ensures edition before old g at) _
     c.in-Accepted.is
 
 pub returns-in-Refused : goal.returns-in-Refused
@@ -20,7 +21,8 @@ returns-in-Refused c edition before old g at =
     let kept = c.finish-checked.auto in
     let zero = c.clear.ensures in
     let units = at.reached.extraction in
-    refused_checks (edition_says edition) before old (ending g) c.finish-checked.result _ _ (c.finish-checked.ensures edition before old g at) _
+    refused_checks (edition_says edition) before old (ending g) c.finish-checked.result _ _
+    (c.finish-checked.ensures edition before old g at) _
     c.in-Refused.is _
     (cleared_as before a.out.now last.lens last.times zero.out_after zero.lens_after zero.times_after (same_bytes units)
     (kept.lens ∙ same_lens units) (kept.times ∙ same_times units)) _

@@ -115,5 +115,6 @@ pub returns : goal.returns
 returns c =
     let a = c.args in
     let l = c.loop-index in
-    ends a.edition a.segment.now (outputs_of a.out.now a.lens.now a.times.now) (outputs_of l.out l.lens l.times) a.firsts.now l.firsts l.state
+    ends a.edition a.segment.now (outputs_of a.out.now a.lens.now a.times.now) (outputs_of l.out l.lens l.times) a.firsts.now l.firsts
+    l.state
     l.records l.totals l.index l.invariant c.loop-index-test.false

@@ -30,12 +30,14 @@ added c =
     drop i (take a.count a.lens.now) ≡ get_or a.lens.now i 0 ∷ drop (i + 1) (take a.count a.lens.now) = let a = c.args in
     next_length a.lens.now a.count c.loop-i.i c.loop-i-test.true c.loop-i.invariant.1 in
     let lent = c.part-unit.ensures in
-    totalling_next c.loop-i.invariant.2 _ (more) _ (c.obus_of-total.ensures.0 c.loop-i.i ∙ ap (λ (s : Bytes). length (obus_in c.loop-i.i s)) lent)
+    totalling_next c.loop-i.invariant.2 _ (more) _ (c.obus_of-total.ensures.0 c.loop-i.i ∙ ap (λ (s : Bytes). length (obus_in c.loop-i.i s))
+    lent)
     (subst (λ (s : Bytes). c.obus_of-total.result ≤ length s) lent c.obus_of-total.ensures.1)
 
 pub obus_of-total-requires : goal.obus_of-total-requires
 obus_of-total-requires c =
-    subst Readable (sym c.part-unit.ensures) (cut_readable c.loop-i.invariant.2.cutting _ (more (goal.at.obus_of-total-requires c).In-loop-i))
+    subst Readable (sym c.part-unit.ensures) (cut_readable c.loop-i.invariant.2.cutting _
+    (more (goal.at.obus_of-total-requires c).In-loop-i))
 
 pub overflow_add-at : goal.overflow_add-at
 overflow_add-at c =

@@ -28,8 +28,12 @@ loop-i-init c =
 
 pub put_obus_of-to-requires : goal.put_obus_of-to-requires
 put_obus_of-to-requires c =
-    subst (λ (s : Bytes). Readable s × (c.loop-i.to + 32 * length (obus_in c.loop-i.i s) ≤ length c.loop-i.sheet)) (sym c.part-unit.ensures)
-    (cut_readable c.loop-i.invariant.2.cutting _ (more (goal.at.put_obus_of-to-requires c).In-loop-i), listing_room c.loop-i.invariant.2 _ (more (goal.at.put_obus_of-to-requires c).In-loop-i))
+    subst (λ (s : Bytes). Readable s × (c.loop-i.to + 32 * length (obus_in c.loop-i.i s) ≤ length c.loop-i.sheet))
+    (sym c.part-unit.ensures) (
+      cut_readable c.loop-i.invariant.2.cutting _ (more (goal.at.put_obus_of-to-requires c).In-loop-i),
+      listing_room c.loop-i.invariant.2 _
+          (more (goal.at.put_obus_of-to-requires c).In-loop-i),
+    )
 
 pub overflow_add-from : goal.overflow_add-from
 overflow_add-from c =
@@ -41,7 +45,8 @@ loop-i-preserved c =
     let put = c.put_obus_of-to.ensures in (
       omega arith,
       c.loop-i.invariant.1,
-      listing_next c.loop-i.invariant.2 _ (more (goal.at.loop-i-preserved c).In-loop-i) _ _ (put.value ∙ ap (λ (s : Bytes). c.loop-i.to + 32 * length (obus_in c.loop-i.i s)) same)
+      listing_next c.loop-i.invariant.2 _ (more (goal.at.loop-i-preserved c).In-loop-i) _ _
+          (put.value ∙ ap (λ (s : Bytes). c.loop-i.to + 32 * length (obus_in c.loop-i.i s)) same)
           (put.sheet_after ∙ ap (λ (s : Bytes). placed c.loop-i.sheet c.loop-i.to (obu_bytes (obus_in c.loop-i.i s))) same),
     )
 

@@ -5,7 +5,8 @@ use Rattle.segment_sheet.proofs.Cutting.{Listing}
 use Rattle.segment_sheet.proofs.obus.put_obus.Given as goal
 
 abbrev pub invariant-loop-i : goal.invariant-loop-i
-invariant-loop-i l = (l.i ≤ l.count) × (l.count ≤ length l.lens) × Listing (take l.count l.lens) l.bytes l.initial.sheet l.at l.from l.to l.i l.sheet
+invariant-loop-i l = (l.i ≤ l.count) × (l.count ≤ length l.lens) × Listing (take l.count l.lens) l.bytes l.initial.sheet l.at l.from l.to
+    l.i l.sheet
 
 abbrev pub decreases-loop-i : goal.decreases-loop-i
 decreases-loop-i l = l.count - l.i

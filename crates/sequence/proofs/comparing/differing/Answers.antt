@@ -4,7 +4,8 @@ use Rattle.descriptor.specs.declared.fields.Fields.{Fields}
 use Rattle.sequence.specs.declared.fields.Sequence.{Sequence}
 use Rattle.sequence.specs.Comparison.{of_header, of_descriptor, first_differing, differing}
 use Rattle.sequence.proofs.Headers.{differs, agrees, all_agree}
-use Rattle.sequence.proofs.comparing.differing.Goals.{Else-h-d, Else-h-d-2, Else-h-d-3, Else-h-d-4, Else-h-d-5, Else-h-d-6, Else-h-d-7, Else-h-d-8, Else-h-d-9}
+use Rattle.sequence.proofs.comparing.differing.Goals.{Else-h-d, Else-h-d-2, Else-h-d-3, Else-h-d-4, Else-h-d-5, Else-h-d-6, Else-h-d-7}
+use Rattle.sequence.proofs.comparing.differing.Goals.{Else-h-d-8, Else-h-d-9}
 use Rattle.sequence.proofs.comparing.differing.Goals as goal
 
 abbrev Agree : ℕ → Sequence → Fields → Type 0

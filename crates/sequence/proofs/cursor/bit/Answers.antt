@@ -22,10 +22,21 @@ past {payload} {at} h e = subst (Good payload at) (sym e) (h.0, (h.1, h.2))
 pub returns-then-payload-byte : goal.returns-then-payload-byte
 returns-then-payload-byte c =
     let none = none_left c.args.payload.now c.args.at c.if-payload-byte.true in
-    record { reads = (past (at_end c.args.payload.now c.args.at ended refl (omega arith) none) c.past_end-then-payload-byte.ensures).0; value_bound = (past (at_end c.args.payload.now c.args.at ended refl (omega arith) none) c.past_end-then-payload-byte.ensures).1.0; falls = (past (at_end c.args.payload.now c.args.at ended refl (omega arith) none) c.past_end-then-payload-byte.ensures).1.1 }
+    record {
+      reads = (past (at_end c.args.payload.now c.args.at ended refl (omega arith) none) c.past_end-then-payload-byte.ensures).0;
+      value_bound = (past (at_end c.args.payload.now c.args.at ended refl (omega arith) none) c.past_end-then-payload-byte.ensures).1.0;
+      falls = (past (at_end c.args.payload.now c.args.at ended refl (omega arith) none) c.past_end-then-payload-byte.ensures).1.1;
+    }
 
 pub returns-then-bit-gt7 : goal.returns-then-bit-gt7
-returns-then-bit-gt7 c = record { reads = (past (no_place c.args.payload.now c.args.at ended refl (omega arith) c.if-bit-gt7.true) c.past_end-then-bit-gt7.ensures).0; value_bound = (past (no_place c.args.payload.now c.args.at ended refl (omega arith) c.if-bit-gt7.true) c.past_end-then-bit-gt7.ensures).1.0; falls = (past (no_place c.args.payload.now c.args.at ended refl (omega arith) c.if-bit-gt7.true) c.past_end-then-bit-gt7.ensures).1.1 }
+returns-then-bit-gt7 c = record {
+  reads = (past (no_place c.args.payload.now c.args.at ended refl (omega arith) c.if-bit-gt7.true)
+      c.past_end-then-bit-gt7.ensures).0;
+  value_bound = (past (no_place c.args.payload.now c.args.at ended refl (omega arith)
+      c.if-bit-gt7.true) c.past_end-then-bit-gt7.ensures).1.0;
+  falls
+      = (past (no_place c.args.payload.now c.args.at ended refl (omega arith) c.if-bit-gt7.true) c.past_end-then-bit-gt7.ensures).1.1;
+}
 
 pub returns-then-bit-lt7 : goal.returns-then-bit-lt7
 returns-then-bit-lt7 c = let payload = c.args.payload.now in

@@ -6,7 +6,11 @@ loop-left-preserved c =
     counting_next c.loop-left.invariant c.loop-left-test.true c.bit-b.ensures.value_bound c.bit-b.ensures.reads
 
 pub returns : goal.returns
-returns c = record { reads = (counting_end c.loop-left.invariant c.loop-left-test.false).0; value_bound = (counting_end c.loop-left.invariant c.loop-left-test.false).1 }
+returns c = record {
+  reads = (counting_end c.loop-left.invariant c.loop-left-test.false).0;
+  value_bound
+      = (counting_end c.loop-left.invariant c.loop-left-test.false).1;
+}
 
 pub loop-left-init : goal.loop-left-init
 loop-left-init c = counting_start _ _ _

@@ -17,19 +17,22 @@ pub streams_wrong-requires : goal.streams_wrong-requires
 streams_wrong-requires c = (within _ _ (told (goal.at.streams_wrong-requires c).In-Sections)).0
 
 pub returns-then-streams_wrong : goal.returns-then-streams_wrong
-returns-then-streams_wrong c = streams_refused _ _ (told (goal.at.returns-then-streams_wrong c).In-Sections) (sym c.streams_wrong.ensures ∙ c.if-streams_wrong.true)
+returns-then-streams_wrong c = streams_refused _ _ (told (goal.at.returns-then-streams_wrong c).In-Sections)
+    (sym c.streams_wrong.ensures ∙ c.if-streams_wrong.true)
 
 pub units_wrong-requires : goal.units_wrong-requires
 units_wrong-requires c = (within _ _ (told (goal.at.units_wrong-requires c).In-Sections)).1
 
 pub returns-then-units_wrong : goal.returns-then-units_wrong
-returns-then-units_wrong c = units_refused _ _ (told (goal.at.returns-then-units_wrong c).In-Sections) (sym c.units_wrong.ensures ∙ c.if-units_wrong.true)
+returns-then-units_wrong c = units_refused _ _ (told (goal.at.returns-then-units_wrong c).In-Sections)
+    (sym c.units_wrong.ensures ∙ c.if-units_wrong.true)
 
 pub obus_wrong-requires : goal.obus_wrong-requires
 obus_wrong-requires c = let w = within _ _ (told (goal.at.obus_wrong-requires c).In-Sections) in (w.1, w.4, w.2)
 
 pub returns-then-obus_wrong : goal.returns-then-obus_wrong
-returns-then-obus_wrong c = obus_refused _ _ (told (goal.at.returns-then-obus_wrong c).In-Sections) (sym c.obus_wrong.ensures ∙ c.if-obus_wrong.true)
+returns-then-obus_wrong c = obus_refused _ _ (told (goal.at.returns-then-obus_wrong c).In-Sections)
+    (sym c.obus_wrong.ensures ∙ c.if-obus_wrong.true)
 
 pub returns : goal.returns
 returns c =

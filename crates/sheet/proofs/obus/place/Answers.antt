@@ -16,8 +16,10 @@ returns-then-progress-ge-MOST_IN_UNIT c =
 
 pub returns-then-row-progress-2 : goal.returns-then-row-progress-2
 returns-then-row-progress-2 c =
-    too_early c.args.progress c.args.row c.if-row-progress.false c.if-begun-progress.false c.if-progress-ge-MOST_IN_UNIT.false c.if-row-progress-2.true
+    too_early c.args.progress c.args.row c.if-row-progress.false c.if-begun-progress.false c.if-progress-ge-MOST_IN_UNIT.false
+    c.if-row-progress-2.true
 
 pub returns : goal.returns
 returns c =
-    goes_on c.args.progress c.args.row c.if-row-progress.false c.if-begun-progress.false c.if-progress-ge-MOST_IN_UNIT.false c.if-row-progress-2.false
+    goes_on c.args.progress c.args.row c.if-row-progress.false c.if-begun-progress.false c.if-progress-ge-MOST_IN_UNIT.false
+    c.if-row-progress-2.false

@@ -32,7 +32,11 @@ returns c =
     let told = c.passes.ensures ∙ ap (λ n. ltb n (end row)) c.number-length.ensures in
     record {
       value = told ∙ by_length _ _ _ row c.if-units-row.false c.if-row-gt-MOST_TYPE.false c.if-row-eq0.false;
-      unit_bound = λ e. (omega (arith, c.requires.1, c.if-units-row.false), omega (arith, ltb-false _ (end row) (sym c.passes.ensures ∙ e)));
+      unit_bound = λ e. (
+        omega (arith, c.requires.1, c.if-units-row.false),
+        omega
+            (arith, ltb-false _ (end row) (sym c.passes.ensures ∙ e)),
+      );
     }
 
 pub overflow_mul-unit : goal.overflow_mul-unit

@@ -19,7 +19,8 @@ first c = record { at = c.search-reached.ensures.place_value; drops = c.search-r
 long : (c : Else-unit-place) → c.search-reached.result.place + 3 ≤ length c.args.unit.now
 long c =
     let first : let found = c.search-reached.result in
-    First c.args.unit.now c.args.start found.place found.count = record { at = c.search-reached.ensures.place_value; drops = c.search-reached.ensures.count_value } in
+    First c.args.unit.now c.args.start found.place found.count = record
+    { at = c.search-reached.ensures.place_value; drops = c.search-reached.ensures.count_value } in
     scan_long (first) c.if-unit-place.false
 
 pub returns-then-unit-place : goal.returns-then-unit-place
@@ -29,7 +30,8 @@ returns-then-unit-place c =
 
 pub returns-then-code_at : goal.returns-then-code_at
 returns-then-code_at c =
-    scan_legal (first (goal.at.returns-then-code_at c).After-search-reached) 0 _ (omega arith) (before_code _ (sym c.code_at.ensures ∙ c.if-code_at.true))
+    scan_legal (first (goal.at.returns-then-code_at c).After-search-reached) 0 _ (omega arith)
+    (before_code _ (sym c.code_at.ensures ∙ c.if-code_at.true))
     (omega arith)
 
 pub returns-then-code_at-2 : goal.returns-then-code_at-2

@@ -57,7 +57,8 @@ fitting : (c : In-loop-k)
     c.loop-k.out
 fitting c =
     let left : c.loop-k.k < length (payloads c.args.unit.now) = omega (arith, c.loop-k-test.true, c.requires.measured.obus) in
-    copying_room c.loop-k.invariant.0 (left) c.requires.unit_in_bounds.0 (omega (arith, c.requires.measured.obus, c.requires.unit_in_bounds.1))
+    copying_room c.loop-k.invariant.0 (left) c.requires.unit_in_bounds.0
+    (omega (arith, c.requires.measured.obus, c.requires.unit_in_bounds.1))
 
 -- ---- what the call gave
 called : (c : After-copy_obu-written)
@@ -103,7 +104,12 @@ pub slice_bounds-copy_obu-start : goal.slice_bounds-copy_obu-start
 slice_bounds-copy_obu-start c = omega (arith, end_is (goal.at.slice_bounds-copy_obu-start c).In-loop-k)
 
 pub slice_bounds-copy_obu-end : goal.slice_bounds-copy_obu-end
-slice_bounds-copy_obu-end c = omega (arith, end_is (goal.at.slice_bounds-copy_obu-end c).In-loop-k, fits (goal.at.slice_bounds-copy_obu-end c).In-loop-k)
+slice_bounds-copy_obu-end c = omega (
+  arith,
+  end_is (goal.at.slice_bounds-copy_obu-end c).In-loop-k,
+  fits
+      (goal.at.slice_bounds-copy_obu-end c).In-loop-k,
+)
 
 pub copy_obu-written-requires : goal.copy_obu-written-requires
 copy_obu-written-requires c =
@@ -111,7 +117,13 @@ copy_obu-written-requires c =
     let w = unescape (payload_at s c.loop-k.code) in (
       λ e.
           ap payload_dropped (lent (goal.at.copy_obu-written-requires c).In-loop-k)
-          ∙ omega (arith, c.loop-k.invariant.1, c.requires.measured.drops, dropped_left s c.loop-k.code (passing_code c.loop-k.invariant.0.passing (left (goal.at.copy_obu-written-requires c).In-loop-k))),
+          ∙ omega (
+            arith,
+            c.loop-k.invariant.1,
+            c.requires.measured.drops,
+            dropped_left s c.loop-k.code
+                (passing_code c.loop-k.invariant.0.passing (left (goal.at.copy_obu-written-requires c).In-loop-k)),
+          ),
       omega (
         arith,
         fitting (goal.at.copy_obu-written-requires c).In-loop-k,
@@ -129,10 +141,17 @@ loop-k-preserved c =
       subst₂ (λ (o : Bytes) (e : ℕ). Copying s c.args.ends.now c.args.out.now c.args.lens.now o
           (set c.loop-k.lens c.loop-k.k r) e (c.loop-k.n + r) (c.loop-k.k + 1))
           (sym (written (goal.at.loop-k-preserved c).After-copy_obu-written)) (sym (end_is (goal.at.loop-k-preserved c).In-loop-k))
-          (copying_step c.loop-k.invariant.0 (left (goal.at.loop-k-preserved c).In-loop-k) c.requires.unit_in_bounds.0 (omega (arith, c.requires.measured.obus, c.requires.unit_in_bounds.1)) r
+          (copying_step c.loop-k.invariant.0 (left (goal.at.loop-k-preserved c).In-loop-k) c.requires.unit_in_bounds.0
+          (omega (arith, c.requires.measured.obus, c.requires.unit_in_bounds.1)) r
           (called (goal.at.loop-k-preserved c).After-copy_obu-written)),
-      subst (λ (e : ℕ). sum (map payload_dropped (payloads (drop e s))) ≤ dropped_in s) (sym (end_is (goal.at.loop-k-preserved c).In-loop-k))
-          (omega (arith, c.loop-k.invariant.1, dropped_left s c.loop-k.code (passing_code c.loop-k.invariant.0.passing (left (goal.at.loop-k-preserved c).In-loop-k)))),
+      subst (λ (e : ℕ). sum (map payload_dropped (payloads (drop e s))) ≤ dropped_in s)
+          (sym (end_is (goal.at.loop-k-preserved c).In-loop-k))
+          (omega (
+            arith,
+            c.loop-k.invariant.1,
+            dropped_left s c.loop-k.code
+                (passing_code c.loop-k.invariant.0.passing (left (goal.at.loop-k-preserved c).In-loop-k)),
+          )),
     )
 
 pub returns : goal.returns

@@ -1,6 +1,5 @@
 -- The first i widths are written, and the rest is to come.
 use Prim.Native.Nat.{◌-◌, ◌≤◌}
-use mathlib.Core.Path.{◌≡◌}
 use lib.ListN.{take, drop}
 use Rattle.lists.proofs.Writing.{Part}
 use Rattle.unit.proofs.reading.copy_widths.Given as goal

@@ -32,7 +32,8 @@ fits : (c : After-judge_from-found)
     → next_code c.args.unit.now c.loop-code.code ≤ length
     c.args.unit.now
 fits c =
-    let here : at_start_code (drop c.loop-code.code c.args.unit.now) ≡ true = ending_code c.loop-code.invariant.ending c.loop-code-test.true in
+    let here : at_start_code (drop c.loop-code.code c.args.unit.now) ≡ true = ending_code c.loop-code.invariant.ending c.loop-code-test.true
+    in
     next_fits c.args.unit.now c.loop-code.code (here)
 
 few : (c : After-judge_from-found) → c.loop-code.count < 64
@@ -82,7 +83,8 @@ counted c =
     let end_is : c.judge_from-found.result.end
     ≡ next_code c.args.unit.now c.loop-code.code = c.judge_from-found.ensures.end_value in
     let s = c.args.unit.now in
-    ap (λ (e : ℕ). c.loop-code.count + 1 + length (payloads (drop e s))) (end_is) ∙ judging_count c.loop-code.invariant c.loop-code-test.true
+    ap (λ (e : ℕ). c.loop-code.count + 1 + length (payloads (drop e s))) (end_is) ∙ judging_count c.loop-code.invariant
+    c.loop-code-test.true
 
 pub returns-then-count-ge-MOST_OBUS : goal.returns-then-count-ge-MOST_OBUS
 returns-then-count-ge-MOST_OBUS c =
@@ -91,8 +93,11 @@ returns-then-count-ge-MOST_OBUS c =
 
 pub too_many-requires : goal.too_many-requires
 too_many-requires c =
-    let s = c.args.unit.now in
-    (omega (arith, end_is (goal.at.too_many-requires c).After-judge_from-found, fits (goal.at.too_many-requires c).After-judge_from-found), subst (Place s) (sym (end_is (goal.at.too_many-requires c).After-judge_from-found)) (next_place s c.loop-code.code (here (goal.at.too_many-requires c).After-judge_from-found)))
+    let s = c.args.unit.now in (
+      omega (arith, end_is (goal.at.too_many-requires c).After-judge_from-found, fits (goal.at.too_many-requires c).After-judge_from-found),
+      subst (Place s) (sym (end_is (goal.at.too_many-requires c).After-judge_from-found))
+          (next_place s c.loop-code.code (here (goal.at.too_many-requires c).After-judge_from-found)),
+    )
 
 pub returns-then-too_many : goal.returns-then-too_many
 returns-then-too_many c =
@@ -138,11 +143,13 @@ loop-code-preserved c =
     let kind = c.kind_number.result in
     let width = c.size_bytes.result in
     subst
-    (λ (e : ℕ). Judging s (set c.loop-code.ends c.loop-code.count e) (set c.loop-code.kinds c.loop-code.count kind) (set c.loop-code.widths c.loop-code.count width)
+    (λ (e : ℕ). Judging s (set c.loop-code.ends c.loop-code.count e) (set c.loop-code.kinds c.loop-code.count kind)
+    (set c.loop-code.widths c.loop-code.count width)
     (c.loop-code.bytes + (e - (c.loop-code.code + 3) - f.dropped)) (c.loop-code.dropped + f.dropped) e (c.loop-code.count + 1))
     (sym (end_is (goal.at.loop-code-preserved c).After-judge_from-found))
     (judging_step c.loop-code.invariant c.loop-code-test.true f
-    (fine (goal.at.loop-code-preserved c).After-judge_from-found f c.in-Passed.is) (few (goal.at.loop-code-preserved c).After-judge_from-found) kind width
+    (fine (goal.at.loop-code-preserved c).After-judge_from-found f c.in-Passed.is)
+    (few (goal.at.loop-code-preserved c).After-judge_from-found) kind width
     c.kind_number.ensures
     c.size_bytes.ensures)
 

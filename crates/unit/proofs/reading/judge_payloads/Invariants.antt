@@ -1,9 +1,7 @@
 -- One payload a turn. Those that passed, then the verdict on those from the next start code on, are the verdict on all; the figures add up
 -- the same way. Where one is refused the payloads behind it are counted, since 1 comes first.
-use Prim.Native.Nat.{ℕ, ◌+◌, ◌-◌, ◌≤◌, ◌<◌}
-use mathlib.Core.Path.{◌≡◌, ◌∙◌}
+use Prim.Native.Nat.{◌-◌}
 use lib.ListN.{length}
-use Rattle.tsobu.specs.declared.judging.TsObu.TheVariants as TsObu
 use Rattle.unit.proofs.Readings.{Judging}
 use Rattle.unit.proofs.reading.judge_payloads.Given as goal
 

@@ -22,4 +22,5 @@ returns-in-Refused c =
     whole_broken _ _ _ _ c.if-counts-gt-MOST_OBU_BYTES.false (said (goal.at.returns-in-Refused c).After-order-ordered) c.in-Refused.is
 
 pub returns-in-Legal : goal.returns-in-Legal
-returns-in-Legal c = whole_legal _ _ _ c.if-counts-gt-MOST_OBU_BYTES.false (said (goal.at.returns-in-Legal c).After-order-ordered) c.in-Legal.is
+returns-in-Legal c = whole_legal _ _ _ c.if-counts-gt-MOST_OBU_BYTES.false (said (goal.at.returns-in-Legal c).After-order-ordered)
+    c.in-Legal.is

@@ -61,8 +61,11 @@ copy_obus-requires c =
 
 pub copy_widths-requires : goal.copy_widths-requires
 copy_widths-requires c =
-    let a = checked _ _ (accepted (goal.at.copy_widths-requires c).In-Obus) in
-    (a.few, widths_long _ _ _ a (c.judge_unit-answer.ensures.notes.widths _ (accepted (goal.at.copy_widths-requires c).In-Obus)), (room (goal.at.copy_widths-requires c).Else-no_room).2)
+    let a = checked _ _ (accepted (goal.at.copy_widths-requires c).In-Obus) in (
+      a.few,
+      widths_long _ _ _ a (c.judge_unit-answer.ensures.notes.widths _ (accepted (goal.at.copy_widths-requires c).In-Obus)),
+      (room (goal.at.copy_widths-requires c).Else-no_room).2,
+    )
 
 pub returns : goal.returns
 unfolding leaves

@@ -1,5 +1,5 @@
 use native.Mathlib.Omega.{arith}
-use Prim.Native.Nat.{ℕ, ◌+◌, ◌-◌}
+use Prim.Native.Nat.{ℕ, ◌+◌}
 use mathlib.Core.Path.{sym, subst}
 use Rattle.unit.proofs.Readings.{Counting, counting_step, counting_past, counting_done}
 use Rattle.unit.proofs.reading.too_many.Goals as goal

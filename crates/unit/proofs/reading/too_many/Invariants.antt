@@ -1,5 +1,5 @@
 -- The payloads counted so far and those from the next start code on are those before the place and those behind it.
-use Prim.Native.Nat.{ℕ, ◌+◌, ◌-◌}
+use Prim.Native.Nat.{◌-◌}
 use lib.ListN.{length}
 use Rattle.unit.proofs.Readings.{Counting}
 use Rattle.unit.proofs.reading.too_many.Given as goal

@@ -1,6 +1,5 @@
 use native.Mathlib.Omega.{arith}
 use borrow.Author.Tests.{ne_eqb}
-use Prim.Native.Nat.{◌-◌}
 use mathlib.Core.Path.{sym}
 use Rattle.unit.specs.Unit.{sum}
 use Rattle.unit.proofs.Rests.{sum_next, sum_end, sum_is}

@@ -1,5 +1,4 @@
 use native.Mathlib.Omega.{arith}
-use Prim.Native.Nat.{◌-◌}
 use Rattle.unit.proofs.Rests.{at_within}
 use Rattle.unit.proofs.Writings.{carried_most, counting_next, counting_end}
 use Rattle.unit.proofs.writing.carried_length.Goals as goal
@@ -14,13 +13,15 @@ slice_bounds-escaped_bytes-end c =
 pub overflow_add-n : goal.overflow_add-n
 overflow_add-n c =
     let most = carried_most c.args.lens.now c.args.obus.now c.requires.0 c.requires.1 c.requires.2 in
-    let next = counting_next c.args.lens.now c.args.obus.now c.loop-i.n c.loop-i.i c.loop-i.at c.loop-i.invariant (omega arith) _ c.escaped_bytes.ensures in
+    let next = counting_next c.args.lens.now c.args.obus.now c.loop-i.n c.loop-i.i c.loop-i.at c.loop-i.invariant (omega arith) _
+    c.escaped_bytes.ensures in
     omega (arith, next.count, most)
 
 pub overflow_add-n-in-loop-i : goal.overflow_add-n-in-loop-i
 overflow_add-n-in-loop-i c =
     let most = carried_most c.args.lens.now c.args.obus.now c.requires.0 c.requires.1 c.requires.2 in
-    let next = counting_next c.args.lens.now c.args.obus.now c.loop-i.n c.loop-i.i c.loop-i.at c.loop-i.invariant (omega arith) _ c.escaped_bytes.ensures in
+    let next = counting_next c.args.lens.now c.args.obus.now c.loop-i.n c.loop-i.i c.loop-i.at c.loop-i.invariant (omega arith) _
+    c.escaped_bytes.ensures in
     omega (arith, next.count, most)
 
 pub loop-i-preserved : goal.loop-i-preserved

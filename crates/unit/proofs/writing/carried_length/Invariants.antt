@@ -1,6 +1,6 @@
 -- n counts the bytes of the OBUs passed, as carried: these and the bytes of those left are the bytes of the whole, which is within the
 -- limit of a carried unit.
-use Prim.Native.Nat.{◌+◌, ◌-◌}
+use Prim.Native.Nat.{◌-◌}
 use lib.ListN.{length}
 use Rattle.unit.proofs.Writings.{Counting}
 use Rattle.unit.proofs.writing.carried_length.Given as goal

@@ -1,5 +1,4 @@
 use native.Mathlib.Omega.{arith}
-use Prim.Native.Nat.{◌-◌}
 use mathlib.Core.Path.{sym, ap, ◌∙◌}
 use Rattle.obu.specs.Header.{judged_says}
 use Rattle.unit.proofs.Rests.{at_within}

@@ -1,7 +1,6 @@
 -- Each OBU passed so far passes the tries of its own, and `kinds` begins with the numbers of their kinds; the tries of those left are then
 -- those of all.
 use Prim.Native.Nat.{◌-◌}
-use mathlib.Core.Path.{◌∙◌}
 use lib.ListN.{length}
 use Rattle.unit.proofs.Tries.{Judging}
 use Rattle.unit.proofs.writing.judge_obus.Given as goal

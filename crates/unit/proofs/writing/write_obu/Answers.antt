@@ -14,5 +14,6 @@ returns c =
     let written = c.escape_prefix.ensures in
     record {
       value = omega (arith, simp (length-take, length-drop, length-set) at written.value);
-      out_after = tail_prefix 3 (set (set (set out 0 0) 1 0) 2 1) w _ (simp length-set c.requires) written.out_after ∙ code_over out w (omega arith);
+      out_after = tail_prefix 3 (set (set (set out 0 0) 1 0) 2 1) w _ (simp length-set c.requires) written.out_after ∙ code_over out w
+          (omega arith);
     }

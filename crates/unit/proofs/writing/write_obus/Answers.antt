@@ -1,5 +1,4 @@
 use native.Mathlib.Omega.{arith}
-use Prim.Native.Nat.{◌-◌}
 use Rattle.unit.proofs.Rests.{at_within}
 use Rattle.unit.proofs.Writings.{writing_room, writing_next, writing_end}
 use Rattle.unit.proofs.writing.write_obus.Goals as goal

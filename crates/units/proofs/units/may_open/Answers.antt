@@ -49,6 +49,7 @@ pub returns-then-rooms-extraction-3 : goal.returns-then-rooms-extraction-3
 returns-then-rooms-extraction-3 c = record {
   may_open_refines = (λ before now p w st r is long k s. may_times _ p w st r is s
       (k ∙ c.if-not-pcr_seen.false)
-      (omega arith) _ long (omega arith) (omega arith) (omega arith) ∙ ap (λ (q : Refused). refused_by q) (sym c.at-then-rooms-extraction-3.ensures));
+      (omega arith) _ long (omega arith) (omega arith) (omega arith) ∙ ap (λ (q : Refused). refused_by q)
+      (sym c.at-then-rooms-extraction-3.ensures));
   has_room = (λ e. never_passed _ refl e);
 }

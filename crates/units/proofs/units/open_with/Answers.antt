@@ -36,7 +36,8 @@ returns-in_default c =
       opens_with = (λ w read lent before lens times p st r is k closed s.
           opens_refused (edition_says a.arrival.edition) a.arrival.index p w st before is a.header read
           (sym c.untimed.ensures ∙ c.if-untimed.false) c.may_open-outcome.result
-          (c.may_open-outcome.ensures.may_open_refines before (outputs_of a.out.now lens times) p w st r is (ap length lent) k s) _ c.in_default.is
+          (c.may_open-outcome.ensures.may_open_refines before (outputs_of a.out.now lens times) p w st r is (ap length lent) k s) _
+          c.in_default.is
           c.refused_with.result (outputs_of a.out.now lens times) (ap (λ (x : ExtractionResult). x.outcome) c.refused_with.ensures));
       units_refused = fresh_refused c.refused_with.result _ c.refused_with.ensures a.out.now;
     }
@@ -51,7 +52,8 @@ returns c =
       opens_with = (λ w read lent before lens times p st r is k closed s.
           opens_right (edition_says a.arrival.edition) a.arrival.index p w st before is a.header read
           (sym c.untimed.ensures ∙ c.if-untimed.false) c.may_open-outcome.result
-          (c.may_open-outcome.ensures.may_open_refines before (outputs_of a.out.now lens times) p w st r is (ap length lent) k s) s went a.bytes.now _ lent
+          (c.may_open-outcome.ensures.may_open_refines before (outputs_of a.out.now lens times) p w st r is (ap length lent) k s) s went
+          a.bytes.now _ lent
           (tail_prefix (e.start + e.bytes) a.out.now a.bytes.now _ (omega (arith, room.in_bytes, c.requires.1))
           c.copy.ensures) closed
           (omega (arith, room.in_bytes, r.bytes, same_bytes s)) (omega (arith, room.in_lens, r.lens, same_lens s))
