@@ -101,6 +101,14 @@ def of_crate(crate, root=ROOT):
     return {it.path(): it for file, raw in texts.items() for it in of_file(crate, file, raw, types)}
 
 
+def is_at(place, functions, file, line):
+    """Whether a line of a crate's file is at a place: `fn module::function` is a function's proof files and its own lines, anything else a file."""
+    if not place.startswith('fn '):
+        return file == place
+    function = functions[place[3:]]
+    return Path(file).parent == Path('proofs', *place[3:].split('::')) or file == function.file and function.first <= line <= function.last
+
+
 class Calls:
     """Which functions of the crates each of them calls. A call by a path goes through the `use` lines; a method is known by its name."""
 
