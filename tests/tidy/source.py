@@ -5,7 +5,8 @@ from collections import defaultdict
 from pathlib import Path
 
 ROOT = Path(__file__).resolve().parents[2]
-sys.path.insert(0, str(ROOT / 'tests/edits'))
+sys.path[:0] = [str(ROOT / 'tests/edits'), str(ROOT / 'tools')]
+from functions import bare, blank, closing  # noqa: E402
 from wrong import read as read_wrong  # noqa: E402
 
 CHARS = r'\s(){}.;,@"«»⟦⟧⌜⌝'
@@ -13,22 +14,9 @@ NAME = rf'(?:«[^»\n]*»|[^{CHARS}]+)'
 USED = re.compile(rf'(?<![^{CHARS.replace(".", "")}]){NAME}(?:\.{NAME})*')
 IMPORT = re.compile(r'^[ \t]*(?P<pub>(?:unfoldable )?pub(?:\(crate\))? )?(?P<ghost>ghost )?use (?P<path>[^{};\n]+?)'
                     r'(?:(?:\.|::)\{(?P<names>[^}]*)\}|\s+as\s+(?P<alias>[^\s;]+))?[ \t]*;?[ \t]*$\n?', re.M)
-CLAUSE = re.compile(r'\b(?:requires|ensures)\s*\{')
+CLAUSE = re.compile(r'\b(?:requires|ensures)(?:\s+\w+)?\s*\{')
+TACTIC = re.compile(r'#\[tactic\((.*?)\)\]', re.S)
 DO = re.compile(r'(?<!\S)do *\n(?P<steps>(?P<indent> +)\S.*\n(?:(?P=indent).*\n|\s*\n)*)')
-
-
-def blank(match):
-    return re.sub(r'[^\n]', ' ', match.group())
-
-
-def closing(text, at):
-    """The place behind the bracket that closes the first one at or behind `at`."""
-    depth = 0
-    for bracket in re.compile(r'[](){}[]').finditer(text, at):
-        depth += 1 if bracket[0] in '({[' else -1
-        if depth == 0:
-            return bracket.end()
-    return len(text)
 
 
 def written(text):
@@ -44,9 +32,9 @@ def written(text):
 
 def uses(name, names):
     """Whether a name is written: whole or, for an operator, by its parts."""
-    if name in names or '_' not in name or name[0] == '«':
+    if name in names or '◌' not in name or name[0] == '«':
         return name in names
-    return all({p, '_' + p, p + '_', '_' + p + '_'} & names for p in re.split(r'[_\s]+', name) if p)
+    return all({p, '◌' + p, p + '◌', '◌' + p + '◌'} & names for p in re.split(r'[◌\s]+', name) if p)
 
 
 def brought(use):
@@ -64,15 +52,20 @@ class Source:
     def __init__(self, path, edits):
         self.path, self.code, self.edits = path.relative_to(ROOT), path.suffix == '.rt', '\n' + edits
         self.raw = path.read_text()
-        comment = r'//[^\n]*|/\*.*?\*/' if self.code else r'(?<!\S)--[^\n]*|\{-.*?-\}'
-        self.text = re.sub(r'"(?:\\.|[^"\\])*"|' + comment, blank, self.raw, flags=re.S)
+        self.text = bare(self.raw) if self.code else re.sub(r'"(?:\\.|[^"\\])*"|(?<!\S)--[^\n]*|\{-.*?-\}', blank, self.raw, flags=re.S)
         self.body = IMPORT.sub(blank, self.text)
         self.imports = list(IMPORT.finditer(self.text))
         self.clauses = '\n'.join(self.contracts()) if self.code else ''
         self.crate, self.kind = self.path.parts[1:3]
+        self.hints = self.of_tactics() if self.code else set()
 
     def line(self, at):
         return self.text.count('\n', 0, at) + 1
+
+    def of_tactics(self):
+        """The whole paths that `#[tactic(.., using(crate::proofs::M::lemma))]` and `unfolding(..)` name."""
+        paths = {path for tactic in TACTIC.findall(self.text) for path in re.findall(r"(?:[\w'-]+::)+[\w'◌-]+", tactic)}
+        return {'Rattle.' + re.sub(r'^crate\b', self.crate, path).replace('::', '.') for path in paths}
 
     def contracts(self):
         """The clauses of contracts, each without the parameters of its function, which hide imports."""
@@ -82,7 +75,7 @@ class Source:
                 params = [re.escape(p) for p in re.findall(r'(\w+)\s*:', m[1])]
             else:
                 clause = self.body[m.end():closing(self.body, m.end() - 1) - 1]
-                yield re.sub(rf'(?<![\w.·-])(?:{"|".join(params)})(?![\w·-])', ' ', clause) if params else clause
+                yield re.sub(rf'(?<![\w.-])(?:{"|".join(params)})(?![\w-])', ' ', clause) if params else clause
 
 
 def read():

@@ -2,14 +2,11 @@
 braces, blank lines and comments left out."""
 import re
 
-from source import closing
+from functions import FUNCTION, body, closing
 
 COLUMNS = {'src': 120, 'specs': 120, 'proofs': 140}
 PARAMETERS = 7
 BODY = 40
-FUNCTION = re.compile(r'^[ \t]*(?:pub(?:\(crate\))? )?(?:const |unsafe |extern +)*fn (\w+)', re.M)
-# what can come behind the parameters: a bracket of the result's type, a clause, the body, or the end of a declaration without one
-NEXT = re.compile(r'[(\[]|\b(?:requires|ensures|decreases|measure)\s*\{|[{;]')
 
 
 def parameters(text):
@@ -20,24 +17,13 @@ def parameters(text):
     return len([part for part in text.split(',') if part])
 
 
-def body(text, at):
-    """What stands between the braces of a function whose parameters end at a place, or none."""
-    while True:
-        found = NEXT.search(text, at)
-        if found is None or found[0] == ';':
-            return ''
-        at = closing(text, found.end() - 1)
-        if found[0] == '{':
-            return text[found.end():at - 1]
-
-
 def of_functions(source):
     """(line, what is wrong) of each function of a file."""
     for function in FUNCTION.finditer(source.text):
         left = source.text.index('(', function.end())
         right = closing(source.text, left)
         count = parameters(source.text[left + 1:right - 1])
-        lines = sum(1 for line in body(source.text, right).split('\n') if line.strip())
+        lines = sum(1 for line in source.text[slice(*body(source.text, right))].split('\n') if line.strip())
         if count > PARAMETERS:
             yield source.line(function.start(1)), f'{count} parameters of {function[1]}, where {PARAMETERS} are allowed'
         if lines > BODY:

@@ -1,14 +1,18 @@
 """Imports that their file never writes: each `use` and `ghost use` line. In a clause of a contract a parameter hides an import of its name; a record's
-label and a field are no uses; what a must-fail edit writes counts as written in the file that it edits."""
+label and a field are no uses; what a must-fail edit writes counts as written in the file that it edits, and a trait of std where one of its methods is
+called."""
 import re
 
 from source import ROOT, brought, uses, written
+
+TRAITS = {'Read': 'read|read_exact|read_to_end', 'BufRead': 'read_line|read_until|fill_buf|consume', 'Write': 'write|write_all|flush'}
 
 
 def unused(source):
     """(use line, its names that are not used), the last line first."""
     antt = written((source.clauses if source.code else source.body) + source.edits)
     words = set(re.findall(r'\w+', source.body + source.edits)) if source.code else set()
+    words |= {name for name, methods in TRAITS.items() if source.code and re.search(rf'\.(?:{methods})\s*\(', source.body)}
     heads = {re.split(r'\.|::', use['path'].strip())[0] for use in source.imports}
     for use in reversed(source.imports):
         plain = source.code and not use['ghost']

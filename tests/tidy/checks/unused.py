@@ -1,6 +1,7 @@
-"""Definitions and laws that nothing uses, and pub items of src/ that only their own file uses. A definition or law is used where a contract, a pub law of a
-Proof.antt or docs/PROMISES.md reaches it: by its name in backquotes or, where it is pub, by the path of its file in proofs/. A pub item of src/ is used
-where another file writes its name; a `pub use`, where another crate does, or where a pub item of its own crate shows it."""
+"""Definitions and laws that nothing uses, and pub items of src/ that only their own file uses. A definition or law is used where a contract, a `tactic`
+attribute, an answer or an invariant (a declaration at a type `goal.X` or `given.X` in Answers.antt or Invariants.antt) or docs/PROMISES.md reaches it: by its
+name in backquotes or, where it is pub, by the path of its file in proofs/. A pub item of src/ is used where another file writes its name; a `pub use`, where
+another crate does, or where a pub item of its own crate shows it."""
 import re
 from pathlib import Path
 
@@ -11,15 +12,17 @@ NO_ITEM = re.compile(r'(pub )?(mod|let|infix[lr]?)\b')
 # a constructor, a field, or what is derived
 INNER = re.compile(rf'(?:^ +(?:pub )?(?=\S+ :\s)|\bderiving .* as )({NAME})')
 PUB = re.compile(r'^[ \t]*pub(?:\(crate\))? (?:const |unsafe |extern +)*(fn|struct|enum|const|static|type) (\w+)', re.M)
-EXPORTED = re.compile(r'#\[no_mangle\][^{;]*?\bfn (\w+)')
-PACKAGE = re.compile(r'(?:package\.)?Rattle·([^·.]+)(?:·\w+)?\.(specs|proofs)\.(.+)$')
+EXPORTED = re.compile(r'#\[unsafe\(no_mangle\)\][^{;]*?\bfn (\w+)')
+PACKAGE = re.compile(r'Rattle\.(\w+)\.(specs|proofs)\.(.+)$')
+ANSWERS = ('Answers.antt', 'Invariants.antt')
+ANSWER = re.compile(rf'(?:(?:abbrev|unfoldable|pub) )*{NAME} :\s+(?:goal|given)\.')
 
 
 class Item:
     """A declaration of an .antt file: its text stands behind the heads of the modules around it."""
 
-    def __init__(self, line, pub, heads):
-        self.line, self.pub, self.text, self.inner = line, pub, heads, set()
+    def __init__(self, line, pub, heads, is_answer):
+        self.line, self.pub, self.text, self.inner, self.is_answer = line, pub, heads, set(), is_answer
 
 
 def items(source):
@@ -42,7 +45,7 @@ def items(source):
             continue
         begins = ITEM.match(bare) if indent == blocks[-1][0] and not NO_ITEM.match(bare) else None
         if begins:
-            current = Item(number, bool(begins['pub']), blocks[-1][1])
+            current = Item(number, bool(begins['pub']), blocks[-1][1], bool(ANSWER.match(bare)))
             found[begins['name'] or begins['type']] = current
         if current:
             current.text += line + '\n'
@@ -56,6 +59,9 @@ class Declared:
     def __init__(self, sources):
         self.items = {s.path: items(s) for s in sources if not s.code}
         self.inner = {path: {name: own for own, item in found.items() for name in item.inner} for path, found in self.items.items()}
+        # what the `pub use` lines of a file hand on, with the path that it comes from
+        self.handed = {s.path: {here: f'{use["path"].strip()}.{there}' for use in s.imports if use['pub'] for here, there, _ in brought(use) if there}
+                       for s in sources if not s.code}
 
     def home(self, whole):
         """The declaration that a whole path names, or none where the crates do not declare it."""
@@ -65,13 +71,14 @@ class Declared:
             path, name = Path('crates', package[1], package[2], *parts[:count]).with_suffix('.antt'), parts[count]
             if path in self.items:
                 own = name if name in self.items[path] else self.inner[path].get(name)
-                return (path, own) if own else None
+                handed = self.handed[path].get(name)
+                return (path, own) if own else self.home(handed) if handed else None
         return None
 
     def named(self, source, text):
         """The declarations that a text of a file names."""
         names = written(text)
-        found = {self.home(name) for name in names if 'Rattle·' in name}
+        found = {self.home(name) for name in names if name.startswith('Rattle.')}
         for use in source.imports:
             for here, there, _ in brought(use):
                 path = use['path'].strip()
@@ -85,7 +92,7 @@ class Declared:
 
 
 def unreached(sources):
-    """Definitions and laws that no contract, no Proof.antt and no document reaches."""
+    """Definitions and laws that no contract, no answer and no document reaches."""
     promises = (ROOT / 'docs/PROMISES.md').read_text()
     spans = ' '.join(re.findall(r'`([^`\n]+)`', promises))
     told = set(re.findall(NAME, spans))
@@ -93,9 +100,10 @@ def unreached(sources):
     edges = {(path, name): declared.named(by_path[path], item.text) - {(path, name)}
              for path, found in declared.items.items() for name, item in found.items()}
     todo = [node for s in sources if s.code for node in declared.named(s, s.clauses)]
+    todo += [home for s in sources for home in map(declared.home, s.hints) if home]
     for path, found in declared.items.items():
-        linked = path.name == 'Proof.antt' or path.parts[2] == 'proofs' and str(path) in promises
-        todo += [(path, name) for name, item in found.items() if name in told or item.pub and linked]
+        linked = path.parts[2] == 'proofs' and str(path) in promises
+        todo += [(path, name) for name, item in found.items() if name in told or item.pub and linked or item.is_answer and path.name in ANSWERS]
     reached = set()
     while todo:
         node = todo.pop()
