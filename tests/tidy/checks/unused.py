@@ -1,12 +1,13 @@
 """Definitions and laws that nothing uses, and pub items of src/ that only their own file uses. A definition or law is used where a contract, a `tactic`
 attribute, an answer or an invariant (a declaration at a type `goal.X` or `given.X` in Answers.antt or Invariants.antt) or docs/PROMISES.md reaches it: by its
 name in backquotes or, where it is pub, by the path of its file in proofs/. A pub item of src/ is used where another file writes its name; a `pub use`, where
-another crate does, or where a pub item of its own crate shows it."""
+another crate does, or where a pub item of its own crate shows it. The laws of tests/tidy/kept.txt are none of these, and each line there has to be true."""
 import re
 from pathlib import Path
 
 from source import NAME, ROOT, blank, brought, closing, uses, written
 
+KEPT = 'tests/tidy/kept.txt'
 ITEM = re.compile(rf'(?:(?:abbrev|unfoldable|axiom) )*(?P<pub>pub )?(?:(?:data|record|ruleset) (?P<type>{NAME})|(?P<name>{NAME}) :(?=\s|$))')
 NO_ITEM = re.compile(r'(pub )?(mod|let|infix[lr]?)\b')
 # a constructor, a field, or what is derived
@@ -110,9 +111,19 @@ def unreached(sources):
         if node not in reached:
             reached.add(node)
             todo += edges[node]
+    listed = kept()
     for path, name in edges.keys() - reached:
         kind = 'definition' if path.parts[2] == 'specs' else 'law'
-        yield path, declared.items[path][name].line, f'unused {kind} {name}'
+        if kind == 'definition' or (str(path), name) not in listed:
+            yield path, declared.items[path][name].line, f'unused {kind} {name}'
+    unused = {(str(path), name) for path, name in edges.keys() - reached}
+    yield from ((Path(KEPT), line, f'{name} of {path} is used, or gone') for (path, name), line in listed.items() if (path, name) not in unused)
+
+
+def kept():
+    """The laws of the list, each with its line."""
+    lines = enumerate((ROOT / KEPT).read_text().splitlines(), 1)
+    return {tuple(words): number for number, line in lines if len(words := line.split()) == 2 and not line.startswith('#')}
 
 
 def shown(source):
