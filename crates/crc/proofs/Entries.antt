@@ -1,8 +1,9 @@
--- The entries of a byte. In each of the sixteen arms of a `match` on a half, the half is one of sixteen numbers, and the value is that of
--- the arm; a byte leaves what its halves leave. Assumes nothing.
-use Prim.Native.Nat.{ℕ, ◌*◌, ◌/◌, ◌%◌, ◌<◌}
+-- The entries of a byte. Where the sixteen arms of a `match` on a half meet, the half is one of sixteen numbers, and the value is that of
+-- its arm; a byte leaves what its halves leave. Assumes nothing.
+use Prim.Native.Nat.{ℕ, zero, suc, ◌*◌, ◌/◌, ◌%◌, ◌≤◌, ◌<◌}
 use mathlib.Core.Path.{◌≡◌, sym, ap, ap₂, ◌∙◌}
 use mathlib.Core.List.{[]}
+use mathlib.Core.Logic.{◌⊎◌, ⊎_elim}
 use native.Mathlib.Omega.{arith}
 use lib.Bits.{bit_xor}
 use lib.ListN.{get_or}
@@ -10,7 +11,19 @@ use Rattle.crc.specs.Parts.{left}
 use Rattle.crc.proofs.Slicing.{halves_leave}
 use Rattle.crc.proofs.Rows.{spread, rows, by_row}
 
--- ---- in each of the sixteen arms, v is what f has at x
+-- x is none of the numbers below n
+abbrev NoneBelow : ℕ → ℕ → Type 0
+NoneBelow zero x = Unit {0}
+NoneBelow (suc n) x = NoneBelow n x × (x ≡ n → ⊥)
+
+none_below : (n x : ℕ) → NoneBelow n x → n ≤ x
+none_below zero x h = omega arith
+none_below (suc n) x h = let before = none_below n x h.0 in let other = h.1 in omega arith
+
+pub last_number : (x : ℕ) → x < 16 → NoneBelow 15 x → x ≡ 15
+last_number x small none = let from = none_below 15 x none in omega arith
+
+-- ---- where the sixteen arms meet, v is what f has at x
 module _ (f : ℕ → ℕ) (x v : ℕ) (small : x < 16) where
   -- the arm of i was taken
   abbrev Taken : ℕ → Type 0
@@ -18,6 +31,20 @@ module _ (f : ℕ → ℕ) (x v : ℕ) (small : x < 16) where
 
   pub arm : (i : ℕ) → Taken i → v ≡ f x
   arm i w = w.1 ∙ ap f (sym w.0)
+
+  last : NoneBelow 15 x × (v ≡ f 15) → v ≡ f x
+  last w = arm 15 (last_number x small w.0, w.1)
+
+  pub at_half : {A B C D E F G H I J K L M N O Q : Type 0}
+      → (A → Taken 0) → (B → Taken 1) → (C → Taken 2) → (D → Taken 3) → (E → Taken 4) → (F → Taken 5) → (G → Taken 6) → (H → Taken 7)
+      → (I → Taken 8) → (J → Taken 9) → (K → Taken 10) → (L → Taken 11) → (M → Taken 12) → (N → Taken 13) → (O → Taken 14)
+      → (Q → NoneBelow 15 x × (v ≡ f 15))
+      → A ⊎ (B ⊎ (C ⊎ (D ⊎ (E ⊎ (F ⊎ (G ⊎ (H ⊎ (I ⊎ (J ⊎ (K ⊎ (L ⊎ (M ⊎ (N ⊎ (O ⊎ Q)))))))))))))) → v ≡ f x
+  at_half t0 t1 t2 t3 t4 t5 t6 t7 t8 t9 t10 t11 t12 t13 t14 rest =
+      ⊎_elim (λ w. arm 0 (t0 w)) (⊎_elim (λ w. arm 1 (t1 w)) (⊎_elim (λ w. arm 2 (t2 w)) (⊎_elim (λ w. arm 3 (t3 w))
+      (⊎_elim (λ w. arm 4 (t4 w)) (⊎_elim (λ w. arm 5 (t5 w)) (⊎_elim (λ w. arm 6 (t6 w)) (⊎_elim (λ w. arm 7 (t7 w))
+      (⊎_elim (λ w. arm 8 (t8 w)) (⊎_elim (λ w. arm 9 (t9 w)) (⊎_elim (λ w. arm 10 (t10 w)) (⊎_elim (λ w. arm 11 (t11 w))
+      (⊎_elim (λ w. arm 12 (t12 w)) (⊎_elim (λ w. arm 13 (t13 w)) (⊎_elim (λ w. arm 14 (t14 w)) (λ w. last (rest w))))))))))))))))
 
 -- what the lower half and the upper half of a byte leave
 abbrev pub lower : ℕ → ℕ → ℕ

@@ -3,3 +3,5 @@ pub mod Puttings
 pub mod Walked
 pub mod Texts
 pub mod Printed
+pub mod Loans
+pub mod Again

@@ -1,4 +1,5 @@
 // The rules of document 01, "A segment", as definitions, and the laws about them; no functions.
+#![tactic(auto)]
 
 // Packets in their five classes.
 #[derive(Clone, Copy)]
