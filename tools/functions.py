@@ -8,10 +8,10 @@ ROOT = Path(__file__).resolve().parents[1]
 
 FUNCTION = re.compile(r'^[ \t]*(?:pub(?:\([^)]*\))? )?(?:const |unsafe |extern +)*fn (\w+)', re.M)
 # what can come behind the parameters: a bracket of the result's type, a clause, the body, or the end of a declaration without one
-NEXT = re.compile(r'[(\[]|\b(?:requires|ensures(?: \w+)?|decreases|measure)\s*\{|[{;]')
+NEXT = re.compile(r'[(\[]|\b(?:(?:requires|ensures)(?: \w+)?|decreases|measure)\s*\{|[{;]')
 UNREAD = re.compile(r'"(?:\\.|[^"\\])*"|\'(?:\\.|[^\'\\\n])\'|//[^\n]*|/\*.*?\*/', re.S)
 TYPE = re.compile(r'^[ \t]*(?:pub(?:\([^)]*\))? )?(?:struct|enum) (\w+)', re.M)
-IMPL = re.compile(r'^impl\b(?:<[^{]*?>)?\s+(?:[^{]*? for )?(\w+)[^{]*\{', re.M)
+IMPL = re.compile(r'^impl\b(?:<[^{]*?>)?\s+(?:([^{]*?) for )?(\w+)[^{]*\{', re.M)
 USE = re.compile(r'^[ \t]*(?:pub(?:\([^)]*\))? )?use ([\w:]+?)(?:::\{([^}]*)\}|\s+as\s+(\w+))?\s*;', re.M)
 CALLED = re.compile(r'(?<![\w:.])((?:\w+::)*\w+)\s*(?:::<[^;(]*?>)?\(|\.\s*(\w+)\s*\(')
 
@@ -46,6 +46,12 @@ def body(text, at):
             return found.end(), at - 1
 
 
+def owner_of(trait, name):
+    """What Rattle calls an `impl`: its type, and behind it the trait with the types that the trait is given."""
+    words = re.findall(r'\w+', re.sub(r"\w+::|'\w+", '', trait or ''))
+    return name + ''.join(word[0].upper() + word[1:] for word in words)
+
+
 @dataclass
 class Function:
     crate: str
@@ -75,7 +81,7 @@ def module_of(file):
 def of_file(crate, file, raw, types):
     """The functions of a file. `types` has the modules of the crate's types."""
     text, module = bare(raw), module_of(file)
-    owners = [(m.start(), closing(text, m.end() - 1), m[1]) for m in IMPL.finditer(text)]
+    owners = [(m.start(), closing(text, m.end() - 1), owner_of(m[1], m[2])) for m in IMPL.finditer(text)]
     for found in FUNCTION.finditer(text):
         left = text.index('(', found.end())
         right = closing(text, left)
@@ -110,7 +116,7 @@ def is_at(place, functions, file, line):
 
 
 class Calls:
-    """Which functions of the crates each of them calls. A call by a path goes through the `use` lines; a method is known by its name."""
+    """Which functions of the crates each of them calls. A call by a path goes through the `use` lines; a method is known by its name and what they bring."""
 
     def __init__(self, root=ROOT):
         self.crates = sorted(path.parent.name for path in root.glob('crates/*/src'))
@@ -163,15 +169,23 @@ class Calls:
         for path, method in CALLED.findall(function.body):
             parts = path.split('::')
             if method:
-                found.append(self.method(method))
+                found.append(self.method(module, name, method))
             else:
                 own = [function.owner, *parts[1:]] if parts[0] == 'Self' else parts
                 found.append(self.item(self.absolute(module, own)))
         return [it for it in dict.fromkeys(found) if it]
 
-    def method(self, name):
-        """The method of this name; two types of the crates with one of the same name are not told apart."""
-        found = [key for key, it in self.functions.items() if it.name == name and it.owner and it.has_self]
-        if len(found) > 1:
+    def method(self, module, caller, name):
+        """The method of this name that a function can call. Of several, that of a type which the module has or brings, of its crate, or of a crate that it
+        brings something of."""
+        found = [key for key, it in self.functions.items() if it.name == name and it.owner and it.has_self
+                 and (key[0] == module[0] or not it.head.lstrip().startswith('pub('))]
+        paths = [tuple(parts) for parts in self.uses[module].values()]
+        other = [key for key in found if key != caller]
+        named = [key for key in other if key[:-2] == module or any(parts[0] == key[0] and parts[-1] == key[-2] for parts in paths)]
+        near = [key for key in other if key[0] == module[0]]
+        brought = [key for key in other if any(parts[0] == key[0] for parts in paths)]
+        one = next((keys for keys in (found, other, named, near, brought) if len(keys) == 1), [])
+        if found and not one:
             raise LookupError(f'which method is called by .{name}( is not known: {", ".join("::".join(key) for key in found)}')
-        return found[0] if found else None
+        return one[0] if one else None

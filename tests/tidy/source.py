@@ -14,8 +14,8 @@ NAME = rf'(?:«[^»\n]*»|[^{CHARS}]+)'
 USED = re.compile(rf'(?<![^{CHARS.replace(".", "")}]){NAME}(?:\.{NAME})*')
 IMPORT = re.compile(r'^[ \t]*(?P<pub>(?:unfoldable )?pub(?:\(crate\))? )?(?P<ghost>ghost )?use (?P<path>[^{};\n]+?)'
                     r'(?:(?:\.|::)\{(?P<names>[^}]*)\}|\s+as\s+(?P<alias>[^\s;]+))?[ \t]*;?[ \t]*$\n?', re.M)
-CLAUSE = re.compile(r'\b(?:requires|ensures)(?:\s+\w+)?\s*\{')
-TACTIC = re.compile(r'#\[tactic\((.*?)\)\]', re.S)
+CLAUSE = re.compile(r'\b(?:(?:requires|ensures)(?:\s+\w+)?|ghost\s+\w+:|ghost\s+\w+\s*=)\s*\{')
+TACTIC = re.compile(r'#!?\[tactic\((.*?)\)\]', re.S)
 DO = re.compile(r'(?<!\S)do *\n(?P<steps>(?P<indent> +)\S.*\n(?:(?P=indent).*\n|\s*\n)*)')
 
 

@@ -1,4 +1,5 @@
 -- A queue that is handed back and handed in again is the same; the numbers of its slots are put one a turn. Assumes nothing.
+use mir.Val.{bool_byte}
 use Prim.Native.Nat.{ℕ, zero, suc, ◌+◌, ◌-◌, ◌≤◌, ◌<◌}
 use mathlib.Core.Bool.{Bool, true, false, not}
 use mathlib.Core.Path.{◌≡◌, refl, ap, ap₂, ◌∙◌}
@@ -15,6 +16,12 @@ use Rattle.mux_rules.specs.declared.Written.{Written}
 use Rattle.answers.specs.declared.queueing.QueueState.{QueueState}
 use Rattle.answers.specs.declared.queueing.ChannelState.{ChannelState}
 use Rattle.answers.specs.Queueing.{indices, slot_from, queue_from, mark, state_of, sent_with}
+
+-- a flag as a number
+pub byte_is : (b : Bool) → bool_byte b ≡ mark b
+unfolding mark pick
+byte_is true = refl
+byte_is false = refl
 
 marked_back : (b : Bool) → not (eqb (mark b) 0) ≡ b
 unfolding mark pick

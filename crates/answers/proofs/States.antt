@@ -1,5 +1,7 @@
 -- A replay's state as a C struct: a state that was handed back is, handed in, the same state, and a struct that is right is
 -- handed back as it was. So what is proved of two runs holds of two calls. Assumes nothing.
+use Rattle.ticks.specs.declared.Ticks27.{Ticks27}
+use Rattle.std.specs.Prelude.{Option, Some, None}
 use Prim.Native.Nat.{ℕ}
 use mathlib.Core.Bool.{true}
 use mathlib.Core.Path.{◌≡◌, refl, sym, subst}
@@ -7,35 +9,31 @@ use borrow.Author.Tests.{eqb-true}
 use lib.Dec.{eqb}
 use Rattle.lists.specs.Lists.{pick}
 use Rattle.lists.proofs.Tests.{case, and_both}
-use Rattle.replay.specs.declared.state.Last.{Last}
-use Rattle.replay.specs.declared.state.Last.TheVariants as last
-use Rattle.replay.specs.declared.state.Above.{Above}
-use Rattle.replay.specs.declared.state.Above.TheVariants as above
 use Rattle.replay.specs.declared.state.State.{State}
 use Rattle.answers.specs.declared.replaying.ReplayState.{ReplayState}
 use Rattle.answers.specs.Replaying.{pair_right, state_right, last_from, above_from, state_from, has_last, last_time}
 use Rattle.answers.specs.Replaying.{has_above, above_index, state_answer}
 
 -- ---- out and in again
-last_again : (l : Last) → last_from (has_last l) (last_time l) ≡ l
+last_again : (l : Option Ticks27) → last_from (has_last l) (last_time l) ≡ l
 unfolding last_from pick
-last_again last.Never = refl
-last_again (last.At t) = refl
+last_again None = refl
+last_again (Some t) = refl
 
-above_again : (a : Above) → above_from (has_above a) (above_index a) ≡ a
+above_again : (a : Option ℕ) → above_from (has_above a) (above_index a) ≡ a
 unfolding above_from pick
-above_again above.Never = refl
-above_again (above.At i) = refl
+above_again None = refl
+above_again (Some i) = refl
 
-last_right : (l : Last) → pair_right (has_last l) (last_time l) ≡ true
+last_right : (l : Option Ticks27) → pair_right (has_last l) (last_time l) ≡ true
 unfolding pair_right
-last_right last.Never = refl
-last_right (last.At t) = refl
+last_right None = refl
+last_right (Some t) = refl
 
-above_right : (a : Above) → pair_right (has_above a) (above_index a) ≡ true
+above_right : (a : Option ℕ) → pair_right (has_above a) (above_index a) ≡ true
 unfolding pair_right
-above_right above.Never = refl
-above_right (above.At i) = refl
+above_right None = refl
+above_right (Some i) = refl
 
 pub state_again : (s : State) → (state_right (state_answer s) ≡ true) × (state_from (state_answer s) ≡ s)
 unfolding state_right

@@ -1,7 +1,6 @@
 -- The C structs, for each verdict. Number 0 says that nothing was refused; in a refusal every field but number and
 -- place is 0, but that of a walk's step says that it stays. Assumes nothing.
-use Rattle.std.specs.Prelude.{ℕ, List, [], ◌∷◌}
-use Rattle.std.proofs.Math.Option.{Option, none, some}
+use Rattle.std.specs.Prelude.{ℕ, List, [], ◌∷◌, Option, Some, None}
 use Rattle.lists.specs.Lists.{Bytes}
 use Rattle.lists.specs.Bytes.{byte}
 use Rattle.refusal.specs.Verdict.{Verdict, passed, refused}
@@ -9,8 +8,6 @@ use Rattle.emulation.specs.declared.unescaping.Counts.{Counts as UnescapedCounts
 use Rattle.unit.specs.declared.reading.Counts.{Counts as UnitCounts}
 use Rattle.tsobu.specs.Walk.{Found, payload, end}
 use Rattle.descriptor.specs.declared.fields.Fields.{Fields}
-use Rattle.descriptor.specs.declared.fields.Delay.{Delay}
-use Rattle.descriptor.specs.declared.fields.Delay.TheVariants.{Absent, Present}
 use Rattle.descriptor.specs.declared.fields.Video.{Video}
 use Rattle.comparison.specs.declared.Disagreement.{Disagreement}
 use Rattle.segment.specs.declared.checking.Summary.{Summary}
@@ -73,9 +70,9 @@ field_list f =
     ∷ []
 
 -- the fields; «delay_present» 1 and the delay, or 0 and 0
-abbrev pub video_answer : Fields → Delay → VideoDescriptor
-video_answer f Absent = record { number = 0; place = 0; field = field_list f; delay_present = 0; delay = 0 }
-video_answer f (Present n) = record { number = 0; place = 0; field = field_list f; delay_present = 1; delay = n }
+abbrev pub video_answer : Fields → (Option ℕ) → VideoDescriptor
+video_answer f None = record { number = 0; place = 0; field = field_list f; delay_present = 0; delay = 0 }
+video_answer f (Some n) = record { number = 0; place = 0; field = field_list f; delay_present = 1; delay = n }
 
 abbrev pub descriptor_answer : Verdict Video → VideoDescriptor
 descriptor_answer (passed v) = video_answer v.fields v.delay
@@ -108,8 +105,8 @@ fields_from field =
 -- 2026-04: "the answer gains the unit of the first header in stream order that disagrees or is cut short .., with its
 -- first differing field in descriptor order, or none", and "43 in place of the field": compared is 1 where there is one
 abbrev pub comparison_answer : Option Disagreement → Comparison
-comparison_answer none = record { compared = 0; unit = 0; field = 0 }
-comparison_answer (some d) = record { compared = 1; unit = d.unit; field = d.field }
+comparison_answer None = record { compared = 0; unit = 0; field = 0 }
+comparison_answer (Some d) = record { compared = 1; unit = d.unit; field = d.field }
 
 -- what acceptance gives
 abbrev pub accepted_with : Comparison → Summary → SegmentAnswer

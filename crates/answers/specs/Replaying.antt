@@ -1,11 +1,8 @@
 -- The C structs of a replay: its state, handed in and handed back, and its answer. Assumes nothing.
-use Rattle.std.specs.Prelude.{ℕ, Bool, ◌&&◌, ◌||◌, List, eqb}
+use Rattle.ticks.specs.declared.Ticks27.{Ticks27}
+use Rattle.std.specs.Prelude.{ℕ, Bool, ◌&&◌, ◌||◌, List, eqb, Option, Some, None}
 use Rattle.lists.specs.Lists.{pick}
 use Rattle.refusal.specs.Verdict.{Verdict, passed, refused, NoValue}
-use Rattle.replay.specs.declared.state.Last.{Last}
-use Rattle.replay.specs.declared.state.Last.TheVariants as last
-use Rattle.replay.specs.declared.state.Above.{Above}
-use Rattle.replay.specs.declared.state.Above.TheVariants as above
 use Rattle.replay.specs.declared.state.State.{State}
 use Rattle.replay.specs.Replay.{Replayed, running}
 use Rattle.answers.specs.declared.replaying.ReplayState.{ReplayState}
@@ -19,11 +16,11 @@ pair_right has value = eqb has 1 || (eqb has 0 && eqb value 0)
 unfoldable pub state_right : ReplayState → Bool
 state_right c = pair_right c.has_last c.last && pair_right c.has_above c.above
 
-unfoldable pub last_from : ℕ → ℕ → Last
-last_from has time = pick (eqb has 0) last.Never (last.At (record { 0 = time }))
+unfoldable pub last_from : ℕ → ℕ → (Option Ticks27)
+last_from has time = pick (eqb has 0) None (Some (record { 0 = time }))
 
-unfoldable pub above_from : ℕ → ℕ → Above
-above_from has index = pick (eqb has 0) above.Never (above.At index)
+unfoldable pub above_from : ℕ → ℕ → (Option ℕ)
+above_from has index = pick (eqb has 0) None (Some index)
 
 abbrev pub state_from : ReplayState → State
 state_from c =
@@ -36,21 +33,21 @@ state_from c =
     }
 
 -- ---- a state that is handed back
-abbrev pub has_last : Last → ℕ
-has_last last.Never = 0
-has_last (last.At t) = 1
+abbrev pub has_last : (Option Ticks27) → ℕ
+has_last None = 0
+has_last (Some t) = 1
 
-abbrev pub last_time : Last → ℕ
-last_time last.Never = 0
-last_time (last.At t) = t.0
+abbrev pub last_time : (Option Ticks27) → ℕ
+last_time None = 0
+last_time (Some t) = t.0
 
-abbrev pub has_above : Above → ℕ
-has_above above.Never = 0
-has_above (above.At i) = 1
+abbrev pub has_above : (Option ℕ) → ℕ
+has_above None = 0
+has_above (Some i) = 1
 
-abbrev pub above_index : Above → ℕ
-above_index above.Never = 0
-above_index (above.At i) = i
+abbrev pub above_index : (Option ℕ) → ℕ
+above_index None = 0
+above_index (Some i) = i
 
 abbrev pub state_answer : State → ReplayState
 state_answer s =

@@ -1,6 +1,5 @@
 -- The C structs of a sheet: what writing it, reading it and finding a unit in it answer. Assumes nothing.
-use Rattle.std.specs.Prelude.{ℕ}
-use Rattle.std.proofs.Math.Option.{Option, none, some}
+use Rattle.std.specs.Prelude.{ℕ, Option, Some, None}
 use Rattle.refusal.specs.Verdict.{Verdict, passed, refused}
 use Rattle.sheet.specs.declared.rows.UnitRow.{UnitRow}
 use Rattle.sheet.specs.declared.rows.Counts.{Counts}
@@ -24,7 +23,7 @@ no_unit number place =
     record { number = number; place = place; found = 0; first_packet = 0; length = 0; pts = 0; dts = 0 }
 
 abbrev pub found_answer : Verdict (Option UnitRow) → SheetFound
-found_answer (passed (some u)) =
+found_answer (passed (Some u)) =
     record {
       number = 0;
       place = 0;
@@ -34,5 +33,5 @@ found_answer (passed (some u)) =
       pts = u.pts;
       dts = u.dts;
     }
-found_answer (passed none) = no_unit 0 0
+found_answer (passed None) = no_unit 0 0
 found_answer (refused number place) = no_unit number place

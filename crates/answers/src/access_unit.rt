@@ -1,31 +1,26 @@
-// Reading, checking and writing an access unit.
+// The answer of reading or checking an access unit.
 ghost use Rattle.std.specs.Prelude.{◌≡◌};
-ghost use Rattle.unit.specs.Answer.{read_says, written_says};
-ghost use Rattle.answers.specs.Answers.{count_answer, unit_answer};
+ghost use Rattle.refusal.specs.Number.{says};
+ghost use Rattle.answers.specs.Answers.{unit_answer};
 
-use crate::answer::{Answer, counted, refusal};
-use unit::{UnitRead, Written};
+use crate::answer::Answer;
+use refusal::Refused;
+use unit::Counts;
 
-pub fn unit_answer(read: UnitRead) -> Answer
-    ensures { result ≡ unit_answer (read_says read) }
-{
-    match read {
-        UnitRead::Obus(counts) => Answer {
-            number: 0,
-            place: 0,
-            count: counts.obus as u64,
-            bytes: counts.bytes as u64,
-            dropped: counts.dropped as u64,
-        },
-        UnitRead::Refused(refused) => refusal(refused),
-    }
-}
+// The OBUs, their bytes, and the bytes dropped; or the refusal.
+impl From<Result<Counts, Refused>> for Answer {
+    ghost from_gives = { λ read answer. answer ≡ unit_answer (says read) };
 
-pub fn unit_written(written: Written) -> Answer
-    ensures { result ≡ count_answer (written_says written) }
-{
-    match written {
-        Written::Bytes(n) => counted(n),
-        Written::Refused(refused) => refusal(refused),
+    fn from(read: Result<Counts, Refused>) -> Answer {
+        match read {
+            Ok(counts) => Answer {
+                number: 0,
+                place: 0,
+                count: counts.obus as u64,
+                bytes: counts.bytes as u64,
+                dropped: counts.dropped as u64,
+            },
+            Err(refused) => refused.into(),
+        }
     }
 }

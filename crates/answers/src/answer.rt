@@ -1,14 +1,13 @@
-// The answer that most exported functions give, and the number of a refusal.
+// The answer that most exported functions give, and what the library's results are in it.
 ghost use Rattle.std.specs.Prelude.{◌≡◌};
-ghost use Rattle.refusal.specs.Verdict.{passed};
-ghost use Rattle.refusal.specs.Number.{number_of};
+ghost use Rattle.refusal.specs.Number.{number_of, says};
 ghost use Rattle.answers.specs.Answers.{refusal_answer, count_answer};
 
 use refusal::Refused;
 
 // number 0: no refusal.
 #[repr(C)]
-#[derive(Drop)]
+#[derive(Default, Drop)]
 pub struct Answer {
     pub number: u64,
     pub place: u64,
@@ -17,34 +16,30 @@ pub struct Answer {
     pub dropped: u64,
 }
 
-pub(crate) fn number_of(r: Refused) -> u64
-    ensures { result ≡ number_of r.why }
-{
-    let why = r.why;
-    why.number() as u64
-}
+// A refusal's number and place.
+impl From<Refused> for Answer {
+    ghost from_gives = { λ refused answer. answer ≡ refusal_answer (number_of refused.why) refused.place };
 
-pub(crate) fn refusal(r: Refused) -> Answer
-    ensures { result ≡ refusal_answer (number_of r.why) r.place }
-{
-    Answer {
-        number: number_of(r),
-        place: r.place as u64,
-        count: 0,
-        bytes: 0,
-        dropped: 0,
+    fn from(refused: Refused) -> Answer {
+        Answer {
+            number: refused.why.number() as u64,
+            place: refused.place as u64,
+            ..Answer::default()
+        }
     }
 }
 
-// So many bytes were written.
-pub(crate) fn counted(n: usize) -> Answer
-    ensures { result ≡ count_answer (passed n) }
-{
-    Answer {
-        number: 0,
-        place: 0,
-        count: n as u64,
-        bytes: 0,
-        dropped: 0,
+// How many bytes were written, or the refusal.
+impl From<Result<usize, Refused>> for Answer {
+    ghost from_gives = { λ written answer. answer ≡ count_answer (says written) };
+
+    fn from(written: Result<usize, Refused>) -> Answer {
+        match written {
+            Ok(count) => Answer {
+                count: count as u64,
+                ..Answer::default()
+            },
+            Err(refused) => refused.into(),
+        }
     }
 }

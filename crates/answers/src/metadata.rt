@@ -1,12 +1,10 @@
 // Reading and writing the mastering figures of metadata_hdr_mdcv.
 ghost use Rattle.std.specs.Prelude.{◌≡◌};
-ghost use Rattle.mastering.specs.Figures.{read_says};
-ghost use Rattle.mastering.specs.Steps.{written_says};
-ghost use Rattle.answers.specs.Answers.{count_answer};
+ghost use Rattle.refusal.specs.Number.{says};
 ghost use Rattle.answers.specs.Metadata.{figure_list, mastering_answer, steps_from};
 
-use crate::answer::{Answer, counted, number_of, refusal};
-use mastering::{Figures, MasteringRead, Steps, Written};
+use mastering::{Figures, Steps};
+use refusal::Refused;
 
 // The ten figures, in the content's order.
 #[repr(C)]
@@ -14,6 +12,7 @@ use mastering::{Figures, MasteringRead, Steps, Written};
 pub struct MasteringAnswer {
     pub number: u64,
     pub place: u64,
+    // Stays: the C interface has this array (av1ts_mastering in include/av1ts.h).
     pub figure: [f64; 10],
 }
 
@@ -35,24 +34,28 @@ fn figure_list(figures: Figures) -> [f64; 10]
     ]
 }
 
-pub fn mastering_answer(read: MasteringRead) -> MasteringAnswer
-    ensures { result ≡ mastering_answer (read_says read) }
-{
-    match read {
-        MasteringRead::Figures(figures) => MasteringAnswer {
-            number: 0,
-            place: 0,
-            figure: figure_list(figures),
-        },
-        MasteringRead::Refused(refused) => MasteringAnswer {
-            number: number_of(refused),
-            place: refused.place as u64,
-            figure: [0.0f64; 10],
-        },
+// The figures, or the refusal.
+impl From<Result<Figures, Refused>> for MasteringAnswer {
+    ghost from_gives = { λ read answer. answer ≡ mastering_answer (says read) };
+
+    fn from(read: Result<Figures, Refused>) -> MasteringAnswer {
+        match read {
+            Ok(figures) => MasteringAnswer {
+                number: 0,
+                place: 0,
+                figure: figure_list(figures),
+            },
+            Err(refused) => MasteringAnswer {
+                number: refused.why.number() as u64,
+                place: refused.place as u64,
+                figure: [0.0; 10],
+            },
+        }
     }
 }
 
 // The whole numbers of ST 2086, from an array of them in the content's order.
+// Stays: docs/PROMISES.md names it; `From` could stand beside `Steps` alone, and this order is the C interface's.
 pub fn steps_from(value: &[u64; 10]) -> Steps
     ensures { result ≡ steps_from value.now }
 {
@@ -67,14 +70,5 @@ pub fn steps_from(value: &[u64; 10]) -> Steps
         white_y: value[7],
         luminance_max: value[8],
         luminance_min: value[9],
-    }
-}
-
-pub fn mastering_written(written: Written) -> Answer
-    ensures { result ≡ count_answer (written_says written) }
-{
-    match written {
-        Written::Bytes(n) => counted(n),
-        Written::Refused(refused) => refusal(refused),
     }
 }

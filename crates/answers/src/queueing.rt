@@ -1,13 +1,12 @@
 // The queue of the segment writer, and what send answers.
-ghost use Rattle.std.specs.Prelude.{◌≡◌, ◌<◌};
-ghost use Rattle.queue.specs.Answer.{add_says, says_empty};
-ghost use Rattle.mux_rules.specs.Sending.{send_says};
-ghost use Rattle.answers.specs.Queueing.{slot_from, slot_at, queue_from, mark, state_of, channel_from, channel_state};
+ghost use Rattle.refusal.specs.Number.{says};
+ghost use Rattle.std.specs.Prelude.{◌≡◌, ◌<◌, not};
+ghost use Rattle.answers.specs.Queueing.{slot_at, queue_from, state_of, channel_from, channel_state};
 ghost use Rattle.answers.specs.Queueing.{add_answer, drop_answer, sent_answer};
 
-use crate::answer::number_of;
-use mux_rules::{Channel, SendAnswer, Sent};
-use queue::{AddAnswer, Added, DropAnswer, Dropped, Queue, Queued};
+use mux_rules::{Channel, Written};
+use queue::{Queue, Queued};
+use refusal::Refused;
 use ticks::{Ticks27, Ticks90};
 
 // Of each of the first `units` units, oldest first: its length in the store, its times, and its mark, 0 or 1; the rest
@@ -16,6 +15,7 @@ use ticks::{Ticks27, Ticks90};
 #[derive(Clone, Copy)]
 pub struct QueueState {
     pub units: u64,
+    // Stays: the C interface has these four arrays (av1ts_queue in include/av1ts.h).
     pub length: [u64; 8],
     pub pts: [u64; 8],
     pub dts: [u64; 8],
@@ -58,182 +58,161 @@ pub struct SentAnswer {
     pub queue: QueueState,
 }
 
-fn slot_from(length: u64, pts: u64, dts: u64, marked: u64) -> Queued
-    ensures { result ≡ slot_from length pts dts marked }
+// The unit in a slot of the struct.
+fn slot_at(state: &QueueState, i: usize) -> Queued
+    requires { i < 8 }
+    ensures { result ≡ slot_at state.now i }
 {
     Queued {
-        length: length as usize,
-        pts: Ticks90(pts),
-        dts: Ticks90(dts),
-        marked: marked != 0,
+        length: state.length[i] as usize,
+        pts: Ticks90(state.pts[i]),
+        dts: Ticks90(state.dts[i]),
+        marked: state.marked[i] != 0,
     }
-}
-
-fn slot_at(state: QueueState, i: usize) -> Queued
-    requires { i < 8 }
-    ensures { result ≡ slot_at state i }
-{
-    slot_from(state.length[i], state.pts[i], state.dts[i], state.marked[i])
 }
 
 // The queue that was handed in.
-pub fn queue_from(state: QueueState) -> Queue
-    ensures { result ≡ queue_from state }
-{
-    Queue {
-        count: state.units as usize,
-        units: [
-            slot_at(state, 0),
-            slot_at(state, 1),
-            slot_at(state, 2),
-            slot_at(state, 3),
-            slot_at(state, 4),
-            slot_at(state, 5),
-            slot_at(state, 6),
-            slot_at(state, 7),
-        ],
-        total: state.total as usize,
-    }
-}
+impl From<QueueState> for Queue {
+    ghost from_gives = { λ handed queue. queue ≡ queue_from handed };
 
-fn mark(marked: bool) -> u64
-    ensures { result ≡ mark marked }
-{
-    if marked {
-        return 1;
+    fn from(handed: QueueState) -> Queue {
+        Queue {
+            count: handed.units as usize,
+            units: [
+                slot_at(&handed, 0),
+                slot_at(&handed, 1),
+                slot_at(&handed, 2),
+                slot_at(&handed, 3),
+                slot_at(&handed, 4),
+                slot_at(&handed, 5),
+                slot_at(&handed, 6),
+                slot_at(&handed, 7),
+            ],
+            total: handed.total as usize,
+        }
     }
-    0
 }
 
 // The queue to hand back.
-pub fn state_of(queue: Queue) -> QueueState
-    ensures { result ≡ state_of queue }
-{
-    let units = queue.units;
-    let mut length = [0u64; 8];
-    let mut pts = [0u64; 8];
-    let mut dts = [0u64; 8];
-    let mut marked = [0u64; 8];
-    let mut i: usize = 0;
-    while i < 8 {
-        let unit = units[i];
-        length[i] = unit.length as u64;
-        pts[i] = unit.pts.0;
-        dts[i] = unit.dts.0;
-        marked[i] = mark(unit.marked);
-        i += 1;
-    }
-    QueueState {
-        units: queue.count as u64,
-        length,
-        pts,
-        dts,
-        marked,
-        total: queue.total as u64,
+impl From<Queue> for QueueState {
+    ghost from_gives = { λ queue handed. handed ≡ state_of queue };
+
+    fn from(queue: Queue) -> QueueState {
+        let mut length = [0u64; 8];
+        let mut pts = [0u64; 8];
+        let mut dts = [0u64; 8];
+        let mut marked = [0u64; 8];
+        for i in 0..8 {
+            let unit = queue.units[i];
+            length[i] = unit.length as u64;
+            pts[i] = unit.pts.0;
+            dts[i] = unit.dts.0;
+            marked[i] = unit.marked as u64;
+        }
+        QueueState {
+            units: queue.count as u64,
+            length,
+            pts,
+            dts,
+            marked,
+            total: queue.total as u64,
+        }
     }
 }
 
 // The channel that was handed in.
-pub fn channel_from(state: ChannelState) -> Channel
-    ensures { result ≡ channel_from state }
-{
-    Channel {
-        program: state.program,
-        map_pid: state.map_pid,
-        av1_pid: state.av1_pid,
-        pcr: Ticks27(state.pcr),
-        pat_counter: state.pat_counter,
-        map_counter: state.map_counter,
-        av1_counter: state.av1_counter,
+impl From<ChannelState> for Channel {
+    ghost from_gives = { λ handed channel. channel ≡ channel_from handed };
+
+    fn from(handed: ChannelState) -> Channel {
+        Channel {
+            program: handed.program,
+            map_pid: handed.map_pid,
+            av1_pid: handed.av1_pid,
+            pcr: Ticks27(handed.pcr),
+            pat_counter: handed.pat_counter,
+            map_counter: handed.map_counter,
+            av1_counter: handed.av1_counter,
+        }
     }
 }
 
 // The channel to hand back.
-fn channel_state(channel: Channel) -> ChannelState
-    ensures { result ≡ channel_state channel }
-{
-    ChannelState {
-        program: channel.program,
-        map_pid: channel.map_pid,
-        av1_pid: channel.av1_pid,
-        pcr: channel.pcr.0,
-        pat_counter: channel.pat_counter,
-        map_counter: channel.map_counter,
-        av1_counter: channel.av1_counter,
+impl From<Channel> for ChannelState {
+    ghost from_gives = { λ channel handed. handed ≡ channel_state channel };
+
+    fn from(channel: Channel) -> ChannelState {
+        ChannelState {
+            program: channel.program,
+            map_pid: channel.map_pid,
+            av1_pid: channel.av1_pid,
+            pcr: channel.pcr.0,
+            pat_counter: channel.pat_counter,
+            map_counter: channel.map_counter,
+            av1_counter: channel.av1_counter,
+        }
     }
 }
 
-// What add answered, and the queue then.
-pub fn add_answer(added: Added) -> QueuedAnswer
-    ensures { result ≡ add_answer (add_says added.answer) added.queue }
-{
-    let queue = added.queue;
-    let state = state_of(queue);
-    let answer = added.answer;
-    match answer {
-        AddAnswer::Added => QueuedAnswer {
+impl QueuedAnswer {
+    // Returns what add answered, and the queue then.
+    pub fn added(answer: Result<(), Refused>, queue: Queue) -> QueuedAnswer
+        ensures { result ≡ add_answer (says answer) queue }
+    {
+        let queue = queue.into();
+        match answer {
+            Ok(()) => QueuedAnswer {
+                number: 0,
+                place: 0,
+                empty: 0,
+                queue,
+            },
+            Err(refused) => QueuedAnswer {
+                number: refused.why.number() as u64,
+                place: refused.place as u64,
+                empty: 0,
+                queue,
+            },
+        }
+    }
+
+    // Returns whether drop dropped a unit, and the queue then.
+    pub fn dropped(dropped: bool, queue: Queue) -> QueuedAnswer
+        ensures { result ≡ drop_answer (not dropped) queue }
+    {
+        QueuedAnswer {
             number: 0,
             place: 0,
-            empty: 0,
-            queue: state,
-        },
-        AddAnswer::Refused(refused) => QueuedAnswer {
-            number: number_of(refused),
-            place: refused.place as u64,
-            empty: 0,
-            queue: state,
-        },
+            empty: !dropped as u64,
+            queue: queue.into(),
+        }
     }
 }
 
-// What drop answered, and the queue then.
-pub fn drop_answer(dropped: Dropped) -> QueuedAnswer
-    ensures { result ≡ drop_answer (says_empty dropped.answer) dropped.queue }
-{
-    let queue = dropped.queue;
-    let state = state_of(queue);
-    let answer = dropped.answer;
-    match answer {
-        DropAnswer::Dropped => QueuedAnswer {
-            number: 0,
-            place: 0,
-            empty: 0,
-            queue: state,
-        },
-        DropAnswer::Empty => QueuedAnswer {
-            number: 0,
-            place: 0,
-            empty: 1,
-            queue: state,
-        },
-    }
-}
-
-// What send answered, and channel and queue then.
-pub fn sent_answer(sent: Sent) -> SentAnswer
-    ensures { result ≡ sent_answer (send_says sent.answer) sent.next sent.queue }
-{
-    let queue = sent.queue;
-    let state = state_of(queue);
-    let channel = sent.next;
-    let next = channel_state(channel);
-    let answer = sent.answer;
-    match answer {
-        SendAnswer::Sent(written) => SentAnswer {
-            number: 0,
-            place: 0,
-            bytes: written.bytes as u64,
-            packets: written.packets as u64,
-            next,
-            queue: state,
-        },
-        SendAnswer::Refused(refused) => SentAnswer {
-            number: number_of(refused),
-            place: refused.place as u64,
-            bytes: 0,
-            packets: 0,
-            next,
-            queue: state,
-        },
+impl SentAnswer {
+    // Returns what send answered, and the channel and the queue then.
+    pub fn sent(answer: Result<Written, Refused>, channel: Channel, queue: Queue) -> SentAnswer
+        ensures { result ≡ sent_answer (says answer) channel queue }
+    {
+        let next = channel.into();
+        let queue = queue.into();
+        match answer {
+            Ok(written) => SentAnswer {
+                number: 0,
+                place: 0,
+                bytes: written.bytes as u64,
+                packets: written.packets as u64,
+                next,
+                queue,
+            },
+            Err(refused) => SentAnswer {
+                number: refused.why.number() as u64,
+                place: refused.place as u64,
+                bytes: 0,
+                packets: 0,
+                next,
+                queue,
+            },
+        }
     }
 }

@@ -1,14 +1,14 @@
 // Rewriting the AV1 video descriptor of an old recording.
 ghost use Rattle.std.specs.Prelude.{◌≡◌};
-ghost use Rattle.descriptor.specs.Descriptor.{rewritten_says};
+ghost use Rattle.refusal.specs.Number.{says};
 ghost use Rattle.answers.specs.Rewriting.{rewrite_answer};
 
-use crate::answer::number_of;
-use descriptor::Rewritten;
+use descriptor::Outcome;
+use refusal::Refused;
 
 // count: the bytes written; dropped_delay 1: the descriptor had a delay, which is not written.
 #[repr(C)]
-#[derive(Drop)]
+#[derive(Default, Drop)]
 pub struct RewriteAnswer {
     pub number: u64,
     pub place: u64,
@@ -16,21 +16,21 @@ pub struct RewriteAnswer {
     pub dropped_delay: u64,
 }
 
-pub fn rewrite_answer(rewritten: Rewritten) -> RewriteAnswer
-    ensures { result ≡ rewrite_answer (rewritten_says rewritten) }
-{
-    match rewritten {
-        Rewritten::Bytes(outcome) => RewriteAnswer {
-            number: 0,
-            place: 0,
-            count: outcome.bytes as u64,
-            dropped_delay: outcome.dropped_delay as u64,
-        },
-        Rewritten::Refused(refused) => RewriteAnswer {
-            number: number_of(refused),
-            place: refused.place as u64,
-            count: 0,
-            dropped_delay: 0,
-        },
+impl From<Result<Outcome, Refused>> for RewriteAnswer {
+    ghost from_gives = { λ rewritten answer. answer ≡ rewrite_answer (says rewritten) };
+
+    fn from(rewritten: Result<Outcome, Refused>) -> RewriteAnswer {
+        match rewritten {
+            Ok(outcome) => RewriteAnswer {
+                count: outcome.bytes as u64,
+                dropped_delay: outcome.dropped_delay as u64,
+                ..RewriteAnswer::default()
+            },
+            Err(refused) => RewriteAnswer {
+                number: refused.why.number() as u64,
+                place: refused.place as u64,
+                ..RewriteAnswer::default()
+            },
+        }
     }
 }

@@ -1,15 +1,15 @@
 // Salvaging a damaged unit.
 ghost use Rattle.std.specs.Prelude.{◌≡◌};
-ghost use Rattle.salvage.specs.Salvage.{salvage_says};
+ghost use Rattle.refusal.specs.Number.{says};
 ghost use Rattle.answers.specs.Salvaging.{salvage_answer};
 
-use crate::answer::number_of;
-use salvage::Salvaged;
+use refusal::Refused;
+use salvage::Figures;
 
 // bytes: the bytes written; tsobus: those of the unit, and how many were kept; leading: the bytes dropped before the
 // first start code; accepted 1: reading accepts what was written.
 #[repr(C)]
-#[derive(Drop)]
+#[derive(Default, Drop)]
 pub struct SalvageAnswer {
     pub number: u64,
     pub place: u64,
@@ -20,27 +20,25 @@ pub struct SalvageAnswer {
     pub accepted: u64,
 }
 
-pub fn salvage_answer(salvaged: Salvaged) -> SalvageAnswer
-    ensures { result ≡ salvage_answer (salvage_says salvaged) }
-{
-    match salvaged {
-        Salvaged::Result(figures) => SalvageAnswer {
-            number: 0,
-            place: 0,
-            bytes: figures.bytes as u64,
-            tsobus: figures.tsobus as u64,
-            kept: figures.kept as u64,
-            leading: figures.leading as u64,
-            accepted: figures.accepted as u64,
-        },
-        Salvaged::Refused(refused) => SalvageAnswer {
-            number: number_of(refused),
-            place: refused.place as u64,
-            bytes: 0,
-            tsobus: 0,
-            kept: 0,
-            leading: 0,
-            accepted: 0,
-        },
+impl From<Result<Figures, Refused>> for SalvageAnswer {
+    ghost from_gives = { λ salvaged answer. answer ≡ salvage_answer (says salvaged) };
+
+    fn from(salvaged: Result<Figures, Refused>) -> SalvageAnswer {
+        match salvaged {
+            Ok(figures) => SalvageAnswer {
+                number: 0,
+                place: 0,
+                bytes: figures.bytes as u64,
+                tsobus: figures.tsobus as u64,
+                kept: figures.kept as u64,
+                leading: figures.leading as u64,
+                accepted: figures.accepted as u64,
+            },
+            Err(refused) => SalvageAnswer {
+                number: refused.why.number() as u64,
+                place: refused.place as u64,
+                ..SalvageAnswer::default()
+            },
+        }
     }
 }

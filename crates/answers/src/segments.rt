@@ -1,18 +1,16 @@
 // Checking a segment and extracting its access units.
 ghost use Rattle.std.specs.Prelude.{◌≡◌};
-ghost use Rattle.refusal.specs.Number.{number_of};
-ghost use Rattle.comparison.specs.Comparison.{disagreed_says};
-ghost use Rattle.segment.specs.Answer.{check_says};
-ghost use Rattle.answers.specs.Answers.{comparison_answer, accepted_answer, refused_answer, segment_answer};
+ghost use Rattle.refusal.specs.Number.{says};
+ghost use Rattle.segment.specs.Answer.{answered};
+ghost use Rattle.answers.specs.Answers.{comparison_answer, accepted_answer, segment_answer};
 
-use crate::answer::number_of;
-use comparison::Disagreed;
+use comparison::Disagreement;
 use refusal::Refused;
-use segment::{Answered, SegmentCheck, Summary};
+use segment::{Compared, Summary};
 
 // number 0: the segment is accepted. compared 1: a sequence header disagrees with the video descriptor or is cut short.
 #[repr(C)]
-#[derive(Drop)]
+#[derive(Default, Drop)]
 pub struct SegmentAnswer {
     pub number: u64,
     pub place: u64,
@@ -30,35 +28,33 @@ pub struct SegmentAnswer {
 }
 
 // The last three fields of the answer.
-#[derive(Drop)]
+#[derive(Default, Drop)]
 struct Comparison {
     compared: u64,
     unit: u64,
     field: u64,
 }
 
-fn compared(disagreement: Disagreed) -> Comparison
-    ensures { result ≡ comparison_answer (disagreed_says disagreement) }
-{
-    match disagreement {
-        Disagreed::None => Comparison {
-            compared: 0,
-            unit: 0,
-            field: 0,
-        },
-        Disagreed::First(first) => Comparison {
-            compared: 1,
-            unit: first.unit as u64,
-            field: first.field as u64,
-        },
+impl From<Option<Disagreement>> for Comparison {
+    ghost from_gives = { λ disagreement last. last ≡ comparison_answer disagreement };
+
+    fn from(disagreement: Option<Disagreement>) -> Comparison {
+        match disagreement {
+            None => Comparison::default(),
+            Some(first) => Comparison {
+                compared: 1,
+                unit: first.unit as u64,
+                field: first.field as u64,
+            },
+        }
     }
 }
 
-fn accepted(summary: Summary, disagreement: Disagreed) -> SegmentAnswer
-    ensures { result ≡ accepted_answer summary (disagreed_says disagreement) }
+fn accepted(summary: Summary, disagreement: Option<Disagreement>) -> SegmentAnswer
+    ensures { result ≡ accepted_answer summary disagreement }
 {
     let totals = summary.totals;
-    let last = compared(disagreement);
+    let last = Comparison::from(disagreement);
     SegmentAnswer {
         number: 0,
         place: 0,
@@ -76,39 +72,19 @@ fn accepted(summary: Summary, disagreement: Disagreed) -> SegmentAnswer
     }
 }
 
-fn segment_refusal(r: Refused) -> SegmentAnswer
-    ensures { result ≡ refused_answer (number_of r.why) r.place }
-{
-    SegmentAnswer {
-        number: number_of(r),
-        place: r.place as u64,
-        program: 0,
-        pid: 0,
-        units: 0,
-        null_packets: 0,
-        section: 0,
-        av1: 0,
-        other_listed: 0,
-        unlisted: 0,
-        compared: 0,
-        unit: 0,
-        field: 0,
-    }
-}
+// The summary of an accepted segment with its disagreement, or the refusal.
+impl From<Result<Compared, Refused>> for SegmentAnswer {
+    ghost from_gives = { λ checked answer. answer
+        ≡ segment_answer (says (answered checked).answer) (answered checked).disagreement };
 
-fn answer_of(checked: SegmentCheck, disagreement: Disagreed) -> SegmentAnswer
-    ensures { result ≡ segment_answer (check_says checked) (disagreed_says disagreement) }
-{
-    match checked {
-        SegmentCheck::Accepted(summary) => accepted(summary, disagreement),
-        SegmentCheck::Refused(refused) => segment_refusal(refused),
+    fn from(checked: Result<Compared, Refused>) -> SegmentAnswer {
+        match checked {
+            Ok(compared) => accepted(compared.summary, compared.disagreement),
+            Err(refused) => SegmentAnswer {
+                number: refused.why.number() as u64,
+                place: refused.place as u64,
+                ..SegmentAnswer::default()
+            },
+        }
     }
-}
-
-pub fn segment_answer(answered: Answered) -> SegmentAnswer
-    ensures { result ≡ segment_answer (check_says answered.answer) (disagreed_says answered.disagreement) }
-{
-    let checked = answered.answer;
-    let disagreement = answered.disagreement;
-    answer_of(checked, disagreement)
 }

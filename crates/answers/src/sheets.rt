@@ -1,16 +1,14 @@
 // The sheet beside a segment: writing it, reading it, and finding a unit in it.
 ghost use Rattle.std.specs.Prelude.{◌≡◌};
-ghost use Rattle.sheet.specs.Answer.{read_says, found_says};
-ghost use Rattle.segment_sheet.specs.Answer.{written_says};
-ghost use Rattle.answers.specs.Sheets.{written_answer, sheet_answer, no_unit, found_answer};
+ghost use Rattle.refusal.specs.Number.{says};
+ghost use Rattle.answers.specs.Sheets.{written_answer, sheet_answer, found_answer};
 
-use crate::answer::number_of;
-use segment_sheet::Written;
-use sheet::{Found, SheetRead};
+use refusal::Refused;
+use sheet::{Counts, UnitRow};
 
 // count: the bytes of the sheet.
 #[repr(C)]
-#[derive(Drop)]
+#[derive(Default, Drop)]
 pub struct SheetWritten {
     pub number: u64,
     pub place: u64,
@@ -19,7 +17,7 @@ pub struct SheetWritten {
 
 // The streams, units and OBUs of the sheet.
 #[repr(C)]
-#[derive(Drop)]
+#[derive(Default, Drop)]
 pub struct SheetAnswer {
     pub number: u64,
     pub place: u64,
@@ -30,7 +28,7 @@ pub struct SheetAnswer {
 
 // found 0: there is no unit of this number, and the other fields are 0.
 #[repr(C)]
-#[derive(Drop)]
+#[derive(Default, Drop)]
 pub struct SheetFound {
     pub number: u64,
     pub place: u64,
@@ -42,75 +40,67 @@ pub struct SheetFound {
 }
 
 // What writing answered.
-pub fn sheet_written(answer: Written) -> SheetWritten
-    ensures { result ≡ written_answer (written_says answer) }
-{
-    match answer {
-        Written::Length(count) => SheetWritten {
-            number: 0,
-            place: 0,
-            count: count as u64,
-        },
-        Written::Refused(refused) => SheetWritten {
-            number: number_of(refused),
-            place: refused.place as u64,
-            count: 0,
-        },
+impl From<Result<usize, Refused>> for SheetWritten {
+    ghost from_gives = { λ written answer. answer ≡ written_answer (says written) };
+
+    fn from(written: Result<usize, Refused>) -> SheetWritten {
+        match written {
+            Ok(count) => SheetWritten {
+                count: count as u64,
+                ..SheetWritten::default()
+            },
+            Err(refused) => SheetWritten {
+                number: refused.why.number() as u64,
+                place: refused.place as u64,
+                count: 0,
+            },
+        }
     }
 }
 
 // What reading answered.
-pub fn sheet_answer(answer: SheetRead) -> SheetAnswer
-    ensures { result ≡ sheet_answer (read_says answer) }
-{
-    match answer {
-        SheetRead::Counts(counts) => SheetAnswer {
-            number: 0,
-            place: 0,
-            streams: counts.streams,
-            units: counts.units,
-            obus: counts.obus,
-        },
-        SheetRead::Refused(refused) => SheetAnswer {
-            number: number_of(refused),
-            place: refused.place as u64,
-            streams: 0,
-            units: 0,
-            obus: 0,
-        },
+impl From<Result<Counts, Refused>> for SheetAnswer {
+    ghost from_gives = { λ read answer. answer ≡ sheet_answer (says read) };
+
+    fn from(read: Result<Counts, Refused>) -> SheetAnswer {
+        match read {
+            Ok(counts) => SheetAnswer {
+                number: 0,
+                place: 0,
+                streams: counts.streams,
+                units: counts.units,
+                obus: counts.obus,
+            },
+            Err(refused) => SheetAnswer {
+                number: refused.why.number() as u64,
+                place: refused.place as u64,
+                ..SheetAnswer::default()
+            },
+        }
     }
 }
 
 // What finding answered.
-pub fn found_answer(answer: Found) -> SheetFound
-    ensures { result ≡ found_answer (found_says answer) }
-{
-    match answer {
-        Found::Unit(row) => SheetFound {
-            number: 0,
-            place: 0,
-            found: 1,
-            first_packet: row.first_packet,
-            length: row.length,
-            pts: row.pts,
-            dts: row.dts,
-        },
-        Found::None => no_unit(0, 0),
-        Found::Refused(refused) => { no_unit(number_of(refused), refused.place as u64) }
-    }
-}
+impl From<Result<Option<UnitRow>, Refused>> for SheetFound {
+    ghost from_gives = { λ found answer. answer ≡ found_answer (says found) };
 
-// Nothing but a number and a place.
-fn no_unit(number: u64, place: u64) -> SheetFound
-    ensures { result ≡ no_unit number place }
-{
-    SheetFound {
-        number,
-        place,
-        found: 0,
-        first_packet: 0,
-        length: 0,
-        pts: 0,
-        dts: 0,
+    fn from(found: Result<Option<UnitRow>, Refused>) -> SheetFound {
+        match found {
+            Ok(Some(row)) => SheetFound {
+                number: 0,
+                place: 0,
+                found: 1,
+                first_packet: row.first_packet,
+                length: row.length,
+                pts: row.pts,
+                dts: row.dts,
+            },
+            Ok(None) => SheetFound::default(),
+            Err(refused) => SheetFound {
+                number: refused.why.number() as u64,
+                place: refused.place as u64,
+                ..SheetFound::default()
+            },
+        }
     }
 }

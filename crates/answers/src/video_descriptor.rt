@@ -1,10 +1,10 @@
 // Reading and writing the AV1 video descriptor.
 ghost use Rattle.std.specs.Prelude.{◌≡◌};
-ghost use Rattle.descriptor.specs.Descriptor.{read_says, written_says};
-ghost use Rattle.answers.specs.Answers.{count_answer, field_list, video_answer, descriptor_answer, fields_from};
+ghost use Rattle.refusal.specs.Number.{says};
+ghost use Rattle.answers.specs.Answers.{field_list, descriptor_answer, fields_from};
 
-use crate::answer::{Answer, counted, number_of, refusal};
-use descriptor::{Delay, Fields, VideoRead, Written};
+use descriptor::{Fields, Video};
+use refusal::Refused;
 
 // The ten fields, in descriptor order; delay_present 1: the delay is present.
 #[repr(C)]
@@ -12,6 +12,7 @@ use descriptor::{Delay, Fields, VideoRead, Written};
 pub struct VideoDescriptor {
     pub number: u64,
     pub place: u64,
+    // Stays: the C interface has this array (av1ts_descriptor in include/av1ts.h).
     pub field: [u64; 10],
     pub delay_present: u64,
     pub delay: u64,
@@ -35,48 +36,32 @@ fn field_list(fields: Fields) -> [u64; 10]
     ]
 }
 
-fn video_answer(fields: Fields, delay: Delay) -> VideoDescriptor
-    ensures { result ≡ video_answer fields delay }
-{
-    let field = field_list(fields);
-    match delay {
-        Delay::Absent => VideoDescriptor {
-            number: 0,
-            place: 0,
-            field,
-            delay_present: 0,
-            delay: 0,
-        },
-        Delay::Present(n) => VideoDescriptor {
-            number: 0,
-            place: 0,
-            field,
-            delay_present: 1,
-            delay: n as u64,
-        },
-    }
-}
+// The fields and the delay, or the refusal.
+impl From<Result<Video, Refused>> for VideoDescriptor {
+    ghost from_gives = { λ read answer. answer ≡ descriptor_answer (says read) };
 
-pub fn descriptor_answer(read: VideoRead) -> VideoDescriptor
-    ensures { result ≡ descriptor_answer (read_says read) }
-{
-    match read {
-        VideoRead::Video(video) => {
-            let fields = video.fields;
-            let delay = video.delay;
-            video_answer(fields, delay)
+    fn from(read: Result<Video, Refused>) -> VideoDescriptor {
+        match read {
+            Ok(video) => VideoDescriptor {
+                number: 0,
+                place: 0,
+                field: field_list(video.fields),
+                delay_present: video.delay.is_some() as u64,
+                delay: video.delay.unwrap_or(0) as u64,
+            },
+            Err(refused) => VideoDescriptor {
+                number: refused.why.number() as u64,
+                place: refused.place as u64,
+                field: [0; 10],
+                delay_present: 0,
+                delay: 0,
+            },
         }
-        VideoRead::Refused(refused) => VideoDescriptor {
-            number: number_of(refused),
-            place: refused.place as u64,
-            field: [0u64; 10],
-            delay_present: 0,
-            delay: 0,
-        },
     }
 }
 
 // The fields, from an array of them.
+// Stays: docs/PROMISES.md names it; `From` could stand beside `Fields` alone, and this order is the C interface's.
 pub fn fields_from(field: &[u8; 10]) -> Fields
     ensures { result ≡ fields_from field.now }
 {
@@ -91,14 +76,5 @@ pub fn fields_from(field: &[u8; 10]) -> Fields
         chroma_subsampling_y: field[7],
         chroma_sample_position: field[8],
         hdr_wcg_idc: field[9],
-    }
-}
-
-pub fn descriptor_written(written: Written) -> Answer
-    ensures { result ≡ count_answer (written_says written) }
-{
-    match written {
-        Written::Bytes(n) => counted(n),
-        Written::Refused(refused) => refusal(refused),
     }
 }

@@ -1,15 +1,16 @@
 // The walk over a carried unit, a step a call.
 ghost use Rattle.std.specs.Prelude.{◌≡◌};
-ghost use Rattle.tsobu.specs.Walk.{started_says, step_says};
-ghost use Rattle.answers.specs.Answers.{no_payload, start_answer, step_answer};
+ghost use Rattle.refusal.specs.Number.{says};
+ghost use Rattle.tsobu.specs.Walk.{step_says};
+ghost use Rattle.answers.specs.Answers.{start_answer, step_answer};
 
-use crate::answer::number_of;
-use tsobu::{Started, Step};
+use refusal::Refused;
+use tsobu::Part;
 
 // end 1: the walk has come to the end. Otherwise, with number 0, a payload: where it begins, its length, and the place
 // of the next step.
 #[repr(C)]
-#[derive(Drop)]
+#[derive(Default, Drop)]
 pub struct WalkStep {
     pub number: u64,
     pub place: u64,
@@ -19,45 +20,50 @@ pub struct WalkStep {
     pub next_at: u64,
 }
 
-fn no_payload(number: u64, place: u64, end: u64, next_at: u64) -> WalkStep
-    ensures { result ≡ no_payload number place end next_at }
-{
-    WalkStep {
-        number,
-        place,
-        end,
-        start: 0,
-        length: 0,
-        next_at,
+// The place of the first step, or the refusal.
+impl From<Result<usize, Refused>> for WalkStep {
+    ghost from_gives = { λ started step. step ≡ start_answer (says started) };
+
+    fn from(started: Result<usize, Refused>) -> WalkStep {
+        match started {
+            Ok(at) => WalkStep {
+                next_at: at as u64,
+                ..WalkStep::default()
+            },
+            Err(refused) => WalkStep {
+                number: refused.why.number() as u64,
+                place: refused.place as u64,
+                ..WalkStep::default()
+            },
+        }
     }
 }
 
-pub fn start_answer(started: Started) -> WalkStep
-    ensures { result ≡ start_answer (started_says started) }
-{
-    match started {
-        Started::At(at) => no_payload(0, 0, 0, at as u64),
-        Started::Refused(refused) => { no_payload(number_of(refused), refused.place as u64, 0, 0) }
-    }
-}
-
-// The step that was made at this place.
-pub fn step_answer(at: usize, step: Step) -> WalkStep
+// The step that was made at this place. At the end and at a refusal the walk stays there.
+// Stays: `From` of the step alone does not know the place, which the C interface hands out beside it.
+pub fn step_answer(at: usize, step: Result<Option<Part>, Refused>) -> WalkStep
     ensures { result ≡ step_answer at (step_says step) }
 {
     match step {
-        Step::Payload(part) => WalkStep {
-            number: 0,
-            place: 0,
-            end: 0,
+        Ok(Some(part)) => WalkStep {
             start: part.start as u64,
             length: part.bytes as u64,
             next_at: part.next as u64,
+            ..WalkStep::default()
         },
-        Step::End => no_payload(0, 0, 1, at as u64),
-        Step::Refused(refused) => {
+        Ok(None) => WalkStep {
+            end: 1,
+            next_at: at as u64,
+            ..WalkStep::default()
+        },
+        Err(refused) => {
             let stays = at as u64;
-            no_payload(number_of(refused), refused.place as u64, 0, stays)
+            WalkStep {
+                number: refused.why.number() as u64,
+                place: refused.place as u64,
+                next_at: stays,
+                ..WalkStep::default()
+            }
         }
     }
 }

@@ -9,9 +9,8 @@ use Rattle.refusal.specs.Verdict.{Verdict}
 use Rattle.queue.specs.declared.records.Queue.{Queue}
 use Rattle.queue.specs.Queue.{TimedUnit, record_of, no_record, slots, queue_of, most_units, QueueIs}
 use Rattle.mux_rules.specs.declared.Channel.{Channel}
-use Rattle.mux_rules.specs.declared.Sent.{Sent}
 use Rattle.mux_rules.specs.declared.Written.{Written}
-use Rattle.mux_rules.specs.Sending.{Sends}
+use Rattle.mux_rules.specs.Sending.{Sent, Sends}
 use Rattle.answers.specs.declared.queueing.QueueState.{QueueState}
 use Rattle.answers.specs.Queueing.{queue_from, state_of, channel_state, sent_answer}
 use Rattle.answers.proofs.Queues.{same_queue, sent_by}

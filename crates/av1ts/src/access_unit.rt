@@ -6,7 +6,7 @@ ghost use Rattle.unit.specs.Answer.{checking};
 ghost use Rattle.answers.specs.Answers.{count_answer, unit_answer};
 ghost use Rattle.av1ts.specs.Units.{ReadsUnit, ReadsWidths};
 
-use answers::{Answer, unit_answer};
+use answers::Answer;
 
 #[unsafe(no_mangle)]
 pub extern "C" fn av1ts_write_unit(obus: &[u8], lengths: &[usize], out: &mut [u8]) -> Answer
@@ -16,16 +16,17 @@ pub extern "C" fn av1ts_write_unit(obus: &[u8], lengths: &[usize], out: &mut [u8
         ≡ leaves (write_unit lengths.now obus.now (length out.old))
         (carried (obus_of lengths.now obus.now)) out.old }
 {
-    answers::unit_written(unit::write(obus, lengths, out))
+    unit::write(obus, lengths, out).into()
 }
 
+// Stays: the C interface has these parameters, here and of the other exported functions (include/av1ts.h).
 #[unsafe(no_mangle)]
 pub extern "C" fn av1ts_read_unit(unit: &[u8], out: &mut [u8], lengths: &mut [usize]) -> Answer
     ensures { ReadsUnit unit.now out.old lengths.old result
         out.new lengths.new }
 {
     let mut widths = [0usize; 64]; // as many as an accepted unit has OBUs at most
-    unit_answer(unit::read(unit, out, lengths, &mut widths))
+    unit::read(unit, out, lengths, &mut widths).into()
 }
 
 #[unsafe(no_mangle)]
@@ -38,12 +39,12 @@ pub extern "C" fn av1ts_read_unit_widths(
     ensures { ReadsWidths unit.now out.old lengths.old widths.old result
         out.new lengths.new widths.new }
 {
-    unit_answer(unit::read(unit, out, lengths, widths))
+    unit::read(unit, out, lengths, widths).into()
 }
 
 #[unsafe(no_mangle)]
 pub extern "C" fn av1ts_check_unit(unit: &[u8]) -> Answer
     ensures { result ≡ unit_answer (checking unit.now) }
 {
-    unit_answer(unit::check(unit))
+    unit::check(unit).into()
 }

@@ -13,9 +13,10 @@ use answers::{Answer, MasteringAnswer, steps_from};
 pub extern "C" fn av1ts_read_mastering(content: &[u8]) -> MasteringAnswer
     ensures { result ≡ mastering_answer (reading content.now) }
 {
-    answers::mastering_answer(mastering::read(content))
+    mastering::read(content).into()
 }
 
+// Stays: the C interface lends this array (include/av1ts.h).
 #[unsafe(no_mangle)]
 pub extern "C" fn av1ts_write_mastering(value: &[u64; 10], out: &mut [u8]) -> Answer
     ensures value { result ≡ count_answer (writing (steps_from value.now) (length out.old)) }
@@ -23,5 +24,5 @@ pub extern "C" fn av1ts_write_mastering(value: &[u64; 10], out: &mut [u8]) -> An
         ≡ leaves (writing (steps_from value.now) (length out.old))
         (content_of (numbers_from (steps_from value.now))) out.old }
 {
-    answers::mastering_written(mastering::write(steps_from(value), out))
+    mastering::write(steps_from(value), out).into()
 }

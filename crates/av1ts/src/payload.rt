@@ -14,7 +14,7 @@ pub extern "C" fn av1ts_escape(obu: &[u8], out: &mut [u8]) -> Answer
         ≡ leaves (escaping obu.now (length out.old)) (escape obu.now)
         out.old }
 {
-    answers::escape_answer(escaping::escape(obu, out))
+    escaping::escape(obu, out).into()
 }
 
 #[unsafe(no_mangle)]
@@ -24,5 +24,5 @@ pub extern "C" fn av1ts_unescape(payload: &[u8], out: &mut [u8]) -> Answer
         ≡ leaves (unescaping payload.now (length out.old)) (unescape payload.now)
         out.old }
 {
-    answers::unescape_answer(emulation::unescape(payload, out))
+    emulation::unescape(payload, out).into()
 }

@@ -4,7 +4,9 @@ ghost use Rattle.queue.specs.Queue.{TimedUnit, timed, queue_of};
 ghost use Rattle.answers.specs.Queueing.{drop_answer};
 ghost use Rattle.av1ts.specs.Queueing.{Holds, AddsTo, DropsFrom, SendsFrom};
 
-use answers::{ChannelState, QueueState, QueuedAnswer, SentAnswer, queue_from};
+use answers::{ChannelState, QueueState, QueuedAnswer, SentAnswer};
+use mux_rules::Channel;
+use queue::Queue;
 use ticks::Ticks90;
 
 // Adds a unit to the queue; 50, 51, 8.
@@ -21,8 +23,9 @@ pub extern "C" fn av1ts_queue_add(
         → AddsTo (timed unit.now (record { 0 = pts }) (record { 0 = dts }) (not (eqb marked 0))) units
         store.old result store.new }
 {
-    let inner = queue_from(queue);
-    answers::add_answer(queue::add(inner, store, unit, Ticks90(pts), Ticks90(dts), marked != 0))
+    let mut inner: Queue = queue.into();
+    let answer = inner.add(store, unit, Ticks90(pts), Ticks90(dts), marked != 0);
+    QueuedAnswer::added(answer, inner)
 }
 
 // Drops the oldest unit.
@@ -31,8 +34,9 @@ pub extern "C" fn av1ts_queue_drop(queue: QueueState, store: &mut [u8]) -> Queue
     ensures { (units : List TimedUnit) → Holds queue store.old units
         → DropsFrom units store.old result store.new }
 {
-    let inner = queue_from(queue);
-    answers::drop_answer(queue::drop_oldest(inner, store))
+    let mut inner: Queue = queue.into();
+    let dropped = inner.drop_oldest(store);
+    QueuedAnswer::dropped(dropped, inner)
 }
 
 // Drops all units.
@@ -40,14 +44,9 @@ pub extern "C" fn av1ts_queue_drop(queue: QueueState, store: &mut [u8]) -> Queue
 pub extern "C" fn av1ts_queue_clear(queue: QueueState) -> QueuedAnswer
     ensures { result ≡ drop_answer false (queue_of []) }
 {
-    let inner = queue_from(queue);
-    let state = answers::state_of(inner.clear());
-    QueuedAnswer {
-        number: 0,
-        place: 0,
-        empty: 0,
-        queue: state,
-    }
+    let mut inner: Queue = queue.into();
+    inner.clear();
+    QueuedAnswer::dropped(true, inner)
 }
 
 // How many bytes are queued.
@@ -55,8 +54,7 @@ pub extern "C" fn av1ts_queue_clear(queue: QueueState) -> QueuedAnswer
 pub extern "C" fn av1ts_queue_total(queue: QueueState) -> u64
     ensures { result ≡ queue.total }
 {
-    let inner = queue_from(queue);
-    inner.total() as u64
+    Queue::from(queue).total() as u64
 }
 
 // Writes the queued units as a segment; 52, 53, 8.
@@ -71,12 +69,8 @@ pub extern "C" fn av1ts_queue_send(
     ensures { (units : List TimedUnit) → Holds queue store.now units
         → SendsFrom channel descriptor.now units out.old result out.new }
 {
-    let inner = queue_from(queue);
-    answers::sent_answer(mux::send(
-        inner,
-        store,
-        answers::channel_from(channel),
-        descriptor,
-        out,
-    ))
+    let mut inner: Queue = queue.into();
+    let mut next: Channel = channel.into();
+    let answer = mux::send(&mut inner, store, &mut next, descriptor, out);
+    SentAnswer::sent(answer, next, inner)
 }

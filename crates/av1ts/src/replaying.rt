@@ -3,6 +3,7 @@ ghost use Rattle.std.specs.Prelude.{◌≡◌};
 ghost use Rattle.answers.specs.Replaying.{replaying};
 
 use answers::{ReplayAnswer, ReplayState};
+use replay::State;
 
 #[unsafe(no_mangle)]
 pub extern "C" fn av1ts_replay(
@@ -16,5 +17,7 @@ pub extern "C" fn av1ts_replay(
     if !answers::state_right(state) {
         return answers::no_state(state);
     }
-    answers::replay_answer(replay::run(answers::state_from(state), rate, times, counts))
+    let mut left: State = state.into();
+    let ran = left.run(rate, times, counts);
+    ReplayAnswer::new(ran, left)
 }

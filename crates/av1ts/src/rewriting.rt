@@ -13,5 +13,5 @@ pub extern "C" fn av1ts_rewrite_descriptor(bytes: &[u8], out: &mut [u8]) -> Rewr
         ≡ leaves (rewriting bytes.now (length out.old))
         (descriptor_of (fields_of bytes.now)) out.old }
 {
-    answers::rewrite_answer(descriptor::rewrite(bytes, out))
+    descriptor::rewrite(bytes, out).into()
 }

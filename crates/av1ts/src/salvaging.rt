@@ -8,5 +8,5 @@ pub extern "C" fn av1ts_salvage(unit: &[u8], out: &mut [u8], marks: &mut [u8]) -
     ensures { Salvages unit.now out.old marks.old result
         out.new marks.new }
 {
-    answers::salvage_answer(salvage::salvage(unit, out, marks))
+    salvage::salvage(unit, out, marks).into()
 }

@@ -17,7 +17,7 @@ pub extern "C" fn av1ts_check_segment_edition(
         (outputs_of out.old lengths.old times.old) result
         (outputs_of out.new lengths.new times.new) }
 {
-    answers::segment_answer(segment::check_compared(edition, segment, out, lengths, times))
+    segment::check_compared(edition, segment, out, lengths, times).into()
 }
 
 // The check in edition 0, the current one.

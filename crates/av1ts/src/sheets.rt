@@ -22,7 +22,7 @@ pub extern "C" fn av1ts_write_sheet(
         (outputs_of out.old lengths.old times.old) sheet.old result
         (outputs_of out.new lengths.new times.new) sheet.new }
 {
-    answers::sheet_written(segment_sheet::write(edition, segment, out, lengths, times, sheet))
+    segment_sheet::write(edition, segment, out, lengths, times, sheet).into()
 }
 
 #[unsafe(no_mangle)]
@@ -36,12 +36,12 @@ pub extern "C" fn av1ts_read_sheet(
         (numbers_in streams.old units.old obus.old) result
         (numbers_in streams.new units.new obus.new) }
 {
-    answers::sheet_answer(sheet::read(sheet, streams, units, obus))
+    sheet::read(sheet, streams, units, obus).into()
 }
 
 #[unsafe(no_mangle)]
 pub extern "C" fn av1ts_sheet_unit(sheet: &[u8], unit: u64) -> SheetFound
     ensures { result ≡ found_answer (finding sheet.now unit) }
 {
-    answers::found_answer(sheet::find_unit(sheet, unit))
+    sheet::find_unit(sheet, unit).into()
 }

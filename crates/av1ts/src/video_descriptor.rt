@@ -10,9 +10,10 @@ use answers::{Answer, VideoDescriptor, fields_from};
 pub extern "C" fn av1ts_read_descriptor(bytes: &[u8]) -> VideoDescriptor
     ensures { result ≡ descriptor_answer (reading bytes.now) }
 {
-    answers::descriptor_answer(descriptor::read(bytes))
+    descriptor::read(bytes).into()
 }
 
+// Stays: the C interface lends this array (include/av1ts.h).
 #[unsafe(no_mangle)]
 pub extern "C" fn av1ts_write_descriptor(field: &[u8; 10], out: &mut [u8]) -> Answer
     ensures value { result ≡ count_answer (writing (fields_from field.now) (length out.old)) }
@@ -20,5 +21,5 @@ pub extern "C" fn av1ts_write_descriptor(field: &[u8; 10], out: &mut [u8]) -> An
         ≡ leaves (writing (fields_from field.now) (length out.old))
         (descriptor_of (fields_from field.now)) out.old }
 {
-    answers::descriptor_written(descriptor::write(fields_from(field), out))
+    descriptor::write(fields_from(field), out).into()
 }

@@ -9,7 +9,7 @@ use answers::WalkStep;
 pub extern "C" fn av1ts_walk_start(unit: &[u8]) -> WalkStep
     ensures { result ≡ start_answer (starting unit.now) }
 {
-    answers::start_answer(tsobu::start(unit))
+    tsobu::start(unit).into()
 }
 
 #[unsafe(no_mangle)]

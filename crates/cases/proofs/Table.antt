@@ -1,4 +1,5 @@
 -- Every case of the table holds: a test that antt computes over the whole table, and that the test is sound at each case. Assumes nothing.
+use Rattle.std.specs.Prelude.{Option, Some, None}
 use Prim.Native.Nat.{ℕ, ◌<◌}
 use mathlib.Core.Bool.{Bool, true, false, ◌&&◌}
 use mathlib.Core.Path.{◌≡◌, refl, ap, ap₂}
@@ -17,8 +18,6 @@ use Rattle.emulation.specs.declared.unescaping.Counts.{Counts}
 use Rattle.obu.specs.Leb128.{leb128, leb_within, low_first, in_range}
 use Rattle.obu.specs.Header.{obu_refusal, judged, header_of, sized_header, size_of, header_with, fixed_bytes}
 use Rattle.descriptor.specs.declared.fields.Fields.{Fields}
-use Rattle.descriptor.specs.declared.fields.Delay.{Delay}
-use Rattle.descriptor.specs.declared.fields.Delay.TheVariants.{Absent, Present}
 use Rattle.descriptor.specs.declared.fields.Video.{Video}
 use Rattle.descriptor.specs.Descriptor.{fields_of, delay_of, version_wrong, zeros_wrong, wrong, reading}
 use Rattle.refusal.proofs.Verdicts.{passes_passed}
@@ -62,11 +61,11 @@ named s =
       hdr_wcg_idc = byte s 9;
     }
 
-same_delay : Delay → Delay → Bool
-same_delay Absent Absent = true
-same_delay Absent (Present n) = false
-same_delay (Present m) Absent = false
-same_delay (Present m) (Present n) = eqb m n
+same_delay : (Option ℕ) → (Option ℕ) → Bool
+same_delay None None = true
+same_delay None (Some n) = false
+same_delay (Some m) None = false
+same_delay (Some m) (Some n) = eqb m n
 
 is_video : Video → Verdict Video → Bool
 is_video video (passed v) = same (numbers v.fields) (numbers video.fields) && same_delay v.delay video.delay
@@ -100,18 +99,18 @@ same_fields : (f g : Fields) → same (numbers f) (numbers g) ≡ true → f ≡
 unfolding numbers named
 same_fields f g e = ap named (same_bytes (numbers f) (numbers g) e)
 
-same_delay_lem : (a b : Delay) → same_delay a b ≡ true → a ≡ b
+same_delay_lem : (a b : Option ℕ) → same_delay a b ≡ true → a ≡ b
 unfolding same_delay
-same_delay_lem Absent Absent e = refl
-same_delay_lem Absent (Present n) e = clash e refl
-same_delay_lem (Present m) Absent e = clash e refl
-same_delay_lem (Present m) (Present n) e = ap Present (eqb-true m n e)
+same_delay_lem None None e = refl
+same_delay_lem None (Some n) e = clash e refl
+same_delay_lem (Some m) None e = clash e refl
+same_delay_lem (Some m) (Some n) e = ap Some (eqb-true m n e)
 
 is_video_lem : (video : Video) (v : Verdict Video) → is_video video v ≡ true → v ≡ passed video
 unfolding is_video
 is_video_lem video (passed v) e =
     let h = and_both (same (numbers v.fields) (numbers video.fields)) (same_delay v.delay video.delay) e in
-    ap₂ (λ (f : Fields) (d : Delay). passed (record { fields = f; delay = d })) (same_fields v.fields video.fields h.0)
+    ap₂ (λ (f : Fields) (d : Option ℕ). passed (record { fields = f; delay = d })) (same_fields v.fields video.fields h.0)
     (same_delay_lem v.delay video.delay h.1)
 is_video_lem video (refused number place) e = clash e refl
 

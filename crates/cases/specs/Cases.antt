@@ -1,10 +1,9 @@
 -- "Proved about the definitions, by a single statement over the table" (document 01): the table, and what each case
 -- says. Assumes nothing.
-use Rattle.std.specs.Prelude.{ℕ, ◌≡◌, List, [], ◌∷◌, length}
+use Rattle.std.specs.Prelude.{ℕ, ◌≡◌, List, [], ◌∷◌, length, None}
 use Rattle.lists.specs.Lists.{Bytes}
 use Rattle.refusal.specs.Verdict.{passed, refused}
 use Rattle.obu.specs.Header.{obu_refusal}
-use Rattle.descriptor.specs.declared.fields.Delay.TheVariants.{Absent}
 use Rattle.descriptor.specs.declared.fields.Video.{Video}
 use Rattle.descriptor.specs.Descriptor.{reading}
 use Rattle.emulation.specs.Payload.{escape, unescape}
@@ -50,7 +49,7 @@ level8 =
             chroma_sample_position = 0;
             hdr_wcg_idc = 3;
           };
-      delay = Absent;
+      delay = None;
     }
 
 unfoldable pub cases : List Case

@@ -1,14 +1,17 @@
 -- Loops over the tsOBUs of any string, and over units that stand back to back: what the rest gives is what the whole gives, as long as
 -- nothing has been found. Assumes nothing.
-use Prim.Native.Nat.{ℕ, zero, suc, ◌+◌, ◌-◌, ◌≤◌, ◌<◌}
+use Prim.Native.Nat.{ℕ, zero, suc, ◌+◌, ◌-◌, ◌≤◌, ◌<◌, min}
 use mathlib.Core.Bool.{true, false}
 use mathlib.Core.Path.{◌≡◌, refl, sym, ap, subst, ◌∙◌}
 use mathlib.Core.Logic.{◌⊎◌, inl, inr}
 use mathlib.Core.List.{List, [], ◌∷◌, flatten}
-use mathlib.Core.Option.{Option, none}
 use native.Mathlib.Omega.{arith}
 use lib.ListN.{length, take, drop, get_or, length-drop, drop_of_length-le}
+use borrow.Author.Tests.{ltb-true, ltb-false}
+use lib.Dec.{ltb}
 use lib.Seq.{drop-drop}
+use Rattle.std.proofs.lemmas.List.{take_all}
+use Rattle.lists.proofs.Tests.{case}
 use Rattle.lists.specs.Lists.{Bytes}
 use Rattle.lists.specs.Bytes.{byte}
 use Rattle.lists.proofs.Parts.{next}
@@ -17,9 +20,9 @@ use Rattle.tsobu.proofs.Places.{Place, before, before_rest, before_ends, before_
 use Rattle.tsobu.proofs.Places.{next_place, payloads_from, payloads_end, place_code}
 use Rattle.unit.specs.Unit.{obus_of}
 use Rattle.descriptor.specs.declared.fields.Fields.{Fields}
-use Rattle.comparison.specs.declared.FieldFound.{FieldFound}
-use Rattle.comparison.specs.declared.FieldFound.TheVariants as field
-use Rattle.comparison.specs.Comparison.{frame_type, until_frame, headers_before_frame, in_unit, or_else, first_of, first_from, found_says}
+use Rattle.std.specs.Prelude.{Option as Found, Some, None, Option}
+use Rattle.comparison.specs.declared.Disagreement.{Disagreement}
+use Rattle.comparison.specs.Comparison.{frame_type, until_frame, headers_before_frame, or_else, first_of, first_from}
 use Rattle.comparison.proofs.Firsts.{headers_in, in_payload, headers_cut, frame_payload, next_payload, unit_agrees, unit_differs}
 use Rattle.comparison.proofs.Frames.{frame_at}
 
@@ -47,7 +50,7 @@ going_start d s code e =
     to_place (inr c) = inr c
 
 module _ {d : Fields} {s : Bytes} {code : ℕ} (g : Going d s code) where
-  pub going_done : length s ≤ code → none ≡ first_of d (headers_before_frame s)
+  pub going_done : length s ≤ code → None ≡ first_of d (headers_before_frame s)
   unfolding first_of flatten until_frame
   going_done h = ap (λ (l : List Bytes). first_of d (headers_in d l)) (sym (payloads_end s code h)) ∙ g.same
 
@@ -59,7 +62,7 @@ module _ {d : Fields} {s : Bytes} {code : ℕ} (g : Going d s code) where
     code_room = code_fits s code here
 
     -- a frame: no header comes before it
-    pub going_frame : frame_type (byte s (code + 3)) ≡ true → none ≡ first_of d (headers_before_frame s)
+    pub going_frame : frame_type (byte s (code + 3)) ≡ true → None ≡ first_of d (headers_before_frame s)
     going_frame t =
         sym (sym g.same
         ∙ ap (λ (l : List Bytes). first_of d (headers_in d l)) (payloads_from s code here)
@@ -74,8 +77,8 @@ module _ {d : Fields} {s : Bytes} {code : ℕ} (g : Going d s code) where
       lent = take (end - (code + 3)) (drop (code + 3) s)
 
       -- another OBU
-      module _ (other : frame_type (byte s (code + 3)) ≡ false) (found : FieldFound) (f : found_says found ≡ in_payload d lent) where
-        both : first_of d (headers_before_frame s) ≡ or_else (found_says found)
+      module _ (other : frame_type (byte s (code + 3)) ≡ false) (found : Found ℕ) (f : found ≡ in_payload d lent) where
+        both : first_of d (headers_before_frame s) ≡ or_else (found)
             (first_of d (headers_in d (payloads (drop (next_code s code) s))))
         both =
             let rest : Option ℕ = first_of d (headers_in d (payloads (drop (next_code s code) s))) in
@@ -85,7 +88,7 @@ module _ {d : Fields} {s : Bytes} {code : ℕ} (g : Going d s code) where
             ∙ ap (λ (n : ℕ). or_else (in_payload d (take (n - (code + 3)) (drop (code + 3) s))) rest) (sym e)
             ∙ ap (λ (o : Option ℕ). or_else o rest) (sym f)
 
-        pub going_next : found ≡ field.None → Going d s end
+        pub going_next : found ≡ None → Going d s end
         going_next k =
             subst (Going d s) (sym e)
             (record {
@@ -94,15 +97,14 @@ module _ {d : Fields} {s : Bytes} {code : ℕ} (g : Going d s code) where
               same =
                   sym
                   (both
-                  ∙ ap (λ (x : FieldFound). or_else (found_says x) (first_of d (headers_in d (payloads (drop (next_code s code) s))))) k);
+                  ∙ ap (λ (x : Found ℕ). or_else (x) (first_of d (headers_in d (payloads (drop (next_code s code) s))))) k);
             })
 
-        pub going_found : (n : ℕ) → found ≡ field.Field n → found_says found ≡ first_of d (headers_before_frame s)
+        pub going_found : (n : ℕ) → found ≡ Some n → Some n ≡ first_of d (headers_before_frame s)
         going_found n k =
-            ap found_says k
-            ∙ sym
+            sym
             (both
-            ∙ ap (λ (x : FieldFound). or_else (found_says x) (first_of d (headers_in d (payloads (drop (next_code s code) s))))) k)
+            ∙ ap (λ (x : Found ℕ). or_else (x) (first_of d (headers_in d (payloads (drop (next_code s code) s))))) k)
 
 -- ---- units back to back
 drop_taken : (n : ℕ) (s : Bytes) → drop n s ≡ drop (length (take n s)) s
@@ -115,69 +117,52 @@ taken_most zero s = omega arith
 taken_most (suc n) [] = omega arith
 taken_most (suc n) (a ∷ s) = omega (arith, taken_most n s)
 
--- the lengths of so many units, from an index on
-abbrev pub lengths_from : ℕ → ℕ → List ℕ → List ℕ
-lengths_from count index lens = take (count - index) (drop index lens)
+-- the lengths that are there, of the first units
+fewer_lengths : (n count : ℕ) (lens : List ℕ) → n ≡ min count (length lens) → take n lens ≡ take count lens
+fewer_lengths n count lens e =
+    case (ltb count (length lens))
+    (λ t. let same : n ≡ count = omega (arith, e, ltb-true count (length lens) t) in rw same refl)
+    (λ t.
+    let h : length lens ≤ count = ltb-false count (length lens) t in
+    let same : n ≡ length lens = omega (arith, e) in
+    rw same (take_all (length lens) lens (omega arith) ∙ sym (take_all count lens h)))
 
-no_lengths : (n : ℕ) → take {A = ℕ} n [] ≡ []
-no_lengths zero = refl
-no_lengths (suc n) = refl
-
-lengths_end : (count index : ℕ) (lens : List ℕ) → length lens ≤ index → lengths_from count index lens ≡ []
-lengths_end count index lens h = ap (take (count - index)) (drop_of_length-le lens h) ∙ no_lengths (count - index)
-
-lengths_all : (count index : ℕ) (lens : List ℕ) → count ≤ index → lengths_from count index lens ≡ []
-lengths_all count index lens h =
-    let z : count - index ≡ 0 = omega arith in
-    ap (λ (n : ℕ). take n (drop index lens)) z
-
-lengths_next : (count index : ℕ) (lens : List ℕ) → index < count → index < length lens
-    → lengths_from count index lens ≡ get_or lens index 0 ∷ lengths_from count (index + 1) lens
-lengths_next count index lens h k =
-    let m : count - index ≡ suc (count - (index + 1)) = omega arith in
-    ap (λ (n : ℕ). take n (drop index lens)) m ∙ ap (take (suc (count - (index + 1)))) (next lens index k)
+pub same_units : {o : Option Disagreement} (d : Fields) (bytes : Bytes) (n count : ℕ) (lens : List ℕ) → n ≡ min count (length lens)
+    → o ≡ first_from 0 d (headers_cut (take n lens) bytes) → o ≡ first_from 0 d (headers_cut (take count lens) bytes)
+same_units d bytes n count lens e h = h ∙ ap (λ (l : List ℕ). first_from 0 d (headers_cut l bytes)) (fewer_lengths n count lens e)
 
 -- from this unit on, which begins at this place, is found what the whole gives
-pub record Walking (d : Fields) (bytes : Bytes) (lens : List ℕ) (count at index : ℕ) : Type 0 where
+pub record Walking (d : Fields) (bytes : Bytes) (lens : List ℕ) (at index : ℕ) : Type 0 where
   pub within : at ≤ length bytes
-  pub same : first_from index d (headers_cut (lengths_from count index lens) (drop at bytes))
-      ≡ first_from 0 d (headers_cut (take count lens) bytes)
+  pub same : first_from index d (headers_cut (drop index lens) (drop at bytes)) ≡ first_from 0 d (headers_cut lens bytes)
 
-pub walking_start : (d : Fields) (bytes : Bytes) (lens : List ℕ) (count : ℕ) → Walking d bytes lens count 0 0
-walking_start d bytes lens count =
-    let all : count - 0 ≡ count = omega arith in
-    record { within = omega arith; same = ap (λ (n : ℕ). first_from 0 d (headers_cut (take n lens) bytes)) all }
+pub walking_start : (d : Fields) (bytes : Bytes) (lens : List ℕ) → Walking d bytes lens 0 0
+walking_start d bytes lens = record { within = omega arith; same = refl }
 
-module _ {d : Fields} {bytes : Bytes} {lens : List ℕ} {count at index : ℕ} (w : Walking d bytes lens count at index) where
-  ended : lengths_from count index lens ≡ [] → none ≡ first_from 0 d (headers_cut (take count lens) bytes)
+module _ {d : Fields} {bytes : Bytes} {lens : List ℕ} {at index : ℕ} (w : Walking d bytes lens at index) where
+  pub walking_done : length lens ≤ index → None ≡ first_from 0 d (headers_cut lens bytes)
   unfolding first_from obus_of
-  ended e = ap (λ (l : List ℕ). first_from index d (headers_cut l (drop at bytes))) (sym e) ∙ w.same
-
-  pub no_length : length lens ≤ index → none ≡ first_from 0 d (headers_cut (take count lens) bytes)
-  no_length h = ended (lengths_end count index lens h)
-
-  pub walking_done : count ≤ index → none ≡ first_from 0 d (headers_cut (take count lens) bytes)
-  walking_done h = ended (lengths_all count index lens h)
+  walking_done h = ap (λ (l : List ℕ). first_from index d (headers_cut l (drop at bytes))) (sym (drop_of_length-le lens h)) ∙ w.same
 
   -- the unit here, as it is lent
-  module _ (h : index < count) (k : index < length lens) (unit : Bytes) (u : unit ≡ take (get_or lens index 0) (drop at bytes)) where
+  module _ (h : index < length lens) (unit : Bytes) (u : unit ≡ take (get_or lens index 0) (drop at bytes)) where
     abbrev n : ℕ
     n = get_or lens index 0
 
     abbrev rest : List ℕ
-    rest = lengths_from count (index + 1) lens
+    rest = drop (index + 1) lens
 
     pub next_within : at + length unit ≤ length bytes
     next_within = omega (arith, w.within, ap length u, taken_most n (drop at bytes), length-drop at bytes)
 
-    whole : first_from index d (headers_cut (n ∷ rest) (drop at bytes)) ≡ first_from 0 d (headers_cut (take count lens) bytes)
-    whole = ap (λ (l : List ℕ). first_from index d (headers_cut l (drop at bytes))) (sym (lengths_next count index lens h k)) ∙ w.same
+    whole : first_from index d (headers_cut (n ∷ rest) (drop at bytes)) ≡ first_from 0 d (headers_cut lens bytes)
+    whole = ap (λ (l : List ℕ). first_from index d (headers_cut l (drop at bytes))) (sym (next lens index h)) ∙ w.same
 
-    module _ (found : FieldFound) (f : found_says found ≡ first_of d (headers_before_frame unit)) where
-      here_is : found_says found ≡ first_of d (headers_before_frame (take n (drop at bytes)))
+    module _ (found : Found ℕ) (f : found ≡ first_of d (headers_before_frame unit)) where
+      here_is : found ≡ first_of d (headers_before_frame (take n (drop at bytes)))
       here_is = f ∙ ap (λ (c : Bytes). first_of d (headers_before_frame c)) u
 
-      pub walking_next : found ≡ field.None → Walking d bytes lens count (at + length unit) (index + 1)
+      pub walking_next : found ≡ None → Walking d bytes lens (at + length unit) (index + 1)
       walking_next e =
           let to : drop n (drop at bytes) ≡ drop (at + length unit) bytes =
           drop_taken n (drop at bytes)
@@ -191,6 +176,6 @@ module _ {d : Fields} {bytes : Bytes} {lens : List ℕ} {count at index : ℕ} (
                 ∙ whole;
           }
 
-      pub walking_found : (m : ℕ) → found ≡ field.Field m
-          → in_unit index (found_says found) ≡ first_from 0 d (headers_cut (take count lens) bytes)
+      pub walking_found : (m : ℕ) → found ≡ Some m
+          → Some (record { unit = index; field = m }) ≡ first_from 0 d (headers_cut lens bytes)
       walking_found m e = unit_differs d index n rest (drop at bytes) found here_is m e ∙ whole

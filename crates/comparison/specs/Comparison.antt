@@ -1,8 +1,8 @@
 -- The sequence headers of carried units compared with a descriptor's fields. The words of document 02, request 2026-04,
 -- stand over each definition; the comparison of one header is that of crates/sequence. Assumes nothing.
-use Rattle.std.specs.Prelude.{ℕ, suc, Bool, ◌||◌, eqb, drop}
+use Rattle.std.specs.Prelude.{ℕ, suc, Bool, ◌||◌, eqb, drop, Option}
+use Rattle.std.specs.Prelude.{Option as Found, Some, None}
 use mathlib.Core.List.{List, [], ◌∷◌, map, flatten}
-use Rattle.std.proofs.Math.Option.{Option, none, some}
 use Rattle.lists.specs.Lists.{Bytes, pick}
 use Rattle.lists.specs.Bytes.{byte}
 use Rattle.refusal.specs.Verdict.{Verdict, passed, refused}
@@ -10,14 +10,8 @@ use Rattle.obu.specs.declared.header.Header.{Header}
 use Rattle.obu.specs.Header.{type_bits, header_of}
 use Rattle.unit.specs.Unit.{obus_in}
 use Rattle.descriptor.specs.declared.fields.Fields.{Fields}
-use Rattle.sequence.specs.declared.comparing.Difference.{Difference}
-use Rattle.sequence.specs.declared.comparing.Difference.TheVariants as difference
 use Rattle.sequence.specs.Comparison.{comparing}
 use Rattle.comparison.specs.declared.Disagreement.{Disagreement}
-use Rattle.comparison.specs.declared.FieldFound.{FieldFound}
-use Rattle.comparison.specs.declared.FieldFound.TheVariants as field
-use Rattle.comparison.specs.declared.Disagreed.{Disagreed}
-use Rattle.comparison.specs.declared.Disagreed.TheVariants as disagreed
 
 -- ---- the sequence headers
 -- the content of an OBU of type 1, which stands behind its header; of another OBU nothing
@@ -54,37 +48,28 @@ headers_before_frame carried = headers_of (until_frame (obus_in carried))
 -- ---- the first that disagrees
 -- "its first differing field in descriptor order, or none" (seq_profile is field 0); "43 in place of the field where
 -- that header is cut short, whatever differs before"
-abbrev pub field_of : Verdict Difference → Option ℕ
-field_of (passed (difference.Field n)) = some n
-field_of (passed difference.None) = none
-field_of (refused number place) = some number
+abbrev pub field_of : Verdict (Found ℕ) → Option ℕ
+field_of (passed (Some n)) = Some n
+field_of (passed None) = None
+field_of (refused number place) = Some number
 
 -- "the unit of the first header .. that disagrees or is cut short, with its first differing field" (the struct in
 -- src/lib.rt)
 abbrev pub in_unit : ℕ → Option ℕ → Option Disagreement
-in_unit unit none = none
-in_unit unit (some field) = some (record { unit = unit; field = field })
+in_unit unit None = None
+in_unit unit (Some field) = Some (record { unit = unit; field = field })
 
 -- the first of two that is there
 abbrev pub or_else : {A : Type 0} → Option A → Option A → Option A
-or_else none later = later
-or_else (some d) later = some d
+or_else None later = later
+or_else (Some d) later = Some d
 
 -- "the first header in stream order": of the headers of a unit
 unfoldable pub first_of : Fields → List Bytes → Option ℕ
-first_of d [] = none
+first_of d [] = None
 first_of d (content ∷ headers) = or_else (field_of (comparing content d)) (first_of d headers)
 
 -- of units by their headers, of which the first unit has this index
 unfoldable pub first_from : ℕ → Fields → List (List Bytes) → Option Disagreement
-first_from unit d [] = none
+first_from unit d [] = None
 first_from unit d (headers ∷ units) = or_else (in_unit unit (first_of d headers)) (first_from (suc unit) d units)
-
--- ---- what the answers of the code say
-abbrev pub found_says : FieldFound → Option ℕ
-found_says field.None = none
-found_says (field.Field n) = some n
-
-abbrev pub disagreed_says : Disagreed → Option Disagreement
-disagreed_says disagreed.None = none
-disagreed_says (disagreed.First d) = some d

@@ -1,13 +1,16 @@
 -- The register goes on from where it is, so what follows a string starts from the string's register; and the four bytes of a CRC, which
 -- follow its string, leave 0. Assumes nothing.
-use Prim.Native.Nat.{ℕ, ◌+◌, ◌*◌, ◌/◌, ◌%◌, ◌^◌, ◌≤◌, ◌<◌}
+use Prim.Native.Nat.{ℕ, zero, suc, ◌+◌, ◌*◌, ◌/◌, ◌%◌, ◌^◌, ◌<◌}
 use mathlib.Core.Path.{◌≡◌, refl, sym, ap, ap₂, ◌∙◌}
-use mathlib.Core.List.{[], ◌∷◌, ◌++◌}
+use mathlib.Core.List.{List, [], ◌∷◌, ◌++◌}
 use native.Mathlib.Omega.{arith}
 use lib.Bits.{bit_xor, xor_self, xor_zero_r}
-use lib.ListN.{length, get_or, drop, drop_of_length-le}
+use lib.ListN.{length, take, drop}
+use Rattle.std.specs.List.{fold}
+use Rattle.std.specs.Simd.{first_chunks}
+use Rattle.std.proofs.Math.Seq.{take-add}
+use Rattle.std.proofs.lemmas.List.{take-append-drop}
 use Rattle.lists.specs.Lists.{Bytes, pick}
-use Rattle.lists.proofs.Parts.{next}
 use Rattle.crc.specs.Crc.{bit_step, bits_step, byte_step, crc_from, crc, bytes_of, crc_bytes}
 use Rattle.crc.specs.Parts.{entry}
 use Rattle.crc.proofs.Linear.{byte_lt, byte_entry}
@@ -17,38 +20,27 @@ unfolding crc_from
 crc_append r [] t = refl
 crc_append r (x ∷ s) t = crc_append (byte_step r x) s t
 
--- ---- from byte i on
-module _ (s : Bytes) (r i : ℕ) where
-  crc_end : length s ≤ i → crc_from r (drop i s) ≡ r
-  unfolding crc_from
-  crc_end h = rw (drop_of_length-le s h)
+-- ---- by chunks of n bytes, and the bytes behind them
+chunks : (n k r : ℕ) (s : Bytes) → fold crc_from r (first_chunks n k s) ≡ crc_from r (take (k * n) s)
+unfolding crc_from
+chunks n zero r s = let none : 0 ≡ 0 * n = omega arith in ap (λ (j : ℕ). crc_from r (take j s)) none
+chunks n (suc k) r s =
+    let more : n + k * n ≡ suc k * n = grind arith in
+    chunks n k (crc_from r (take n s)) (drop n s) ∙ sym (crc_append r (take n s) (take (k * n) (drop n s)))
+    ∙ ap (crc_from r) (sym (take-add n (k * n) s) ∙ ap (λ (j : ℕ). take j s) more)
 
-  crc_next : i < length s → crc_from r (drop i s) ≡ crc_from (byte_step r (get_or s i 0)) (drop (i + 1) s)
-  unfolding crc_from
-  crc_next h = rw (next s i h)
+-- q is the register after the chunks cs, and t is the bytes behind them
+pub by_chunks : (n r q : ℕ) (s t : Bytes) (cs : List Bytes) → q ≡ fold crc_from r cs → cs ≡ first_chunks n (length s / n) s
+    → t ≡ drop (length s / n * n) s → crc_from q t ≡ crc_from r s
+by_chunks n r q s t cs is front back =
+    let k : ℕ = length s / n in
+    ap₂ crc_from (is ∙ ap (fold crc_from r) front ∙ chunks n k r s) back ∙ sym (crc_append r (take (k * n) s) (drop (k * n) s))
+    ∙ ap (crc_from r) (take-append-drop (k * n) s)
 
--- ---- the register, carried on over the rest of the bytes, is the CRC of all
-pub record Reached (s : Bytes) (r i : ℕ) : Type 0 where
-  pub within : i ≤ length s
-  pub rest : crc s ≡ crc_from r (drop i s)
-
-pub reached_none : (s : Bytes) → Reached s 0xFFFF_FFFF 0
-reached_none s = record { within = omega arith; rest = refl }
-
-pub reached_as : {s : Bytes} {r i q j : ℕ} → q ≡ r → j ≡ i → Reached s r i → Reached s q j
-reached_as {s} e d at =
-    record { within = omega (arith, at.within); rest = at.rest ∙ ap₂ (λ (x n : ℕ). crc_from x (drop n s)) (sym e) (sym d) }
-
-pub reached_by : {s : Bytes} {r i q : ℕ} (n : ℕ) → Reached s r i → i + n ≤ length s → crc_from q (drop (i + n) s) ≡ crc_from r (drop i s)
-    → Reached s q (i + n)
-reached_by n at h e = record { within = h; rest = at.rest ∙ sym e }
-
-pub reached_next : {s : Bytes} {r i q : ℕ} → Reached s r i → i < length s → q ≡ byte_step r (get_or s i 0) → Reached s q (i + 1)
-reached_next {s} {r} {i} at h e =
-    record { within = omega arith; rest = at.rest ∙ crc_next s r i h ∙ ap (λ (x : ℕ). crc_from x (drop (i + 1) s)) (sym e) }
-
-pub reached_all : {s : Bytes} {r i : ℕ} → Reached s r i → length s ≤ i → r ≡ crc s
-reached_all {s} {r} {i} at h = sym (at.rest ∙ crc_end s r i h)
+pub by_bytes : (r : ℕ) (s : Bytes) → fold byte_step r s ≡ crc_from r s
+unfolding crc_from
+by_bytes r [] = refl
+by_bytes r (x ∷ s) = by_bytes (byte_step r x) s
 
 -- ---- the register keeps to 32 bits
 crc_lt : (r : ℕ) (s : Bytes) → r < 2 ^ 32 → crc_from r s < 2 ^ 32

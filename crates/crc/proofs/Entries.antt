@@ -1,15 +1,33 @@
--- The entries of a byte. Where the sixteen arms of a `match` on a half meet, the half is one of sixteen numbers, and the value is that of
--- its arm; a byte leaves what its halves leave. Assumes nothing.
-use Prim.Native.Nat.{ℕ, zero, suc, ◌*◌, ◌/◌, ◌%◌, ◌≤◌, ◌<◌}
-use mathlib.Core.Path.{◌≡◌, sym, ap, ap₂, ◌∙◌}
-use mathlib.Core.List.{[]}
+-- The table of what each byte leaves: a row for each k, computed from what the bytes of one bit leave. Where the sixteen arms of a `match`
+-- on a half of a byte meet, the half is one of sixteen numbers, and the value is that of its arm. Assumes nothing.
+use Prim.Native.Nat.{ℕ, zero, suc, ◌≤◌, ◌<◌}
+use mathlib.Core.Path.{◌≡◌, refl, sym, ap, ◌∙◌}
+use mathlib.Core.List.{List, [], map}
 use mathlib.Core.Logic.{◌⊎◌, ⊎_elim}
 use native.Mathlib.Omega.{arith}
-use lib.Bits.{bit_xor}
-use lib.ListN.{get_or}
+use lib.ListN.{length, get_or}
+use Rattle.std.specs.List.{range_with_len}
+use Rattle.std.proofs.lemmas.List.{get_or-map}
+use Rattle.std.proofs.lemmas.List.FromFn.{get_or-map-range_with_len}
 use Rattle.crc.specs.Parts.{left}
-use Rattle.crc.proofs.Slicing.{halves_leave}
 use Rattle.crc.proofs.Rows.{spread, rows, by_row}
+
+-- what all bytes leave, by a row of what the bytes of one bit leave
+unfoldable pub entries : List ℕ → List ℕ
+entries row = map (spread row) (range_with_len 0 256)
+
+sixteen_rows : length rows ≡ 16
+unfolding rows
+sixteen_rows = refl
+
+pub of_table : (t : List (List ℕ)) (k x : ℕ) (d : List ℕ) (e : ℕ) → t ≡ map entries rows → k < 16 → x < 256
+    → get_or (get_or t k d) x e ≡ left k x
+unfolding entries
+of_table t k x d e is small byte =
+    ap (λ (l : List (List ℕ)). get_or (get_or l k d) x e) is
+    ∙ ap (λ (l : List ℕ). get_or l x e) (get_or-map entries rows k [] d (omega (arith, sixteen_rows)))
+    ∙ get_or-map-range_with_len (spread (get_or rows k [])) 0 256 x x e byte (omega arith)
+    ∙ by_row k x small byte
 
 -- x is none of the numbers below n
 abbrev NoneBelow : ℕ → ℕ → Type 0
@@ -45,17 +63,3 @@ module _ (f : ℕ → ℕ) (x v : ℕ) (small : x < 16) where
       (⊎_elim (λ w. arm 4 (t4 w)) (⊎_elim (λ w. arm 5 (t5 w)) (⊎_elim (λ w. arm 6 (t6 w)) (⊎_elim (λ w. arm 7 (t7 w))
       (⊎_elim (λ w. arm 8 (t8 w)) (⊎_elim (λ w. arm 9 (t9 w)) (⊎_elim (λ w. arm 10 (t10 w)) (⊎_elim (λ w. arm 11 (t11 w))
       (⊎_elim (λ w. arm 12 (t12 w)) (⊎_elim (λ w. arm 13 (t13 w)) (⊎_elim (λ w. arm 14 (t14 w)) (λ w. last (rest w))))))))))))))))
-
--- what the lower half and the upper half of a byte leave
-abbrev pub lower : ℕ → ℕ → ℕ
-lower k half = spread (get_or rows k []) half
-
-abbrev pub upper : ℕ → ℕ → ℕ
-upper k half = spread (get_or rows k []) (half * 16)
-
--- ---- both halves of a byte
-pub both : (k byte low high : ℕ) → k < 16 → byte < 256 → low ≡ lower k (byte % 16) → high ≡ upper k (byte / 16)
-    → bit_xor low high ≡ left k byte
-both k byte low high small h l u =
-    ap₂ bit_xor (l ∙ by_row k (byte % 16) small (omega arith)) (u ∙ by_row k (byte / 16 * 16) small (omega arith))
-    ∙ sym (halves_leave k byte h)

@@ -3,6 +3,5 @@ pub mod Linear
 pub mod Slicing
 pub mod Rows
 pub mod Entries
-pub mod Filling
 pub mod Appending
 pub mod CheckValue

@@ -1,11 +1,12 @@
 -- Sixteen bytes at once. A zero byte's step is linear over the exclusive or, so the register after sixteen bytes is what each of them
--- leaves, added up; and a byte leaves what its two halves leave. Assumes nothing.
+-- leaves, added up. Assumes nothing.
 use Prim.Native.Nat.{ℕ, zero, suc, ◌+◌, ◌*◌, ◌/◌, ◌%◌, ◌^◌, ◌≤◌, ◌<◌}
 use mathlib.Core.Path.{◌≡◌, refl, sym, ap, ap₂, ◌∙◌}
-use mathlib.Core.List.{◌∷◌}
+use mathlib.Core.List.{List, [], ◌∷◌}
 use native.Mathlib.Omega.{arith}
 use lib.Bits.{bit_xor, xor_shr, xor_mod, xor_lt, xor_zero_r, xor_shifted, xor_comm}
-use lib.ListN.{length, get_or, drop}
+use lib.ListN.{length, get_or, drop, drop_of_length-le}
+use Rattle.std.specs.Int.{w32, to_be_bytes, from_be_bytes}
 use Rattle.lists.specs.Lists.{Bytes, pick}
 use Rattle.lists.proofs.Parts.{next}
 use Rattle.crc.specs.Crc.{bit_step, bits_step, byte_step, crc_from}
@@ -144,6 +145,25 @@ four_leave n w h =
     ap (zeros_step (n + 4)) (sym (word_of w h))
     ∙ word_leaves n (w / 2 ^ 24) (w / 2 ^ 16 % 256) (w / 2 ^ 8 % 256) (w % 256) (omega arith) (omega arith) (omega arith) (omega arith)
 
+-- the same, of the bytes that the library gives
+pub bytes_leave : (n w p q r s : ℕ) (l : List ℕ) → w < 2 ^ 32 → l ≡ to_be_bytes w32 w
+    → (p ≡ left (n + 3) (get_or l 0 0)) × (q ≡ left (n + 2) (get_or l 1 0)) × (r ≡ left (n + 1) (get_or l 2 0))
+    × (s ≡ left n (get_or l 3 0)) → bit_xor (bit_xor p q) (bit_xor r s) ≡ zeros_step (n + 4) w
+bytes_leave n w p q r s l h is e =
+    let byte : (k i b : ℕ) → get_or (to_be_bytes w32 w) i 0 ≡ b → left k (get_or l i 0) ≡ left k b =
+    λ k i b f. ap (λ (t : List ℕ). left k (get_or t i 0)) is ∙ ap (left k) f in
+    ap₂ bit_xor
+    (ap₂ bit_xor (e.0 ∙ byte (n + 3) 0 (w / 2 ^ 24) (omega arith)) (e.1 ∙ byte (n + 2) 1 (w / 2 ^ 16 % 256) refl))
+    (ap₂ bit_xor (e.2 ∙ byte (n + 1) 2 (w / 2 ^ 8 % 256) refl) (e.3 ∙ byte n 3 (w % 256) refl))
+    ∙ sym (four_leave n w h)
+
+-- the number that the library makes of four bytes
+pub be_word : (a b c d : ℕ) → b < 256 → c < 256 → d < 256 → from_be_bytes w32 (a ∷ b ∷ c ∷ d ∷ []) ≡ word a b c d
+be_word a b c d hb hc hd =
+    let upper : bit_xor (a * 2 ^ 24) (b * 2 ^ 16) ≡ (a * 2 ^ 8 + b) * 2 ^ 16 = xor_shifted a 24 (b * 2 ^ 16) (omega arith) ∙ omega arith in
+    let lower : bit_xor (c * 2 ^ 8) d ≡ c * 2 ^ 8 + d = xor_shifted c 8 d (omega arith) in
+    sym (ap₂ bit_xor upper lower ∙ xor_shifted (a * 2 ^ 8 + b) 16 (c * 2 ^ 8 + d) (omega arith) ∙ omega arith)
+
 -- ---- four bytes more
 word_lt : (a b c d : ℕ) → a < 256 → b < 256 → c < 256 → d < 256 → word a b c d < 2 ^ 32
 word_lt a b c d ha hb hc hd =
@@ -161,13 +181,6 @@ left_linear k a b ha hb =
 
 pub left_zero : (k : ℕ) → left k 0 ≡ 0
 left_zero k = zeros_none (k + 1)
-
--- a byte leaves what its halves leave
-pub halves_leave : (k x : ℕ) → x < 256 → left k x ≡ bit_xor (left k (x % 16)) (left k (x / 16 * 16))
-halves_leave k x h =
-    let p : bit_xor (x % 16) (x / 16 * 16) ≡ x =
-    xor_comm (x % 16) (x / 16 * 2 ^ 4) ∙ xor_shifted (x / 16) 4 (x % 16) (omega arith) ∙ omega arith in
-    ap (left k) (sym p) ∙ left_linear k (x % 16) (x / 16 * 16) (omega arith) (omega arith)
 
 -- without a zero byte behind it
 pub left_none : (x : ℕ) → left 0 x ≡ entry x
@@ -260,3 +273,17 @@ module _ (r : ℕ) (s : Bytes) (i : ℕ) (hr : r < 2 ^ 32) (byte : (j : ℕ) →
       ∙ ap (λ (x : ℕ). crc_from x (drop (i + 16) s))
       (sym (xor_assoc (zeros_step 4 w3) (zeros_step 8 w2) (bit_xor (zeros_step 12 w1) (zeros_step 16 w0)))
       ∙ sym (xor_assoc (bit_xor (zeros_step 4 w3) (zeros_step 8 w2)) (zeros_step 12 w1) (zeros_step 16 w0)))
+
+-- ---- no more bytes than these
+module _ (r : ℕ) (s : Bytes) (hr : r < 2 ^ 32) (byte : (j : ℕ) → get_or s j 0 < 256) where
+  all_gone : (n x : ℕ) → length s ≡ n → crc_from x (drop n s) ≡ x
+  unfolding crc_from
+  all_gone n x e = ap (crc_from x) (drop_of_length-le s (omega (arith, e)))
+
+  pub four_all : length s ≡ 4 → zeros_step 4 (bit_xor r (word_at s 0)) ≡ crc_from r s
+  four_all e = sym (by_four r s 0 hr byte (omega (arith, e)) ∙ all_gone 4 _ e)
+
+  pub sixteen_all : length s ≡ 16
+      → bit_xor (bit_xor (bit_xor (zeros_step 4 (word_at s 12)) (zeros_step 8 (word_at s 8))) (zeros_step 12 (word_at s 4)))
+      (zeros_step 16 (bit_xor r (word_at s 0))) ≡ crc_from r s
+  sixteen_all e = sym (by_sixteen r s 0 hr byte (omega (arith, e)) ∙ all_gone 16 _ e)

@@ -1,5 +1,6 @@
 -- Writing and reading: what is written reads as its fields, and what is read writes as its bytes exactly where no delay was
 -- present; and what a rewrite tries and says. Assumes nothing.
+use Rattle.std.specs.Prelude.{Option, None}
 use Prim.Native.Nat.{ℕ, ◌+◌, ◌*◌, ◌/◌, ◌%◌, ◌^◌, ◌<◌, ◌≤◌}
 use mathlib.Core.Bool.{Bool, true, false, ◌||◌}
 use mathlib.Core.Path.{◌≡◌, refl, sym, ap, ap₂, ◌∙◌}
@@ -18,8 +19,6 @@ use Rattle.lists.proofs.Tests.{case, or_neither}
 use Rattle.refusal.specs.Verdict.{passed, ◌>>=◌, ◌>>◌, given}
 use Rattle.refusal.proofs.Verdicts.{pass_on, passed_after, given_passed, passed_same}
 use Rattle.descriptor.specs.declared.fields.Fields.{Fields}
-use Rattle.descriptor.specs.declared.fields.Delay.{Delay}
-use Rattle.descriptor.specs.declared.fields.Delay.TheVariants.{Absent}
 use Rattle.descriptor.specs.declared.fields.Video.{Video}
 use Rattle.descriptor.specs.Descriptor.{video_tag, video_length, marker_version, fields_of, delay_of, delay_present}
 use Rattle.descriptor.specs.Descriptor.{version_wrong, zeros_wrong, wrong, reading, writing, is_present, rewriting}
@@ -49,7 +48,7 @@ fields_back f e =
 
 -- the bits behind hdr_wcg_idc are 0: no delay
 module _ (f : Fields) where
-  delay_absent : delay_of (hdr_no_delay f) ≡ Absent
+  delay_absent : delay_of (hdr_no_delay f) ≡ None
   unfolding delay_of pick
   delay_absent = let present : bits 4 4 (hdr_no_delay f) ≡ 0 = omega arith in rw present
 
@@ -61,16 +60,16 @@ module _ (f : Fields) where
       let low : bits 3 0 (hdr_no_delay f) ≡ 0 = omega arith in
       rw (reserved, present, low)
 
-  within_read : past_width f ≡ false → reading (descriptor_of f) ≡ passed (record { fields = f; delay = Absent })
+  within_read : past_width f ≡ false → reading (descriptor_of f) ≡ passed (record { fields = f; delay = None })
   unfolding reading descriptor_of
   within_read e =
       sym
       (pass_on 40 right
-      (sym (ap₂ (λ (x : Fields) (y : Delay). passed (record { fields = x; delay = y })) (fields_back f e) delay_absent)))
+      (sym (ap₂ (λ (x : Fields) (y : Option ℕ). passed (record { fields = x; delay = y })) (fields_back f e) delay_absent)))
 
   -- "Writing then reading gives all fields back": and no delay
   pub written_read : (room n : ℕ) → writing f room ≡ passed n
-      → reading (descriptor_of f) ≡ passed (record { fields = f; delay = Absent })
+      → reading (descriptor_of f) ≡ passed (record { fields = f; delay = None })
   unfolding writing
   written_read room n e = within_read (given_passed 41 (past_width f) (passed_after _ _ n e).0)
 
@@ -174,7 +173,7 @@ module _ (d : Bytes) (v : Video) (e : reading d ≡ passed v) where
   read_as = sym (passed_same _ v (passed_after _ _ v e).1)
 
   -- a rewrite's bytes read as the same fields, and no delay
-  pub rewritten_read : reading (descriptor_of v.fields) ≡ passed (record { fields = v.fields; delay = Absent })
+  pub rewritten_read : reading (descriptor_of v.fields) ≡ passed (record { fields = v.fields; delay = None })
   rewritten_read = within_read v.fields (ap (λ (w : Video). past_width w.fields) read_as ∙ read_within d)
 
   back : ((i : ℕ) → byte d i < 256) → delay_present (byte d 5) ≡ false → descriptor_of (fields_of d) ≡ d
@@ -189,8 +188,8 @@ module _ (d : Bytes) (v : Video) (e : reading d ≡ passed v) where
   -- "reading then writing gives the bytes back exactly where no delay was present"
   pub read_written : (room : ℕ) → ((i : ℕ) → byte d i < 256) → 6 ≤ room
       → (writing v.fields room ≡ passed 6)
-      × (v.delay ≡ Absent → descriptor_of v.fields ≡ d)
-      × (descriptor_of v.fields ≡ d → v.delay ≡ Absent)
+      × (v.delay ≡ None → descriptor_of v.fields ≡ d)
+      × (descriptor_of v.fields ≡ d → v.delay ≡ None)
   unfolding writing descriptor_of
   read_written room h k = (
     sym (pass_on 41 (ap (λ (w : Video). past_width w.fields) read_as ∙ read_within d) (pass_on 8 (le-ltb room 6 k) refl)),

@@ -11,44 +11,34 @@ pub enum Edition {
     Draft,
 }
 
-// The edition of a number, or the refusal.
-#[derive(Drop)]
-pub enum Named {
-    Edition(Edition),
-    Refused(Refused),
+// The edition of this number, or refusal 44.
+impl TryFrom<u64> for Edition {
+    type Error = Refused;
+
+    ghost try_from_gives = { λ number result. named_says result ≡ edition_of number };
+
+    #[tactic(auto, unfolding(crate::specs::Edition::edition_of))]
+    fn try_from(number: u64) -> Result<Edition, Refused> {
+        match number {
+            0 => Ok(Edition::Current),
+            1 => Ok(Edition::Draft),
+            _ => Err(Refusal::Edition.at(0)),
+        }
+    }
 }
 
 impl Edition {
-    // The edition of this number; 44.
-    pub fn named(number: u64) -> Named
-        ensures { named_says result ≡ edition_of number }
-    {
-        if number == 0 {
-            return Named::Edition(Edition::Current);
-        }
-        if number == 1 {
-            return Named::Edition(Edition::Draft);
-        }
-        Named::Refused(Refusal::EDITION.at(0))
-    }
-
-    // Tag 0x80 is the video descriptor.
+    // Returns true if tag 0x80 is the video descriptor.
     pub fn interprets_video(self) -> bool
         ensures { result ≡ (edition_says self).interprets_video }
     {
-        match self {
-            Edition::Current => true,
-            Edition::Draft => false,
-        }
+        matches!(self, Edition::Current)
     }
 
-    // Every access unit has a PTS.
+    // Returns true if every access unit has a PTS.
     pub fn times_needed(self) -> bool
         ensures { result ≡ (edition_says self).times_needed }
     {
-        match self {
-            Edition::Current => true,
-            Edition::Draft => false,
-        }
+        matches!(self, Edition::Current)
     }
 }

@@ -8,9 +8,9 @@ mod registration;
 mod rewriting;
 mod writing;
 
-pub use edition::{Edition, Named};
-pub use fields::{Delay, Fields, Video};
-pub use reading::{VideoRead, fields_of, read, wrong};
+pub use edition::Edition;
+pub use fields::{Fields, Video};
+pub use reading::{fields_of, read, wrong};
 pub use registration::is_registration;
-pub use rewriting::{Outcome, Rewritten, rewrite};
-pub use writing::{Written, write};
+pub use rewriting::{Outcome, rewrite};
+pub use writing::write;

@@ -1,20 +1,15 @@
 // Reading the video descriptor.
+ghost use Rattle.refusal.specs.Number.{says};
 ghost use Rattle.std.specs.Prelude.{◌≡◌};
-ghost use Rattle.descriptor.specs.Descriptor.{fields_of, delay_of, version_wrong, zeros_wrong, reading, read_says};
+ghost use Rattle.descriptor.specs.Descriptor.{fields_of, delay_of, version_wrong, zeros_wrong, reading};
 ghost use Rattle.descriptor.specs.Descriptor.{wrong as descriptor_wrong};
 
-use crate::fields::{Delay, Fields, Video};
+use crate::fields::{Fields, Video};
 use lists::byte_at;
 use refusal::{Refusal, Refused};
 
-// What a video descriptor says, or the refusal.
-#[derive(Drop)]
-pub enum VideoRead {
-    Video(Video),
-    Refused(Refused),
-}
-
-// The ten fields, whether or not the descriptor is refused.
+// Returns the ten fields, whether or not the descriptor is refused.
+#[tactic(auto, unfolding(crate::specs::Descriptor::fields_of))]
 pub fn fields_of(bytes: &[u8]) -> Fields
     ensures { result ≡ fields_of bytes.now }
 {
@@ -35,69 +30,50 @@ pub fn fields_of(bytes: &[u8]) -> Fields
     }
 }
 
-// The delay, where it is present: in the last byte.
-fn delay_of(last: u8) -> Delay
+// Returns the delay if the last byte has one.
+#[tactic(auto, unfolding(crate::specs::Descriptor::delay_of, lists::specs::Lists::pick))]
+fn delay_of(last: u8) -> Option<u8>
     ensures { result ≡ delay_of last }
 {
-    if last / 16 % 2 == 1 {
-        return Delay::Present(last % 16);
-    }
-    Delay::Absent
+    (last / 16 % 2 == 1).then_some(last % 16)
 }
 
-// Whether the first of the four bytes has another marker or version.
+// Returns true if the first of the four bytes has another marker or version.
+#[tactic(auto, unfolding(crate::specs::Descriptor::version_wrong))]
 fn version_wrong(first: u8) -> bool
     ensures { result ≡ version_wrong first }
 {
-    if first / 128 % 2 != 1 {
-        return true;
-    }
-    first % 128 != 1
+    first / 128 % 2 != 1 || first % 128 != 1
 }
 
-// Whether the last byte has a bit set that must be 0.
+// Returns true if the last byte has a bit set that must be 0.
+#[tactic(auto, unfolding(crate::specs::Descriptor::zeros_wrong))]
 fn zeros_wrong(last: u8) -> bool
     ensures { result ≡ zeros_wrong last }
 {
-    if last / 32 % 2 == 1 {
-        return true;
-    }
-    if last / 16 % 2 == 1 {
-        return false;
-    }
-    last % 16 != 0
+    last / 32 % 2 == 1 || (last / 16 % 2 != 1 && last % 16 != 0)
 }
 
-// Whether the descriptor is refused by 40.
+// Returns true if the descriptor is refused by 40.
+#[tactic(auto, unfolding(crate::specs::Descriptor::wrong))]
 pub fn wrong(bytes: &[u8]) -> bool
     ensures { result ≡ descriptor_wrong bytes.now }
 {
-    if bytes.len() != 6 {
-        return true;
-    }
-    if bytes[0] != 0x80 {
-        return true;
-    }
-    if bytes[1] != 4 {
-        return true;
-    }
-    if version_wrong(bytes[2]) {
-        return true;
-    }
-    zeros_wrong(bytes[5])
+    bytes.len() != 6
+        || bytes[0] != 0x80
+        || bytes[1] != 4
+        || version_wrong(bytes[2])
+        || zeros_wrong(bytes[5])
 }
 
-// What the descriptor says; 40.
-pub fn read(bytes: &[u8]) -> VideoRead
-    ensures { read_says result ≡ reading bytes.now }
+// Returns what the descriptor says, or refusal 40.
+pub fn read(bytes: &[u8]) -> Result<Video, Refused>
+    ensures { says result ≡ reading bytes.now }
 {
     if wrong(bytes) {
-        return VideoRead::Refused(Refused {
-            why: Refusal::DESCRIPTOR,
-            place: 0,
-        });
+        return Err(Refusal::Descriptor.at(0));
     }
-    VideoRead::Video(Video {
+    Ok(Video {
         fields: fields_of(bytes),
         delay: delay_of(byte_at(bytes, 5)),
     })

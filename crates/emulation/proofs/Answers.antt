@@ -1,4 +1,5 @@
 -- What a verdict on a payload says of it. Assumes nothing.
+use Rattle.std.specs.Prelude.{Result, Ok, Err}
 use Prim.Native.Nat.{ℕ, ◌-◌, ◌≤◌, ◌<◌}
 use mathlib.Core.Bool.{true, false, not}
 use mathlib.Core.Path.{◌≡◌, refl, sym, ap, ap₂, ◌∙◌}
@@ -9,12 +10,10 @@ use Rattle.lists.specs.Lists.{Bytes}
 use Rattle.lists.proofs.Tests.{case}
 use Rattle.refusal.specs.declared.Refused.{Refused}
 use Rattle.refusal.specs.Verdict.{passed, refused}
-use Rattle.refusal.specs.Number.{number_of, refused_by}
+use Rattle.refusal.specs.Number.{number_of, refused_by, says}
 use Rattle.refusal.proofs.Verdicts.{refuse, pass_on, refuse_at, pass_at, never, passed_same}
 use Rattle.emulation.specs.Payload.{legal, first_forbidden, dropped, unescape}
-use Rattle.emulation.specs.Answer.{most_unescaped, unescaping, judging, judged_says}
-use Rattle.emulation.specs.declared.unescaping.Judged.{Judged}
-use Rattle.emulation.specs.declared.unescaping.Judged.TheVariants as judged
+use Rattle.emulation.specs.Answer.{most_unescaped, unescaping, judging}
 use Rattle.emulation.proofs.Steps.{given_or_dropped}
 
 pub judging_legal : (p : Bytes) → legal p ≡ true → judging p ≡ passed (dropped p)
@@ -39,23 +38,23 @@ illegal_judged p number place e =
     (λ t. let h = e ∙ judging_illegal p t in (t, (cc), (cc)))
 
 -- ---- unescaping, behind the judge's verdict
-pub unescaping_illegal : (p : Bytes) (room : ℕ) (q : Judged) (r : Refused) → length p ≤ most_unescaped → judged_says q ≡ judging p
-    → q ≡ judged.Illegal r
+pub unescaping_illegal : (p : Bytes) (room : ℕ) (q : Result ℕ Refused) (r : Refused) → length p ≤ most_unescaped → says q ≡ judging p
+    → q ≡ Err r
     → refused_by r ≡ unescaping p room
 unfolding unescaping
 unescaping_illegal p room q r h e k =
-    let j = illegal_judged p (number_of r.why) r.place (sym (ap judged_says k) ∙ e) in
+    let j = illegal_judged p (number_of r.why) r.place (sym (ap says k) ∙ e) in
     pass_on 2 (le-ltb most_unescaped (length p) h)
     (ap₂ (λ (n i : ℕ). refused n i) j.1 j.2 ∙ refuse_at (first_forbidden p) 10 _ (ap not j.0))
 
-pub judged_legal : (p : Bytes) (q : Judged) (d : ℕ) → judged_says q ≡ judging p → q ≡ judged.Legal d → (legal p ≡ true) × (d ≡ dropped p)
-judged_legal p q d e k = legal_judged p d (sym (ap judged_says k) ∙ e)
+pub judged_legal : (p : Bytes) (q : Result ℕ Refused) (d : ℕ) → says q ≡ judging p → q ≡ Ok d → (legal p ≡ true) × (d ≡ dropped p)
+judged_legal p q d e k = legal_judged p d (sym (ap says k) ∙ e)
 
-pub judged_illegal : (p : Bytes) (q : Judged) (r : Refused) → judged_says q ≡ judging p → q ≡ judged.Illegal r → legal p ≡ false
-judged_illegal p q r e k = (illegal_judged p (number_of r.why) r.place (sym (ap judged_says k) ∙ e)).0
+pub judged_illegal : (p : Bytes) (q : Result ℕ Refused) (r : Refused) → says q ≡ judging p → q ≡ Err r → legal p ≡ false
+judged_illegal p q r e k = (illegal_judged p (number_of r.why) r.place (sym (ap says k) ∙ e)).0
 
 -- the length of what a legal payload unescapes to
-pub left_after : (p : Bytes) (q : Judged) (d : ℕ) → judged_says q ≡ judging p → q ≡ judged.Legal d
+pub left_after : (p : Bytes) (q : Result ℕ Refused) (d : ℕ) → says q ≡ judging p → q ≡ Ok d
     → (d ≤ length p) × (length p - d ≡ length (unescape p))
 left_after p q d e k =
     let j = judged_legal p q d e k in

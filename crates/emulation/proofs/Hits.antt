@@ -1,5 +1,6 @@
 -- At how many of the first places of a string a test holds (`hits`): one place more, at the end or at the front; a loop that counts them
 -- (`Counted`); what each place keeps at which it does not hold; blocks in which it holds nowhere (`free_of`). Assumes nothing.
+use Rattle.std.specs.Prelude.{Some, None}
 use Prim.Native.Nat.{ℕ, zero, suc, ◌+◌, ◌-◌, ◌≤◌, ◌<◌}
 use mathlib.Core.Bool.{Bool, true, false}
 use mathlib.Core.Path.{◌≡◌, refl, ap, subst₂, ◌∙◌}
@@ -10,11 +11,12 @@ use lib.Dec.{leb, eqb}
 pub use mir.Val.{bool_byte as one}
 use lib.ListN.{length, drop, get_or, length-drop}
 use lib.Seq.{drop-drop}
-use borrow.Author.Tests.{eqb-true, leb-true, le-leb, lt-leb}
-use Rattle.lists.specs.Lists.{Bytes}
+use borrow.Author.Tests.{eqb-true, leb-true, le-leb}
+use Rattle.lists.specs.Lists.{Bytes, pick}
 use Rattle.lists.proofs.Tests.{case, and_both}
 use Rattle.lists.proofs.Parts.{next}
-use Rattle.emulation.specs.Blocks.{hits, block, free_of}
+use Rattle.emulation.specs.Blocks.{hits, block, counted, free_of}
+use Rattle.emulation.specs.Parts.{Decides}
 
 pub one_most : (t : Bool) → one t ≤ 1
 one_most true = omega arith
@@ -30,6 +32,11 @@ pub record Counted (test : Bytes → Bool) (s : Bytes) (i j count : ℕ) : Type 
   pub within : j ≤ block
   pub few : count ≤ j
   pub is : count ≡ hits test j (drop i s)
+
+-- a function whose contract is that it makes a test of strings at a place makes it at the places of a block
+pub decides : (what : Bytes → Bool) → what [] ≡ false → (s : Bytes) (i : ℕ)
+    → Decides (λ p k holds. holds ≡ what (drop k p.now)) what s i
+decides what none s i = (none, λ p j holds e h k. rw e at k)
 
 module _ (test : Bytes → Bool) where
   -- one place more, at the end
@@ -51,15 +58,15 @@ module _ (test : Bytes → Bool) where
   unfolding hits
   counted_start s i = record { within = omega arith; few = omega arith; is = refl }
 
-  pub counted_yes : test [] ≡ false → {s : Bytes} {i j count : ℕ} → Counted test s i j count → j < block → test (drop (i + j) s) ≡ true
-      → Counted test s i (j + 1) (count + 1)
-  counted_yes none {s} {i} {j} c h e =
-      record { within = omega arith; few = omega (arith, c.few); is = omega (arith, c.is, hits_at none s i j true e) }
-
-  pub counted_no : test [] ≡ false → {s : Bytes} {i j count : ℕ} → Counted test s i j count → j < block → test (drop (i + j) s) ≡ false
-      → Counted test s i (j + 1) count
-  counted_no none {s} {i} {j} c h e =
-      record { within = omega arith; few = omega (arith, c.few); is = omega (arith, c.is, hits_at none s i j false e) }
+  pub counted_next : test [] ≡ false → {s : Bytes} {i j count : ℕ} (t : Bool) → Counted test s i j count → j < block
+      → test (drop (i + j) s) ≡ t
+      → Counted test s i (j + 1) (count + one t)
+  counted_next none {s} {i} {j} t c h e =
+      record {
+        within = omega arith;
+        few = omega (arith, c.few, one_most t);
+        is = omega (arith, c.is, hits_at none s i j t e);
+      }
 
   pub counted_all : {s : Bytes} {i j count : ℕ} → Counted test s i j count → block ≤ j → count ≡ hits test block (drop i s)
   counted_all {j = j} c h = let e : j ≡ block = omega (arith, c.within) in rw e at c.is
@@ -81,14 +88,25 @@ module _ (test : Bytes → Bool) where
       let m = none_first n a s e in
       omega (arith, hits_first other n a s, ap one (only (a ∷ s) m.0), none_either other only n s m.1)
 
-  -- a block in which it holds nowhere
-  pub free_short : (s : Bytes) (i : ℕ) → length s - i < block + 2 → free_of test (drop i s) ≡ false
-  unfolding free_of
-  free_short s i h = rw (length-drop, lt-leb (block + 2) (length s - i) h)
+  -- a block, whether two bytes come after it or not
+  pub counted_short : (s : Bytes) (i : ℕ) → leb (block + 2) (length s - i) ≡ false → counted test (drop i s) ≡ None
+  unfolding counted pick
+  counted_short s i e = rw (length-drop, e)
 
-  pub free_counted : (s : Bytes) (i : ℕ) → block + 2 ≤ length s - i → free_of test (drop i s) ≡ eqb (hits test block (drop i s)) 0
+  pub counted_whole : (s : Bytes) (i : ℕ) → leb (block + 2) (length s - i) ≡ true
+      → counted test (drop i s) ≡ Some (hits test block (drop i s))
+  unfolding counted pick
+  counted_whole s i e = rw (length-drop, e)
+
+  -- a block in which it holds nowhere
+  pub free_short : (s : Bytes) (i : ℕ) → leb (block + 2) (length s - i) ≡ false → free_of test (drop i s) ≡ false
   unfolding free_of
-  free_counted s i h = rw (length-drop, le-leb (block + 2) (length s - i) h)
+  free_short s i e = rw (length-drop, e)
+
+  pub free_whole : (s : Bytes) (i : ℕ) → leb (block + 2) (length s - i) ≡ true
+      → free_of test (drop i s) ≡ eqb (hits test block (drop i s)) 0
+  unfolding free_of
+  free_whole s i e = rw (length-drop, e)
 
   pub is_free : (s : Bytes) (i : ℕ) → free_of test (drop i s) ≡ true → (i + block + 2 ≤ length s) × (hits test block (drop i s) ≡ 0)
   unfolding free_of
@@ -96,6 +114,13 @@ module _ (test : Bytes → Bool) where
       let h = and_both (leb (block + 2) (length (drop i s))) (eqb (hits test block (drop i s)) 0) e in
       let k = leb-true (block + 2) (length (drop i s)) h.0 in
       (omega (arith, length-drop i s), eqb-true (hits test block (drop i s)) 0 h.1)
+
+  pub free_either : (other : Bytes → Bool) → ((l : Bytes) → test l ≡ false → other l ≡ false) → (s : Bytes) (i : ℕ)
+      → free_of test (drop i s) ≡ true → free_of other (drop i s) ≡ true
+  unfolding free_of
+  free_either other only s i e =
+      let h = is_free s i e in
+      rw (none_either other only block (drop i s) h.1, length-drop, le-leb (block + 2) (length s - i) (omega (arith, h.0)))
 
   -- what each place keeps at which it does not hold, all these places keep, with the count of another test that grows meanwhile
   pub none_counts : (other : Bytes → Bool) (s : Bytes) (P : ℕ → ℕ → Type 0)

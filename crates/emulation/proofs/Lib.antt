@@ -7,6 +7,7 @@ pub mod Hits
 pub mod Passes
 pub mod Critical
 pub mod Keeping
+pub mod Zeros
 pub mod Judging
 pub mod Giving
 pub mod Runs

@@ -1,12 +1,11 @@
 // Blocks of bytes. Where no 00 00 03 stands in one, unescaping drops nothing; without 00 00 no forbidden sequence
 // begins. The loops that count places of a block have a fixed count and one way out, so that they are compiled to look
 // at many bytes at a time.
-ghost use Rattle.std.specs.Prelude.{◌≡◌, ◌&&◌, ◌||◌, ◌+◌, ◌-◌, ◌≤◌, ◌<◌, eqb, leb, ltb, length, drop};
-ghost use Rattle.emulation.specs.Payload.{marked3};
-ghost use Rattle.emulation.specs.Payload.{forbidden as payload_forbidden};
-ghost use Rattle.emulation.specs.Blocks.{block, hits, free_of, paired};
-ghost use Rattle.emulation.specs.Parts.{Fresh};
-ghost use Rattle.emulation.specs.Parts.{marked as parts_marked};
+ghost use Rattle.std.specs.Prelude.{◌≡◌, ℕ, Bool, ◌&&◌, ◌||◌, ◌+◌, ◌-◌, ◌≤◌, ◌<◌, eqb, leb, ltb, length, drop};
+ghost use Rattle.lists.specs.Lists.{Bytes};
+ghost use Rattle.emulation.specs.Payload.{forbidden};
+ghost use Rattle.emulation.specs.Blocks.{block, hits, counted, free_of, paired, zeros_then3, zeros_then};
+ghost use Rattle.emulation.specs.Parts.{Decides, Fresh, marked};
 
 // The bytes of a block.
 pub const BLOCK: usize = 64;
@@ -18,182 +17,130 @@ pub struct Reached {
     pub count: usize,
 }
 
-// A count of places, as a number of bytes.
+// Returns a count of places as a number of bytes.
 pub fn wide(count: u8) -> usize
     ensures { result ≡ count }
 {
     count as usize
 }
 
-// Two bytes 00 00.
+// Returns true if the two bytes are 00 00.
 fn pair(a: u8, b: u8) -> bool
     ensures { result ≡ eqb a 0 && eqb b 0 }
 {
-    if a != 0 {
-        return false;
-    }
-    b == 0
+    a == 0 && b == 0
 }
 
-// The three bytes are 00 00 03.
-pub(crate) fn marked(a: u8, b: u8, c: u8) -> bool
-    ensures { result ≡ marked3 a b c }
+// Returns true if the three bytes are 00 00 and a byte of LEAST to MOST.
+pub fn zeros_then<const LEAST: u8, const MOST: u8>(a: u8, b: u8, c: u8) -> bool
+    ensures { result ≡ zeros_then3 LEAST MOST a b c }
 {
-    if a != 0 {
-        return false;
-    }
-    if b != 0 {
-        return false;
-    }
-    c == 3
+    a == 0 && b == 0 && (LEAST <= c && c <= MOST)
 }
 
-// The four bytes begin with a forbidden sequence.
+// Returns true if the four bytes begin with a forbidden sequence. No test waits for another: with `&&` the loop over a
+// block looks at one byte at a time.
 fn forbidden(a: u8, b: u8, c: u8, d: u8) -> bool
     ensures { result ≡ eqb a 0 && eqb b 0 && (leb c 2 || (eqb c 3 && ltb 3 d)) }
 {
-    if a != 0 {
-        return false;
-    }
-    if b != 0 {
-        return false;
-    }
-    if c <= 2 {
-        return true;
-    }
-    if c != 3 {
-        return false;
-    }
-    d > 3
+    (a == 0) & (b == 0) & ((c <= 2) | ((c == 3) & (3 < d)))
 }
 
-// At i stand 00 00.
-fn pair_at(s: &[u8], i: usize) -> bool
+// Returns true if 00 00 stands at i.
+pub(crate) fn pair_at(s: &[u8], i: usize) -> bool
     requires { i + 1 < length s.now }
     ensures { result ≡ paired (drop i s.now) }
 {
     pair(s[i], s[i + 1])
 }
 
-// At i stand 00 00 03.
-pub(crate) fn marked_at(s: &[u8], i: usize) -> bool
+// Returns true if 00 00 and a byte of LEAST to MOST stand at i.
+pub(crate) fn zeros_then_at<const LEAST: u8, const MOST: u8>(s: &[u8], i: usize) -> bool
     requires { i + 2 < length s.now }
-    ensures { result ≡ parts_marked (drop i s.now) }
+    ensures { result ≡ zeros_then LEAST MOST (drop i s.now) }
 {
-    marked(s[i], s[i + 1], s[i + 2])
+    zeros_then::<LEAST, MOST>(s[i], s[i + 1], s[i + 2])
 }
 
-// A forbidden sequence begins at i, and three bytes come after i.
-fn forbidden_at(s: &[u8], i: usize) -> bool
+// Returns true if a forbidden sequence begins at i; three bytes come after i.
+pub(crate) fn forbidden_at(s: &[u8], i: usize) -> bool
     requires { i + 3 < length s.now }
-    ensures { result ≡ payload_forbidden (drop i s.now) }
+    ensures { result ≡ forbidden (drop i s.now) }
 {
     forbidden(s[i], s[i + 1], s[i + 2], s[i + 3])
 }
 
-// At how many places of the block at i 00 00 stands.
-pub(crate) fn pairs(s: &[u8], i: usize) -> u8
-    requires { i + block + 1 ≤ length s.now }
-    ensures { result ≡ hits paired block (drop i s.now) }
+// Returns at how many places of the block at i `test` holds.
+// Stays: each contract says that the block is there; a window of 64 bytes is not what the definitions speak of.
+pub(crate) fn count_places<F: Fn(&[u8], usize) -> bool>(s: &[u8], i: usize, test: F) -> u8
+    requires within { i + block ≤ length s.now }
+    requires callable { (j : ℕ) → j < block → F.pre test s (i + j) }
+    ensures { (what : Bytes → Bool) → Decides (F.post test) what s.now i → result ≡ hits what block (drop i s.now) }
 {
     let mut count: u8 = 0;
-    let mut j: usize = 0;
-    while j < BLOCK {
-        let place = i + j;
-        j += 1;
-        if pair_at(s, place) {
-            count += 1;
-        }
+    for j in 0..BLOCK {
+        count += test(s, i + j) as u8;
     }
     count
 }
 
-// At how many places of the block at i 00 00 03 stands.
-pub(crate) fn marks(s: &[u8], i: usize) -> u8
-    requires { i + block + 2 ≤ length s.now }
-    ensures { result ≡ hits parts_marked block (drop i s.now) }
+// Returns true if two bytes come after the block at i of s.
+fn is_followed(s: &[u8], i: usize) -> bool
+    ensures { result ≡ leb (block + 2) (length s.now - i) }
 {
-    let mut count: u8 = 0;
-    let mut j: usize = 0;
-    while j < BLOCK {
-        let place = i + j;
-        j += 1;
-        if marked_at(s, place) {
-            count += 1;
-        }
-    }
-    count
+    i <= s.len() && BLOCK + 2 <= s.len() - i
 }
 
-// At how many places of the block at i a forbidden sequence begins.
-pub(crate) fn forbids(s: &[u8], i: usize) -> u8
-    requires { i + block + 3 ≤ length s.now }
-    ensures { result ≡ hits payload_forbidden block (drop i s.now) }
+// Returns at how many places of the block at i of s 00 00 and a byte of LEAST to MOST stand, or `None` if two bytes do
+// not come after the block.
+pub fn count_of<const LEAST: u8, const MOST: u8>(s: &[u8], i: usize) -> Option<u8>
+    ensures { result ≡ counted (zeros_then LEAST MOST) (drop i s.now) }
 {
-    let mut count: u8 = 0;
-    let mut j: usize = 0;
-    while j < BLOCK {
-        let place = i + j;
-        j += 1;
-        if forbidden_at(s, place) {
-            count += 1;
-        }
+    if !is_followed(s, i) {
+        return None;
     }
-    count
+    Some(count_places(s, i, zeros_then_at::<LEAST, MOST>))
 }
 
-// At no place of the block at i 00 00 stands; it counts only where two bytes come after it.
+// Returns true if two bytes come after the block at i of s, and 00 00 and a byte of LEAST to MOST stand at no place of
+// the block.
+pub fn free_of<const LEAST: u8, const MOST: u8>(s: &[u8], i: usize) -> bool
+    ensures { result ≡ free_of (zeros_then LEAST MOST) (drop i s.now) }
+{
+    is_followed(s, i) && count_places(s, i, zeros_then_at::<LEAST, MOST>) == 0
+}
+
+// Returns true if two bytes come after the block at i of s, and 00 00 stands at no place of the block.
 pub fn unpaired(s: &[u8], i: usize) -> bool
     ensures { result ≡ free_of paired (drop i s.now) }
 {
-    if s.len() < i {
-        return false;
-    }
-    if s.len() - i < BLOCK + 2 {
-        return false;
-    }
-    pairs(s, i) == 0
+    is_followed(s, i) && count_places(s, i, pair_at) == 0
 }
 
-// At no place of the block at i 00 00 03 stands; it counts only where two bytes come after it. Most blocks have no
-// 00 00 at all.
+// Returns true if two bytes come after the block at i of s, and 00 00 03 stands at no place of the block. Most blocks
+// have no 00 00 at all.
 pub(crate) fn unmarked(s: &[u8], i: usize) -> bool
-    requires { i ≤ length s.now }
-    ensures { result ≡ free_of parts_marked (drop i s.now) }
+    ensures { result ≡ free_of marked (drop i s.now) }
 {
-    if s.len() - i < BLOCK + 2 {
-        return false;
-    }
-    if pairs(s, i) == 0 {
-        return true;
-    }
-    marks(s, i) == 0
+    unpaired(s, i) || free_of::<3, 3>(s, i)
 }
 
-// How many places of s have two bytes after them: at these alone three bytes can be looked at.
+// Returns how many places of s have two bytes after them: at these alone three bytes can be looked at.
 pub fn places(s: &[u8]) -> usize
     ensures { result ≡ length s.now - 2 }
 {
-    if s.len() < 2 {
-        return 0;
-    }
-    s.len() - 2
+    s.len().saturating_sub(2)
 }
 
-// Where the block at i ends, or the places do.
+// Returns the end of the block at i, or `last`, the end of the places, if that comes first.
 pub fn block_end(i: usize, last: usize) -> usize
     ensures { result ≡ last - (last - (i + block)) }
 {
-    if last <= i {
-        return last;
-    }
-    if last - i < BLOCK {
-        return last;
-    }
-    i + BLOCK
+    i.saturating_add(BLOCK).min(last)
 }
 
-// Where a run ends that begins at i: a block further on, and on to a place behind a byte that is not 00, or the end.
+// Returns the end of a run that begins at i: the first place from a block further on that comes after a byte that is
+// not 00, or the length of s.
 pub(crate) fn run_end(s: &[u8], i: usize) -> usize
     requires { i < length s.now }
     ensures { (i < result) × (result ≤ length s.now) × Fresh s.now result }
@@ -201,12 +148,10 @@ pub(crate) fn run_end(s: &[u8], i: usize) -> usize
     if s.len() - i <= BLOCK {
         return s.len();
     }
-    let mut end = i + BLOCK;
-    while end < s.len() {
+    for end in i + BLOCK..s.len() {
         if s[end - 1] != 0 {
             return end;
         }
-        end += 1;
     }
-    end
+    s.len()
 }

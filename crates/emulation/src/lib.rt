@@ -5,8 +5,8 @@ mod blocks;
 mod unescaping;
 mod writing;
 
-pub use blocks::{BLOCK, Reached, block_end, places, unpaired, wide};
-pub use unescaping::{
-    Counts, Judged, Unescaped, first_forbidden, judge, unescape, unescape_prefix,
+pub use blocks::{
+    BLOCK, Reached, block_end, count_of, free_of, places, unpaired, wide, zeros_then,
 };
+pub use unescaping::{Counts, first_forbidden, judge, unescape, unescape_prefix};
 pub use writing::copy_block;

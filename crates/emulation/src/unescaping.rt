@@ -1,4 +1,5 @@
 // Legal payloads, and unescaping one payload.
+ghost use Rattle.refusal.specs.Number.{says};
 ghost use Rattle.std.specs.Prelude.{◌≡◌, true, ◌+◌, ◌-◌, ◌≤◌, ◌<◌, length, take, drop};
 ghost use Rattle.lists.specs.Lists.{over};
 ghost use Rattle.refusal.specs.Verdict.{leaves};
@@ -7,10 +8,11 @@ ghost use Rattle.emulation.specs.Blocks.{paired};
 ghost use Rattle.emulation.specs.Parts.{Fresh, Keeps, Gives, Lawful};
 ghost use Rattle.emulation.specs.Payload.{unescape as payload_unescape};
 ghost use Rattle.emulation.specs.Payload.{dropped as payload_dropped};
-ghost use Rattle.emulation.specs.Answer.{unescaping, unescaped_says, judging, judged_says};
+ghost use Rattle.emulation.specs.Answer.{unescaping, judging};
 
 use crate::blocks::{
-    BLOCK, Reached, block_end, forbids, marked, marked_at, marks, pairs, places, run_end, wide,
+    BLOCK, Reached, block_end, count_places, forbidden_at, pair_at, places, run_end, wide,
+    zeros_then, zeros_then_at,
 };
 use crate::writing::copy_unmarked;
 use lists::{copy, copy_rest, put};
@@ -26,39 +28,20 @@ pub struct Counts {
     pub dropped: usize,
 }
 
-#[derive(Drop)]
-pub enum Unescaped {
-    Bytes(Counts),
-    Refused(Refused),
-}
-
-// A payload is legal, and unescaping drops so many bytes of it; or the refusal.
-#[derive(Drop)]
-pub enum Judged {
-    Legal(usize),
-    Illegal(Refused),
-}
-
-// A forbidden sequence begins at i, where 00 00 stands.
+// Returns true if a forbidden sequence begins at i, where 00 00 stands.
 fn forbidden_pair(s: &[u8], i: usize) -> bool
     requires { (i + 2 < length s.now) × (paired (drop i s.now) ≡ true) }
     ensures { result ≡ forbidden (drop i s.now) }
 {
     let c = s[i + 2];
-    if c <= 2 {
-        return true;
-    }
     if c != 3 {
-        return false;
+        return c <= 2;
     }
-    if s.len() - i < 4 {
-        return false;
-    }
-    s[i + 3] > 3
+    4 <= s.len() - i && 3 < s[i + 3]
 }
 
-// The first place from i on at which a forbidden sequence begins, or the end; and how many bytes unescaping drops
-// before it. A byte that is not 00 rules out two places.
+// Returns the first place from i on at which a forbidden sequence begins, or the end, and how many bytes unescaping
+// drops before it. A byte that is not 00 rules out two places.
 fn lawful_places(s: &[u8], i: usize) -> Reached
     requires { i ≤ length s.now }
     ensures lawful { Lawful s.now i result.place result.count }
@@ -67,6 +50,7 @@ fn lawful_places(s: &[u8], i: usize) -> Reached
     let last = places(s);
     let mut count: usize = 0;
     let mut place = i;
+    // Stays: a turn goes on by one, two or three places, by the bytes there; a `for` over all looks at each byte.
     while place < last {
         if s[place + 1] != 0 {
             place += 2;
@@ -78,10 +62,8 @@ fn lawful_places(s: &[u8], i: usize) -> Reached
             }
             if s[place + 2] == 3 {
                 count += 1;
-                place += 3;
-            } else {
-                place += 3;
             }
+            place += 3;
         }
     }
     Reached {
@@ -90,30 +72,29 @@ fn lawful_places(s: &[u8], i: usize) -> Reached
     }
 }
 
-// The blocks of s from i on in which no forbidden sequence begins, as far as there is a whole one with three bytes
-// after it: how far they go, and how many bytes unescaping drops there.
+// Passes over the blocks of s from i on in which no forbidden sequence begins, as long as a whole one with three bytes
+// after it is left. Returns the place behind them, and how many bytes unescaping drops before it.
 fn lawful_blocks(s: &[u8], i: usize) -> Reached
     requires { i ≤ length s.now }
     ensures { Lawful s.now i result.place result.count }
 {
     let mut count: usize = 0;
     let mut place = i;
+    // Stays: a `for` over `(i..s.len()).step_by(BLOCK)` has to return at too short a rest, and again behind the loop.
     while BLOCK + 3 <= s.len() - place {
-        if pairs(s, place) == 0 {
-            place += BLOCK;
-        } else {
-            if forbids(s, place) != 0 {
+        if count_places(s, place, pair_at) != 0 {
+            if count_places(s, place, forbidden_at) != 0 {
                 return Reached { place, count };
             }
-            count += wide(marks(s, place));
-            place += BLOCK;
+            count += wide(count_places(s, place, zeros_then_at::<3, 3>));
         }
+        place += BLOCK;
     }
     Reached { place, count }
 }
 
-// The first place from `from` on at which a forbidden sequence begins, or the end; and how many bytes unescaping drops
-// before it.
+// Returns the first place from `from` on at which a forbidden sequence begins, or the end, and how many bytes
+// unescaping drops before it.
 pub fn first_forbidden(s: &[u8], from: usize) -> Reached
     ensures place_value { result.place ≡ from + first_forbidden (drop from s.now) }
     ensures count_value { result.count
@@ -133,21 +114,20 @@ pub fn first_forbidden(s: &[u8], from: usize) -> Reached
     }
 }
 
-// Whether payload is legal, and how many bytes unescaping drops; 10.
-pub fn judge(payload: &[u8]) -> Judged
-    ensures { judged_says result ≡ judging payload.now }
+// Returns how many bytes unescaping drops from a payload, or refusal 10 at the place of a forbidden sequence if the
+// payload is not legal.
+pub fn judge(payload: &[u8]) -> Result<usize, Refused>
+    ensures { says result ≡ judging payload.now }
 {
     let reached = first_forbidden(payload, 0);
     if reached.place < payload.len() {
-        return Judged::Illegal(Refused {
-            why: Refusal::ILLEGAL_PAYLOAD,
-            place: reached.place,
-        });
+        return Err(Refusal::IllegalPayload.at(reached.place));
     }
-    Judged::Legal(reached.count)
+    Ok(reached.count)
 }
 
-// What payload unescapes to between place i and place end, as far as there is room, into out from n on.
+// Writes what the payload unescapes to between place i and place end into out from n on, as far as out has room.
+// Returns the places that it comes to in the payload and in out.
 fn unescape_places(payload: &[u8], i: usize, end: usize, out: &mut [u8], n: usize) -> Reached
     requires { (i < end) × (end + 2 ≤ length payload.now) × (n < length out.old) }
     ensures gives { Gives payload_unescape payload.now i out.old n result.place result.count
@@ -156,11 +136,12 @@ fn unescape_places(payload: &[u8], i: usize, end: usize, out: &mut [u8], n: usiz
 {
     let mut count = n;
     let mut place = i;
+    // Stays: a turn takes one byte or three, by what stands there, so that no range gives the places.
     while place < end {
         if out.len() <= count {
             return Reached { place, count };
         }
-        if marked_at(payload, place) {
+        if zeros_then_at::<3, 3>(payload, place) {
             count = put(out, count, 0);
             count = put(out, count, 0);
             place += 3; // the 03 is dropped
@@ -179,19 +160,19 @@ struct Kept {
     step: usize,
 }
 
-// p and q came before b: b is dropped, and the old byte stays, or b is given.
+// Returns `old` and step 0 if b is dropped behind p and q, or else b and step 1.
 fn keep(p: u8, q: u8, b: u8, old: u8) -> Kept
     ensures { Keeps p q b old result.byte result.step }
 {
-    if marked(p, q, b) {
+    if zeros_then::<3, 3>(p, q, b) {
         return Kept { byte: old, step: 0 };
     }
     Kept { byte: b, step: 1 }
 }
 
-// What payload unescapes to from place i to place end, behind which it goes on as from the front, into out from n on,
-// where that many bytes have room. p and q are the bytes that came last. A byte that is dropped is written as what
-// stands there, so that no store waits for a test.
+// Writes what the payload unescapes to from place i to place end into out from n on, which has room for as many bytes.
+// From `end` on unescaping goes on as from the front. Returns the place behind the last byte written. A byte that is
+// dropped is written as what stands there, so that no store waits for a test.
 fn unescape_run(payload: &[u8], i: usize, end: usize, out: &mut [u8], n: usize) -> usize
     requires { (i < end) × (end ≤ length payload.now) × Fresh payload.now end
         × (n + (end - i) ≤ length out.old) }
@@ -201,11 +182,9 @@ fn unescape_run(payload: &[u8], i: usize, end: usize, out: &mut [u8], n: usize) 
     let mut p: u8 = 1;
     let mut q = payload[i];
     let mut count = n + 1;
-    let mut place = i + 1;
     out[n] = q;
-    while place < end {
+    for place in i + 1..end {
         let b = payload[place];
-        place += 1;
         let kept = keep(p, q, b, out[count]);
         out[count] = kept.byte;
         count += kept.step;
@@ -215,7 +194,7 @@ fn unescape_run(payload: &[u8], i: usize, end: usize, out: &mut [u8], n: usize) 
     count
 }
 
-// As much of what payload unescapes to as out has room for, over the front of out; answers how many bytes that is.
+// Writes what the payload unescapes to over the front of out, as far as out has room. Returns how many bytes it wrote.
 pub fn unescape_prefix(payload: &[u8], out: &mut [u8]) -> usize
     ensures value { result ≡ length (take (length out.old) (payload_unescape payload.now)) }
     ensures out_after { out.new
@@ -224,6 +203,7 @@ pub fn unescape_prefix(payload: &[u8], out: &mut [u8]) -> usize
     let last = places(payload);
     let mut n: usize = 0;
     let mut i: usize = 0;
+    // Stays: a turn takes a block, a run or what there is room for, so that no range gives the places.
     while i < last {
         if out.len() <= n {
             return n;
@@ -246,7 +226,7 @@ pub fn unescape_prefix(payload: &[u8], out: &mut [u8]) -> usize
     copy_rest(payload, i, out, n)
 }
 
-// What payload unescapes to, so many bytes being dropped, over the front of out, where it has room.
+// Writes what the payload unescapes to over the front of out, which has room for it; unescaping drops `dropped` bytes.
 fn unescape_whole(payload: &[u8], dropped: usize, out: &mut [u8])
     requires { (dropped ≡ payload_dropped payload.now)
         × (length (payload_unescape payload.now) ≤ length out.old) }
@@ -259,31 +239,21 @@ fn unescape_whole(payload: &[u8], dropped: usize, out: &mut [u8])
     unescape_prefix(payload, out);
 }
 
-// What payload unescapes to, over the front of out; 2, then 10, then 8.
-pub fn unescape(payload: &[u8], out: &mut [u8]) -> Unescaped
-    ensures result_value { unescaped_says result ≡ unescaping payload.now (length out.old) }
+// Writes what the payload unescapes to over the front of out. Returns how many bytes it wrote and dropped, or refusal 2
+// if the payload is too long, then 10 if it is not legal, then 8 if out is too short; out is then left unchanged.
+pub fn unescape(payload: &[u8], out: &mut [u8]) -> Result<Counts, Refused>
+    ensures result_value { says result ≡ unescaping payload.now (length out.old) }
     ensures out_after { out.new
-        ≡ leaves (unescaped_says result) (payload_unescape payload.now) out.old }
+        ≡ leaves (says result) (payload_unescape payload.now) out.old }
 {
     if MOST_UNESCAPED < payload.len() {
-        return Unescaped::Refused(Refused {
-            why: Refusal::LENGTH,
-            place: 0,
-        });
+        return Err(Refusal::Length.at(0));
     }
-    let judged = judge(payload);
-    match judged {
-        Judged::Illegal(refused) => Unescaped::Refused(refused),
-        Judged::Legal(dropped) => {
-            let written = payload.len() - dropped;
-            if out.len() < written {
-                return Unescaped::Refused(Refused {
-                    why: Refusal::NO_ROOM,
-                    place: 0,
-                });
-            }
-            unescape_whole(payload, dropped, out);
-            Unescaped::Bytes(Counts { written, dropped })
-        }
+    let dropped = judge(payload)?;
+    let written = payload.len() - dropped;
+    if out.len() < written {
+        return Err(Refusal::NoRoom.at(0));
     }
+    unescape_whole(payload, dropped, out);
+    Ok(Counts { written, dropped })
 }

@@ -1,25 +1,25 @@
 -- Escaping by the bytes to come: where 00 00 and a byte of 0 to 3 do not stand (`critical`) it gives the byte as it is, and so a clean
 -- block as it is (`escape_keeps`); where they stand it gives the 00 00 and a 03. Assumes nothing.
 use Prim.Native.Nat.{ℕ, zero, suc, ◌+◌, ◌≤◌, ◌<◌}
-use mathlib.Core.Bool.{true, false, ◌&&◌}
+use mathlib.Core.Bool.{true, false}
 use mathlib.Core.Path.{◌≡◌, refl, sym, ap, ap₂, subst, ◌∙◌}
 use mathlib.Core.List.{[], ◌∷◌, ◌++◌}
 use native.Mathlib.Omega.{arith}
 use lib.ListN.{length, take, drop, get_or, length-drop}
 use lib.Seq.{drop-drop}
-use lib.Dec.{eqb}
 use borrow.Author.Tests.{ne_eqb}
 use Rattle.lists.specs.Lists.{Bytes}
 use Rattle.lists.proofs.Tests.{case, clash}
 use Rattle.lists.proofs.Parts.{next}
-use Rattle.lists.proofs.Threes.{by_three, three_at, three_fits}
+use Rattle.lists.proofs.Threes.{by_three, three_fits}
 use Rattle.emulation.specs.Payload.{stuffed, escape, escape_after}
-use Rattle.emulation.specs.Blocks.{hits, block}
+use Rattle.emulation.specs.Blocks.{hits, block, zeros_then}
 use Rattle.emulation.specs.Parts.{critical}
 use Rattle.emulation.proofs.Steps.{escape_stuffed, escape_plain}
 use Rattle.emulation.proofs.Hits.{one, none_first, none_keeps, is_free}
 use Rattle.emulation.proofs.Machine.{stuffed_is, stuffed_of}
 use Rattle.emulation.proofs.Critical.{critical_three}
+use Rattle.emulation.proofs.Zeros.{one_byte}
 use Rattle.emulation.proofs.Keeping.{KeepsWithout}
 use Rattle.escaping.specs.Parts.{tripled, clean, First}
 
@@ -81,10 +81,16 @@ pub escape_at_uncritical : (s : Bytes) (i : ℕ) → i < length s → critical (
     → escape (drop i s) ≡ get_or s i 0 ∷ escape (drop (i + 1) s)
 escape_at_uncritical s i h e = rw (next s i h) (escape_uncritical (get_or s i 0) (drop (i + 1) s) (rw (next s i h) at e))
 
-pub tripled_at : (s : Bytes) (i : ℕ) → i + 2 < length s
-    → tripled (drop i s) ≡ eqb (get_or s i 0) 0 && eqb (get_or s (i + 1) 0) 0 && eqb (get_or s (i + 2) 0) 0
-unfolding tripled
-tripled_at = three_at tripled (λ a b c. eqb a 0 && eqb b 0 && eqb c 0) (λ a b c s. refl)
+-- ---- 00 00 00 as 00 00 and a byte of 0 to 0
+tripled_at : (l : Bytes) → zeros_then 0 0 l ≡ tripled l
+unfolding zeros_then tripled
+tripled_at [] = refl
+tripled_at (a ∷ []) = refl
+tripled_at (a ∷ b ∷ []) = refl
+tripled_at (a ∷ b ∷ c ∷ s) = rw (one_byte 0 c)
+
+pub is_tripled : zeros_then 0 0 ≡ tripled
+is_tripled = λ i l. tripled_at l i
 
 -- ---- a clean block
 -- what each place that is not critical keeps, a clean block keeps

@@ -1,4 +1,5 @@
 // Escaping one OBU.
+ghost use Rattle.refusal.specs.Number.{says};
 ghost use Rattle.std.specs.Prelude.{◌≡◌, true, false, ◌+◌, ◌-◌, ◌≤◌, ◌<◌, leb, length, take, get_or};
 ghost use Rattle.lists.specs.Lists.{over};
 ghost use Rattle.refusal.specs.Verdict.{leaves};
@@ -7,7 +8,6 @@ ghost use Rattle.emulation.specs.Payload.{inserted as payload_inserted};
 ghost use Rattle.emulation.specs.Answer.{most_escaped, measuring, escaping};
 ghost use Rattle.emulation.specs.Blocks.{block};
 ghost use Rattle.emulation.specs.Parts.{Gives};
-ghost use Rattle.escaping.specs.Answer.{escaped_says};
 ghost use Rattle.escaping.specs.Parts.{laid, Lays, Inserts};
 
 use crate::blocks::{before_critical, clean, critical_at, criticals, crowd, flags, single};
@@ -24,13 +24,6 @@ const FEW: u8 = 3;
 // The room for a block in which a 03 may go in behind each byte.
 const DENSE: usize = 2 * BLOCK;
 
-// How many bytes the escaped form has, or the refusal.
-#[derive(Drop)]
-pub enum Escaped {
-    Bytes(usize),
-    Refused(Refused),
-}
-
 // Goes over the places of obu from i to end and counts the bytes that escaping puts there. `next` is the place to be
 // looked at next; the one after a place at which a 03 is put is passed over. The reads go on by one place a turn and
 // wait for no test.
@@ -41,10 +34,7 @@ fn inserted_places(obu: &[u8], i: usize, end: usize) -> Reached
 {
     let mut count: usize = 0;
     let mut next = i;
-    let mut place = i;
-    while place < end {
-        let here = place;
-        place += 1;
+    for here in i..end {
         if here == next {
             if critical_at(obu, here) {
                 count += 1;
@@ -57,13 +47,14 @@ fn inserted_places(obu: &[u8], i: usize, end: usize) -> Reached
     Reached { place: next, count }
 }
 
-// How many bytes escaping puts into obu.
+// Returns how many bytes escaping puts into obu.
 fn inserted(obu: &[u8]) -> usize
     ensures { result ≡ payload_inserted obu.now }
 {
     let last = places(obu);
     let mut count: usize = 0;
     let mut i: usize = 0;
+    // Stays: a turn takes a block, or as much as `inserted_places` did, so that no range gives the places.
     while i < last {
         if clean(obu, i) {
             i += BLOCK;
@@ -79,7 +70,7 @@ fn inserted(obu: &[u8]) -> usize
     count
 }
 
-// How many bytes the escaped form of obu has.
+// Returns how many bytes the escaped form of obu has.
 fn measure(obu: &[u8]) -> usize
     requires { length obu.now ≤ most_escaped }
     ensures { result ≡ length (payload_escape obu.now) }
@@ -87,20 +78,18 @@ fn measure(obu: &[u8]) -> usize
     obu.len() + inserted(obu)
 }
 
-// How many bytes the escaped form of obu has, or 2.
-pub fn escaped_length(obu: &[u8]) -> Escaped
-    ensures { escaped_says result ≡ measuring obu.now }
+// Returns how many bytes the escaped form of obu has, or refusal 2 if obu is too long.
+pub fn escaped_length(obu: &[u8]) -> Result<usize, Refused>
+    ensures { says result ≡ measuring obu.now }
 {
     if MOST_ESCAPED < obu.len() {
-        return Escaped::Refused(Refused {
-            why: Refusal::LENGTH,
-            place: 0,
-        });
+        return Err(Refusal::Length.at(0));
     }
-    Escaped::Bytes(measure(obu))
+    Ok(measure(obu))
 }
 
-// The escaped form of obu between place i and place end, as far as there is room, into out from n on.
+// Writes the escaped form of obu between place i and place end into out from n on, as far as out has room. Returns the
+// places that it comes to in obu and in out.
 fn escape_places(obu: &[u8], i: usize, end: usize, out: &mut [u8], n: usize) -> Reached
     requires { (i < end) × (end + 2 ≤ length obu.now) × (n < length out.old) }
     ensures gives { Gives payload_escape obu.now i out.old n result.place result.count
@@ -109,6 +98,7 @@ fn escape_places(obu: &[u8], i: usize, end: usize, out: &mut [u8], n: usize) -> 
 {
     let mut count = n;
     let mut place = i;
+    // Stays: a turn takes one byte or two, by what stands there, so that no range gives the places.
     while place < end {
         if out.len() <= count {
             return Reached { place, count };
@@ -126,20 +116,20 @@ fn escape_places(obu: &[u8], i: usize, end: usize, out: &mut [u8], n: usize) -> 
     Reached { place, count }
 }
 
-// A block of obu is left at i, with two bytes after it, and room for as much in an output of so many bytes from n on.
+// Returns true if a block of obu is left at i, with two bytes after it, and room for as much in an output of so many
+// bytes from n on.
 fn fits(size: usize, i: usize, room: usize, n: usize) -> bool
     requires { (i ≤ size) × (n ≤ room) }
     ensures block_bound { result ≡ true → (i + block + 2 ≤ size) × (n + block + 2 ≤ room) }
     ensures value { i + block + 2 ≤ size → n + block + 2 ≤ room → result ≡ true }
 {
-    if size - i < BLOCK + 2 {
-        return false;
-    }
-    BLOCK + 2 <= room - n
+    BLOCK + 2 <= size - i && BLOCK + 2 <= room - n
 }
 
-// The escaped form of obu from place i on to the next 03, or of a block, into out from n on. The whole block is copied;
-// what stands in it behind the 03 is written over by what comes next.
+// Writes the escaped form of obu from place i on to the next 03, or of a block, into out from n on. Returns the places
+// that it comes to in obu and in out. The whole block is copied; what stands in it behind the 03 is written over by
+// what comes next.
+// Stays: the slices and the places are parameters: of references in a struct each contract must say which they are.
 fn escape_next(obu: &[u8], i: usize, out: &mut [u8], n: usize) -> Reached
     requires { (i + block + 2 ≤ length obu.now) × (n + block + 2 ≤ length out.old) }
     ensures lays { Lays obu.now i out.old n result.place result.count out.new }
@@ -160,7 +150,8 @@ fn escape_next(obu: &[u8], i: usize, out: &mut [u8], n: usize) -> Reached
     }
 }
 
-// The escaped form of the block of obu at i, as far as blocks fit, into out from n on, from one 03 to the next.
+// Writes the escaped form of the block of obu at i into out from n on, from one 03 to the next, as far as blocks fit.
+// Returns the places that it comes to in obu and in out.
 fn escape_sparse(obu: &[u8], i: usize, out: &mut [u8], n: usize) -> Reached
     requires { (i + block + 2 ≤ length obu.now) × (n + block + 2 ≤ length out.old) }
     ensures lays { Lays obu.now i out.old n result.place result.count out.new }
@@ -169,6 +160,7 @@ fn escape_sparse(obu: &[u8], i: usize, out: &mut [u8], n: usize) -> Reached
     let end = i + BLOCK;
     let mut place = i;
     let mut count = n;
+    // Stays: a turn takes as much as `escape_next` did, so that no range gives the places.
     while place < end {
         if !fits(obu.len(), place, out.len(), count) {
             return Reached { place, count };
@@ -218,8 +210,8 @@ fn lay_pair(
     }
 }
 
-// The escaped form of the block of obu at i into out from n on, two places a turn, at the same cost wherever a 03 goes
-// in.
+// Writes the escaped form of the block of obu at i into out from n on, two places a turn, at the same cost wherever a
+// 03 goes in. Returns the places that it comes to in obu and in out.
 fn escape_dense(obu: &[u8], i: usize, out: &mut [u8], n: usize) -> Reached
     requires { (i + block + 2 ≤ length obu.now) × (n + block + block ≤ length out.old) }
     ensures lays { Lays obu.now i out.old n result.place result.count out.new }
@@ -228,30 +220,28 @@ fn escape_dense(obu: &[u8], i: usize, out: &mut [u8], n: usize) -> Reached
     let flags = flags(obu, i);
     let mut last: usize = 0;
     let mut count = n;
-    let mut j: usize = 0;
-    while j < BLOCK - 1 {
+    for pair in 0..BLOCK / 2 {
+        let j = 2 * pair;
         let laid = lay_pair(obu, i + j, out, count, last, flags[j], flags[j + 1]);
         count = laid.count;
         last = laid.last;
-        j += 2;
     }
     Reached {
-        place: i + j - last, // where a 03 is left to go in, the place before it is taken again
+        place: i + BLOCK - last, // if a 03 is left to go in, the place before it is taken again
         count: count - last,
     }
 }
 
-// A block goes from one 03 to the next: few of its places may have one, or there is no room to go two places a turn.
+// Returns true if a block goes from one 03 to the next: few of its places may have one, or there is no room to go two
+// places a turn.
 fn spread(crowd: u8, room: usize) -> bool
     ensures { result ≡ false → block + block ≤ room }
 {
-    if crowd < FEW {
-        return true;
-    }
-    room < DENSE
+    crowd < FEW || room < DENSE
 }
 
-// The escaped form of the block of obu at i into out from n on.
+// Writes the escaped form of the block of obu at i into out from n on. Returns the places that it comes to in obu and
+// in out.
 fn escape_block(obu: &[u8], i: usize, out: &mut [u8], n: usize) -> Reached
     requires { (i + block + 2 ≤ length obu.now) × (n + block + 2 ≤ length out.old) }
     ensures lays { Lays obu.now i out.old n result.place result.count out.new }
@@ -271,25 +261,17 @@ fn escape_block(obu: &[u8], i: usize, out: &mut [u8], n: usize) -> Reached
     escape_dense(obu, i, out, n)
 }
 
-// The block of obu at i goes as a block: it fits, and there is room to go two places a turn, or few of its places may
-// have a 03.
+// Returns true if the block of obu at i goes as a block: it fits, and there is room to go two places a turn, or few of
+// its places may have a 03.
 fn suits(obu: &[u8], i: usize, room: usize, n: usize) -> bool
     requires { (i ≤ length obu.now) × (n ≤ room) }
     ensures { result ≡ true → (i + block + 2 ≤ length obu.now) × (n + block + 2 ≤ room) }
 {
-    if obu.len() - i < BLOCK + 2 {
-        return false;
-    }
-    if DENSE <= room - n {
-        return true;
-    }
-    if room - n < BLOCK + 2 {
-        return false;
-    }
-    crowd(obu, i) < FEW
+    BLOCK + 2 <= obu.len() - i
+        && (DENSE <= room - n || (BLOCK + 2 <= room - n && crowd(obu, i) < FEW))
 }
 
-// As much of the escaped form of obu as out has room for, over the front of out; answers how many bytes that is.
+// Writes the escaped form of obu over the front of out, as far as out has room. Returns how many bytes it wrote.
 pub fn escape_prefix(obu: &[u8], out: &mut [u8]) -> usize
     ensures value { result ≡ length (take (length out.old) (payload_escape obu.now)) }
     ensures out_after { out.new
@@ -298,6 +280,7 @@ pub fn escape_prefix(obu: &[u8], out: &mut [u8]) -> usize
     let last = places(obu);
     let mut n: usize = 0;
     let mut i: usize = 0;
+    // Stays: a turn takes as much as `escape_block` or `escape_places` did, so that no range gives the places.
     while i < last {
         if out.len() <= n {
             return n;
@@ -315,34 +298,26 @@ pub fn escape_prefix(obu: &[u8], out: &mut [u8]) -> usize
     copy_rest(obu, i, out, n)
 }
 
-// The escaped form of obu has at most so many bytes. Each 03 takes two zeros before it, so that with room for half as
-// many bytes more nothing has to be counted.
+// Returns true if the escaped form of obu has at most so many bytes. Each 03 takes two zeros before it, so that with
+// room for half as many bytes more nothing has to be counted.
 fn has_room(obu: &[u8], room: usize) -> bool
     requires { length obu.now ≤ most_escaped }
     ensures { result ≡ leb (length (payload_escape obu.now)) room }
 {
-    if obu.len() + obu.len() / 2 <= room {
-        return true;
-    }
-    measure(obu) <= room
+    obu.len() + obu.len() / 2 <= room || measure(obu) <= room
 }
 
-// The escaped form of obu over the front of out; 2, then 8.
-pub fn escape(obu: &[u8], out: &mut [u8]) -> Escaped
-    ensures result_value { escaped_says result ≡ escaping obu.now (length out.old) }
-    ensures out_after { out.new ≡ leaves (escaped_says result) (payload_escape obu.now) out.old }
+// Writes the escaped form of obu over the front of out. Returns how many bytes it wrote, or refusal 2 if obu is too
+// long, then 8 if out is too short; out is then left unchanged.
+pub fn escape(obu: &[u8], out: &mut [u8]) -> Result<usize, Refused>
+    ensures result_value { says result ≡ escaping obu.now (length out.old) }
+    ensures out_after { out.new ≡ leaves (says result) (payload_escape obu.now) out.old }
 {
     if MOST_ESCAPED < obu.len() {
-        return Escaped::Refused(Refused {
-            why: Refusal::LENGTH,
-            place: 0,
-        });
+        return Err(Refusal::Length.at(0));
     }
     if !has_room(obu, out.len()) {
-        return Escaped::Refused(Refused {
-            why: Refusal::NO_ROOM,
-            place: 0,
-        });
+        return Err(Refusal::NoRoom.at(0));
     }
-    Escaped::Bytes(escape_prefix(obu, out))
+    Ok(escape_prefix(obu, out))
 }

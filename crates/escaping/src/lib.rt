@@ -4,4 +4,4 @@
 mod blocks;
 mod escaping;
 
-pub use escaping::{Escaped, escape, escape_prefix, escaped_length};
+pub use escaping::{escape, escape_prefix, escaped_length};

@@ -3,4 +3,4 @@
 
 mod packets;
 
-pub use packets::{State, Stepped, fresh_state, step};
+pub use packets::State;

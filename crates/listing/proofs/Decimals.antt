@@ -1,14 +1,12 @@
 -- A number's decimal digits are those that the kit's `io::decimal` gives, and a number of 64 bits has at most 20. Assumes nothing.
-use Prim.Native.Nat.{ℕ, zero, suc, ◌+◌, ◌-◌, ◌/◌, ◌%◌, ◌^◌, ◌≤◌, ◌<◌}
-use mathlib.Core.Path.{◌≡◌, refl, ap, subst, ◌∙◌}
-use mathlib.Core.List.{[], ◌∷◌}
+use Prim.Native.Nat.{ℕ, zero, suc, ◌+◌, ◌-◌, ◌^◌, ◌≤◌, ◌<◌}
+use mathlib.Core.Path.{◌≡◌, refl, ap, subst}
 use native.Mathlib.Omega.{arith}
 use native.Mathlib.Nat.{le_antisymm, le_trans, pow-succ', pow-le-pow_right}
 use borrow.Author.Tests.{ltb-true, ltb-false}
-use lib.Dec.{ltb, lit<, lit≤}
-use lib.ListN.{length, length-append}
+use lib.Dec.{ltb, lit<}
 use Rattle.lists.proofs.Tests.{case}
-use Rattle.io.specs.Digits.{last_digits, hex_digit_ascii, IsDigitCount}
+use Rattle.io.specs.Digits.{last_digits, IsDigitCount}
 use Rattle.listing.specs.Text.{places_from, places, decimal}
 
 sub_one_suc : (k : ℕ) → suc k - 1 ≡ k
@@ -51,14 +49,3 @@ fewest_is n k f =
 pub decimal_is : (n k : ℕ) → IsDigitCount 10 1 n k → last_digits 10 k n ≡ decimal n
 unfolding decimal
 decimal_is n k f = ap (λ (j : ℕ). last_digits 10 j n) (fewest_is n k f)
-
-digits_count : (k n : ℕ) → length (last_digits 10 k n) ≡ k
-digits_count zero n = refl
-digits_count (suc k) n = length-append (last_digits 10 k (n / 10)) (hex_digit_ascii (n % 10) ∷ []) ∙ let h = digits_count k (n / 10) in
-    omega arith
-
-pub decimal_short : (n : ℕ) → n < 2 ^ 64 → length (decimal n) ≤ 20
-unfolding decimal
-decimal_short n h =
-    let p : 2 ^ 64 ≤ 10 ^ 20 = lit≤ tt in
-    rw (digits_count (places n) n) (fewest_le n (places n) 20 (places_fewest n) (omega arith) (omega arith))

@@ -1,10 +1,13 @@
 -- The text by the verdict on the unit, and listing by the text's length. Assumes nothing.
-use Prim.Native.Nat.{ℕ, ◌+◌, ◌≤◌, ◌<◌}
+use Rattle.refusal.specs.declared.Refused.{Refused}
+use Rattle.std.specs.Prelude.{Result, Ok}
+use Rattle.refusal.specs.Number.{says}
+use Prim.Native.Nat.{ℕ, ◌≤◌, ◌<◌}
 use mathlib.Core.Path.{◌≡◌, sym, ap, ◌∙◌}
 use mathlib.Core.List.{◌++◌}
 use native.Mathlib.Omega.{arith}
 use borrow.Author.Tests.{lt-ltb, le-ltb, ltb-false}
-use lib.ListN.{length, take}
+use lib.ListN.{length}
 use Rattle.lists.specs.Lists.{Bytes}
 use Rattle.refusal.specs.Verdict.{Verdict, passed, refused}
 use Rattle.refusal.proofs.Verdicts.{refuse, pass_on, passed_after, passed_same, given_passed}
@@ -12,11 +15,6 @@ use Rattle.tsobu.specs.StartCodes.{payloads}
 use Rattle.unit.specs.Answer.{checking}
 use Rattle.unit.specs.declared.reading.Counts.{Counts}
 use Rattle.listing.specs.Listing.{refusal_line, header_line, payload_lines, most_listed, judging_listed, text_saying, list_text, listing}
-use Rattle.listing.specs.Listing.{listed_says}
-use Rattle.listing.specs.declared.listed.Listed.{Listed}
-use Rattle.listing.specs.declared.listed.Listed.TheVariants as listed
-use Rattle.listing.specs.Parts.{Puts}
-use Rattle.lists.proofs.Placed.{placed_front}
 
 module _ (unit : Bytes) where
   text_saying_lem : (v : Verdict Counts) → v ≡ judging_listed unit → text_saying v (payloads unit) ≡ list_text unit
@@ -49,21 +47,10 @@ module _ (unit : Bytes) where
     unfolding listing
     list_fits h = pass_on 8 (le-ltb room (length (list_text unit)) (omega arith)) (ap passed e)
 
--- what was put at the front
-pub puts_end : {text w later : Bytes} {n : ℕ} → Puts text 0 w later n → n ≡ length w
-puts_end {text} {w} {later} {n} p = omega (arith, p.ends)
-
-pub puts_front : {text w later : Bytes} {n : ℕ} → Puts text 0 w later n → take n later ≡ w
-puts_front {text} {w} {later} {n} p =
-    ap (λ (k : ℕ). take k later) p.ends ∙ ap (take (0 + length w)) p.stands ∙ placed_front text 0 (omega arith) w
-
-pub puts_count : {text w later : Bytes} {n : ℕ} → Puts text 0 w later n → n ≡ length (take n later)
-puts_count p = puts_end p ∙ sym (ap length (puts_front p))
-
 -- the answer that the text was written: it has room
-pub listed_room : (unit : Bytes) (room n : ℕ) (q : Listed) → listed_says q ≡ listing unit room → q ≡ listed.Bytes n → n ≤ room
+pub listed_room : (unit : Bytes) (room n : ℕ) (q : Result ℕ Refused) → says q ≡ listing unit room → q ≡ Ok n → n ≤ room
 unfolding listing
 listed_room unit room n q e k =
-    let h = passed_after _ _ n (sym e ∙ ap listed_says k) in
+    let h = passed_after _ _ n (sym e ∙ ap says k) in
     let fits = ltb-false room (length (list_text unit)) (given_passed 8 _ h.0) in
     omega (arith, passed_same _ n h.1)

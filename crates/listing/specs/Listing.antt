@@ -3,7 +3,6 @@
 use Rattle.std.specs.Prelude.{ℕ, suc, List, [], ◌∷◌, ◌++◌, ltb, length}
 use Rattle.lists.specs.Lists.{Bytes}
 use Rattle.refusal.specs.Verdict.{Verdict, passed, refused, ◌>>◌, given}
-use Rattle.refusal.specs.Number.{refused_by}
 use Rattle.emulation.specs.Payload.{unescape}
 use Rattle.obu.specs.Header.{size_bytes}
 use Rattle.tsobu.specs.StartCodes.{payloads}
@@ -12,8 +11,6 @@ use Rattle.tsobu.specs.TsObu.{tsobu_figures}
 use Rattle.tsobu.specs.declared.judging.Figures.{Figures}
 use Rattle.unit.specs.declared.reading.Counts.{Counts}
 use Rattle.listing.specs.Text.{ascii, decimal}
-use Rattle.listing.specs.declared.listed.Listed.{Listed}
-use Rattle.listing.specs.declared.listed.Listed.TheVariants as listed
 
 -- ---- lines; every line ends with a newline
 -- "A refusal prints `refused`, number, place."
@@ -76,8 +73,3 @@ unfoldable pub listing : Bytes → ℕ → Verdict ℕ
 listing unit room = do
   given 8 (ltb room (length (list_text unit)))
   passed (length (list_text unit))
-
--- ---- what the code's answer says
-abbrev pub listed_says : Listed → Verdict ℕ
-listed_says (listed.Bytes n) = passed n
-listed_says (listed.Refused r) = refused_by r

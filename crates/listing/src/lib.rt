@@ -5,4 +5,4 @@ mod lines;
 mod listed;
 mod text;
 
-pub use listed::{Listed, list};
+pub use listed::list;

@@ -7,57 +7,33 @@ ghost use Rattle.lists.specs.Bytes.{byte};
 
 mod outputs;
 
-pub use outputs::{clear, clear_lengths, clear_numbers, copy, copy_rest, put};
+pub use outputs::{copy, copy_rest, put};
 
-// The byte at a place, 0 behind the end.
+// Returns the byte at `i`, or 0 if `s` ends before it.
 pub fn byte_at(s: &[u8], i: usize) -> u8
     ensures { result ≡ byte s.now i }
 {
-    if s.len() <= i {
-        return 0;
-    }
-    s[i]
+    s.get(i).copied().unwrap_or(0)
 }
 
-// What stands from a place on; nothing behind the end.
+// Returns what stands from `at` on, which is nothing if `s` ends before it.
 pub fn rest(s: &[u8], at: usize) -> &[u8]
     ensures { result.now ≡ drop at s.now }
 {
-    let whole = s.len();
-    if whole <= at {
-        return &s[whole..];
-    }
-    &s[at..]
+    &s[at.min(s.len())..]
 }
 
-// So many bytes from a place on, or as many as there are.
+// Returns `count` bytes from `at` on, or as many as there are.
 pub fn part(s: &[u8], at: usize, count: usize) -> &[u8]
     ensures { result.now ≡ take count (drop at s.now) }
 {
-    let whole = s.len();
-    if whole <= at {
-        return &s[whole..];
-    }
-    if whole - at <= count {
-        return &s[at..];
-    }
-    let end = at + count;
-    &s[at..end]
+    let behind = rest(s, at);
+    &behind[..count.min(behind.len())]
 }
 
-// Two strings are equal.
+// Returns true if two strings are equal.
 pub fn same(s: &[u8], t: &[u8]) -> bool
     ensures { result ≡ same s.now t.now }
 {
-    if s.len() != t.len() {
-        return false;
-    }
-    let mut i: usize = 0;
-    while i < s.len() {
-        if s[i] != t[i] {
-            return false;
-        }
-        i += 1;
-    }
-    true
+    s == t
 }

@@ -1,30 +1,20 @@
 // Writing into a lent output.
-ghost use Rattle.std.specs.Prelude.{◌≡◌, [], ◌∷◌, ◌-◌, length, take, drop};
-ghost use Rattle.lists.specs.Lists.{over, zeros, Fitted};
+ghost use Rattle.std.specs.Prelude.{◌≡◌, [], ◌∷◌, length, take, drop};
+ghost use Rattle.lists.specs.Lists.{over, Fitted};
 
-// The smaller of two numbers.
-fn smaller(a: usize, b: usize) -> usize
-    ensures { result ≡ a - (a - b) }
-{
-    if a < b {
-        return a;
-    }
-    b
-}
+use crate::rest;
 
-// The bytes of s over the front of an output, or as many of them as it has room for.
+// Writes the bytes of `s` over the front of `out`, or as many of them as `out` has room for.
+// Stays: `copy_from_slice` calls memmove, and the library asks for memcpy and memset alone (packaging/README.txt).
 pub fn copy(s: &[u8], out: &mut [u8])
     ensures { out.new ≡ over (take (length out.old) s.now) out.old }
 {
-    let count = smaller(s.len(), out.len());
-    let mut i: usize = 0;
-    while i < count {
+    for i in 0..s.len().min(out.len()) {
         out[i] = s[i];
-        i += 1;
     }
 }
 
-// Writes b at n, where there is room; answers the next place in out.
+// Writes `b` at `n` if `out` has room there. Returns the place behind what was written.
 pub fn put(out: &mut [u8], n: usize, b: u8) -> usize
     ensures { Fitted out.old n (b ∷ []) result out.new }
 {
@@ -35,46 +25,15 @@ pub fn put(out: &mut [u8], n: usize, b: u8) -> usize
     n + 1
 }
 
-// The bytes of s from i on, as far as there is room, into out from n on; answers where it stopped in out.
+// Writes the bytes of `s` from `i` on into `out` from `n` on, as far as there is room. Returns the place behind what
+// was written.
 pub fn copy_rest(s: &[u8], i: usize, out: &mut [u8], n: usize) -> usize
     ensures { Fitted out.old n (drop i s.now) result out.new }
 {
-    let mut place = i;
-    let mut count = n;
-    while place < s.len() {
-        count = put(out, count, s[place]);
-        place += 1;
+    if out.len() <= n {
+        return n;
     }
-    count
-}
-
-// Zeros throughout an output: of bytes, of lengths, of times.
-pub fn clear(out: &mut [u8])
-    ensures { out.new ≡ zeros out.old }
-{
-    let mut i: usize = 0;
-    while i < out.len() {
-        out[i] = 0;
-        i += 1;
-    }
-}
-
-pub fn clear_lengths(out: &mut [usize])
-    ensures { out.new ≡ zeros out.old }
-{
-    let mut i: usize = 0;
-    while i < out.len() {
-        out[i] = 0;
-        i += 1;
-    }
-}
-
-pub fn clear_numbers(out: &mut [u64])
-    ensures { out.new ≡ zeros out.old }
-{
-    let mut i: usize = 0;
-    while i < out.len() {
-        out[i] = 0;
-        i += 1;
-    }
+    let bytes = rest(s, i);
+    copy(bytes, &mut out[n..]);
+    n + bytes.len().min(out.len() - n)
 }

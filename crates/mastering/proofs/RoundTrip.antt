@@ -10,8 +10,7 @@ use Rattle.lists.specs.Lists.{pick}
 use Rattle.lists.specs.Bytes.{word}
 use Rattle.refusal.specs.Verdict.{passed}
 use Rattle.refusal.proofs.Verdicts.{passed_after, given_passed}
-use Rattle.obu.specs.Leb128.{leb128, leb_within, in_range}
-use Rattle.obu.specs.declared.leb128.Leb.TheVariants as leb
+use Rattle.obu.specs.Leb128.{leb_of, leb128, leb_within, in_range}
 use Rattle.mastering.specs.declared.numbers.Numbers.{Numbers}
 use Rattle.mastering.specs.declared.steps.Steps.{Steps}
 use Rattle.mastering.specs.Content.{bytes2, bytes4, content_of, body_wrong, numbers_of, numbers_in}
@@ -41,7 +40,7 @@ bytes4_back n h =
     ∙ joined n
 
 module _ (n : Numbers) where
-  type_back : leb128 (content_of n) ≡ leb.Number 2 1
+  type_back : leb128 (content_of n) ≡ leb_of 2 1
   unfolding leb128 leb_within in_range pick content_of flatten bytes2 bytes4
   type_back = refl
 
@@ -67,10 +66,10 @@ module _ (n : Numbers) where
 
   -- the content of numbers within their bits reads as those numbers, and as their figures
   pub content_back : Widths n → numbers_in (content_of n) ≡ passed n
-  content_back w = numbers (content_of n) 2 1 type_back refl body_right ∙ ap passed (numbers_back w)
+  content_back w = numbers (content_of n) _ type_back refl body_right ∙ ap passed (numbers_back w)
 
   pub figures_back : Widths n → reading (content_of n) ≡ passed (figures_of n)
-  figures_back w = sym (figures (content_of n) 2 1 type_back refl body_right) ∙ ap (λ m. passed (figures_of m)) (numbers_back w)
+  figures_back w = sym (figures (content_of n) _ type_back refl body_right) ∙ ap (λ m. passed (figures_of m)) (numbers_back w)
 
 -- what is written reads as the numbers that were written, and as their figures
 pub written_read : (s : Steps) (room count : ℕ) → writing s room ≡ passed count

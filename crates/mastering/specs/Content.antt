@@ -1,13 +1,12 @@
 -- The content of metadata_hdr_mdcv (AV1 5.8). `Numbers` (src/numbers.rt) are its ten whole numbers, in the content's
 -- order. The words of document 02, request 2026-14, stand over each definition. Assumes nothing.
-use Rattle.std.specs.Prelude.{ℕ, ◌+◌, ◌/◌, ◌%◌, ◌^◌, Bool, not, ◌||◌, eqb, length, drop}
+use Rattle.std.specs.Prelude.{ℕ, ◌+◌, ◌/◌, ◌%◌, ◌^◌, Bool, not, ◌||◌, eqb, length, drop, Option, Some, None}
 use mathlib.Core.List.{[], ◌∷◌, flatten}
 use Rattle.lists.specs.Lists.{Bytes}
 use Rattle.lists.specs.Bytes.{byte, word}
 use Rattle.refusal.specs.Verdict.{Verdict, passed, refused, ◌>>=◌, ◌>>◌, given}
 use Rattle.obu.specs.Leb128.{leb128}
-use Rattle.obu.specs.declared.leb128.Leb.{Leb}
-use Rattle.obu.specs.declared.leb128.Leb.TheVariants as leb
+use Rattle.obu.specs.declared.leb128.Leb128.{Leb128}
 use Rattle.mastering.specs.declared.numbers.Numbers.{Numbers}
 
 -- metadata_type of metadata_hdr_mdcv: "type 2"
@@ -45,9 +44,9 @@ numbers_of s =
 
 -- ---- reading: 48, "content not of this form"
 -- "type 2 as leb128": what stands behind it
-abbrev pub behind_type : Bytes → Leb → Verdict Bytes
-behind_type content leb.Bad = refused 48 0
-behind_type content (leb.Number value width) = given 48 (not (eqb value mdcv_type)) >> passed (drop width content)
+abbrev pub behind_type : Bytes → Option Leb128 → Verdict Bytes
+behind_type content None = refused 48 0
+behind_type content (Some l) = given 48 (not (eqb l.value mdcv_type)) >> passed (drop l.width content)
 
 -- the ten numbers are 24 bytes, "then the trailing bits as the one byte 80", and nothing else
 unfoldable pub body_wrong : Bytes → Bool

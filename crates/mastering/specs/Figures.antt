@@ -5,12 +5,9 @@ use Rattle.std.specs.Float.{fin, binary64}
 use Rattle.std.specs.Float.Ieee.{div, of_int}
 use Rattle.lists.specs.Lists.{Bytes}
 use Rattle.refusal.specs.Verdict.{Verdict, passed, ◌>>=◌}
-use Rattle.refusal.specs.Number.{refused_by}
 use Rattle.mastering.specs.Content.{numbers_in}
 use Rattle.mastering.specs.declared.numbers.Numbers.{Numbers}
 use Rattle.mastering.specs.declared.figures.Figures.{Figures}
-use Rattle.mastering.specs.declared.reading.MasteringRead.{MasteringRead}
-use Rattle.mastering.specs.declared.reading.MasteringRead.TheVariants as answer
 
 -- the double 2 ^ k
 abbrev pub power : ℕ → Float
@@ -51,8 +48,3 @@ unfoldable pub reading : Bytes → Verdict Figures
 reading content = do
   n ← numbers_in content
   passed (figures_of n)
-
--- ---- what the code's answer says
-abbrev pub read_says : MasteringRead → Verdict Figures
-read_says (answer.Figures f) = passed f
-read_says (answer.Refused r) = refused_by r

@@ -2,12 +2,9 @@
 -- content's order. The words of document 02, request 2026-14, stand over each definition. Assumes nothing.
 use Rattle.std.specs.Prelude.{ℕ, ◌+◌, ◌*◌, ◌/◌, min, Bool, ◌||◌, ltb, length}
 use Rattle.refusal.specs.Verdict.{Verdict, passed, ◌>>◌, given}
-use Rattle.refusal.specs.Number.{refused_by}
 use Rattle.mastering.specs.Content.{content_of}
 use Rattle.mastering.specs.declared.numbers.Numbers.{Numbers}
 use Rattle.mastering.specs.declared.steps.Steps.{Steps}
-use Rattle.mastering.specs.declared.writing.Written.{Written}
-use Rattle.mastering.specs.declared.writing.Written.TheVariants as answer
 
 -- "rounds to the content's nearest whole number": the whole part of a / b and a half. `Rounds` (Exact.antt) is proved
 -- of it.
@@ -79,8 +76,3 @@ writing s room = do
   given 49 (steps_past s)
   given 8 (ltb room (length (content_of (numbers_from s))))
   passed (length (content_of (numbers_from s)))
-
--- ---- what the code's answer says
-abbrev pub written_says : Written → Verdict ℕ
-written_says (answer.Bytes n) = passed n
-written_says (answer.Refused r) = refused_by r

@@ -19,28 +19,28 @@ pub struct Figures {
     pub luminance_min: f64,
 }
 
-// A chromaticity has 16 bits behind the point.
+// Returns the figure of a chromaticity, which has 16 bits behind the point.
 fn chromaticity(n: u16) -> f64
     ensures { result ≡ chromaticity_figure n }
 {
     n as f64 / 65536.0
 }
 
-// The maximum luminance has 8.
+// Returns the figure of the maximum luminance, which has 8.
 fn maximum(n: u32) -> f64
     ensures { result ≡ maximum_figure n }
 {
     n as f64 / 256.0
 }
 
-// The minimum luminance has 14.
+// Returns the figure of the minimum luminance, which has 14.
 fn minimum(n: u32) -> f64
     ensures { result ≡ minimum_figure n }
 {
     n as f64 / 16384.0
 }
 
-// The figures of these numbers.
+// Returns the figures of these numbers.
 pub(crate) fn figures_of(n: Numbers) -> Figures
     ensures { result ≡ figures_of n }
 {

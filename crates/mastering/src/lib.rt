@@ -8,6 +8,6 @@ mod steps;
 mod writing;
 
 pub use figures::Figures;
-pub use reading::{MasteringRead, read};
+pub use reading::read;
 pub use steps::Steps;
-pub use writing::{Written, write};
+pub use writing::write;

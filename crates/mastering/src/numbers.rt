@@ -19,25 +19,28 @@ pub(crate) struct Numbers {
     pub luminance_min: u32,
 }
 
-// The number of 16 bits at a place.
+// Returns the number of 16 bits at offset i.
 fn bits16_at(s: &[u8], i: usize) -> u16
     requires { i ≤ 24 }
     ensures { result ≡ bits16 s.now i }
 {
-    byte_at(s, i) as u16 * 256 + byte_at(s, i + 1) as u16
+    u16::from_be_bytes([byte_at(s, i), byte_at(s, i + 1)])
 }
 
-// The number of 32 bits at a place.
+// Returns the number of 32 bits at offset i.
 fn bits32_at(s: &[u8], i: usize) -> u32
     requires { i ≤ 20 }
     ensures { result ≡ bits32 s.now i }
 {
-    let high = bits16_at(s, i);
-    let low = bits16_at(s, i + 2);
-    high as u32 * 65536 + low as u32
+    u32::from_be_bytes([
+        byte_at(s, i),
+        byte_at(s, i + 1),
+        byte_at(s, i + 2),
+        byte_at(s, i + 3),
+    ])
 }
 
-// The numbers, from behind the type on.
+// Returns the numbers that stand behind the type.
 pub(crate) fn numbers_of(s: &[u8]) -> Numbers
     ensures { result ≡ numbers_of s.now }
 {

@@ -28,67 +28,42 @@ const MOST_MAXIMUM: u64 = 167772159980;
 
 const MOST_MINIMUM: u64 = 2621439999;
 
-// Whether a chromaticity is past its bound.
+// Returns whether a chromaticity is past its bound.
 fn chromaticity_past(s: Steps) -> bool
     ensures { result ≡ chromaticity_past s }
 {
-    if MOST_CHROMATICITY < s.red_x {
-        return true;
-    }
-    if MOST_CHROMATICITY < s.red_y {
-        return true;
-    }
-    if MOST_CHROMATICITY < s.green_x {
-        return true;
-    }
-    if MOST_CHROMATICITY < s.green_y {
-        return true;
-    }
-    if MOST_CHROMATICITY < s.blue_x {
-        return true;
-    }
-    if MOST_CHROMATICITY < s.blue_y {
-        return true;
-    }
-    if MOST_CHROMATICITY < s.white_x {
-        return true;
-    }
-    MOST_CHROMATICITY < s.white_y
+    [
+        s.red_x, s.red_y, s.green_x, s.green_y, s.blue_x, s.blue_y, s.white_x, s.white_y,
+    ]
+    .iter()
+    .any(|chromaticity| MOST_CHROMATICITY < *chromaticity)
 }
 
-// Whether a luminance rounds past 32 bits.
+// Returns whether a luminance rounds past 32 bits.
 fn luminance_past(s: Steps) -> bool
     ensures { result ≡ luminance_past s }
 {
-    if MOST_MAXIMUM < s.luminance_max {
-        return true;
-    }
-    MOST_MINIMUM < s.luminance_min
+    MOST_MAXIMUM < s.luminance_max || MOST_MINIMUM < s.luminance_min
 }
 
-// Whether one of the ten is.
+// Returns whether one of the ten is past its bound.
+#[tactic(auto, unfolding(crate::specs::Steps::steps_past))]
 pub(crate) fn steps_past(s: Steps) -> bool
     ensures { result ≡ steps_past s }
 {
-    if chromaticity_past(s) {
-        return true;
-    }
-    luminance_past(s)
+    chromaticity_past(s) || luminance_past(s)
 }
 
-// The nearest 65,536th; 65,535 for 50,000.
+// Returns the nearest 65,536th; 65,535 for 50,000.
 fn chromaticity(n: u64) -> u16
     requires { n ≤ chromaticity_steps }
     ensures { result ≡ chromaticity_number n }
 {
     let nearest = (2 * (n * 65536) + 50000) / 100000;
-    if 65535 < nearest {
-        return 65535;
-    }
-    nearest as u16
+    nearest.min(65535) as u16
 }
 
-// The nearest 256th.
+// Returns the nearest 256th.
 fn maximum(n: u64) -> u32
     requires { maximum_number n ≤ greatest }
     ensures { result ≡ maximum_number n }
@@ -96,7 +71,7 @@ fn maximum(n: u64) -> u32
     ((2 * (n * 256) + 10000) / 20000) as u32
 }
 
-// The nearest 16,384th.
+// Returns the nearest 16,384th.
 fn minimum(n: u64) -> u32
     requires { minimum_number n ≤ greatest }
     ensures { result ≡ minimum_number n }
@@ -104,7 +79,7 @@ fn minimum(n: u64) -> u32
     ((2 * (n * 16384) + 10000) / 20000) as u32
 }
 
-// The content's numbers that are nearest to these.
+// Returns the content's numbers that are nearest to these.
 pub(crate) fn numbers_from(s: Steps) -> Numbers
     requires { steps_past s ≡ false }
     ensures { result ≡ numbers_from s }

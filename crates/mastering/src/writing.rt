@@ -1,8 +1,9 @@
 // Writing the content.
+ghost use Rattle.refusal.specs.Number.{says};
 ghost use Rattle.std.specs.Prelude.{◌≡◌, length};
 ghost use Rattle.refusal.specs.Verdict.{leaves};
 ghost use Rattle.mastering.specs.Content.{content_of};
-ghost use Rattle.mastering.specs.Steps.{numbers_from, writing, written_says};
+ghost use Rattle.mastering.specs.Steps.{numbers_from, writing};
 
 use crate::numbers::Numbers;
 use crate::steps::{Steps, numbers_from, steps_past};
@@ -12,14 +13,8 @@ use refusal::{Refusal, Refused};
 // The bytes of the content.
 const CONTENT: usize = 26;
 
-// How many bytes were written, or the refusal.
-#[derive(Drop)]
-pub enum Written {
-    Bytes(usize),
-    Refused(Refused),
-}
-
-// The content of these numbers.
+// Returns the content of these numbers.
+// Stays: one array expression has all bytes in order; with `to_be_bytes` ten arrays would be named or copied first.
 fn content_of(n: Numbers) -> [u8; 26]
     ensures { result ≡ content_of n }
 {
@@ -53,24 +48,18 @@ fn content_of(n: Numbers) -> [u8; 26]
     ]
 }
 
-// The content that is nearest to these numbers, over the front of out; 49, then 8.
-pub fn write(steps: Steps, out: &mut [u8]) -> Written
-    ensures result_value { written_says result ≡ writing steps (length out.old) }
-    ensures out_after { out.new ≡ leaves (written_says result) (content_of (numbers_from steps)) out.old }
+// Writes the content that is nearest to these numbers over the front of `out`; 49, then 8, and `out` is left unchanged.
+pub fn write(steps: Steps, out: &mut [u8]) -> Result<usize, Refused>
+    ensures result_value { says result ≡ writing steps (length out.old) }
+    ensures out_after { out.new ≡ leaves (says result) (content_of (numbers_from steps)) out.old }
 {
     if steps_past(steps) {
-        return Written::Refused(Refused {
-            why: Refusal::MASTERING_BOUNDS,
-            place: 0,
-        });
+        return Err(Refusal::MasteringBounds.at(0));
     }
     if out.len() < CONTENT {
-        return Written::Refused(Refused {
-            why: Refusal::NO_ROOM,
-            place: 0,
-        });
+        return Err(Refusal::NoRoom.at(0));
     }
     let content = content_of(numbers_from(steps));
     copy(&content, out);
-    Written::Bytes(CONTENT)
+    Ok(CONTENT)
 }

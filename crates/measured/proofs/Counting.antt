@@ -1,7 +1,7 @@
 -- Counting packets from the front: what is counted, and the count of the rest, is the count of all. Assumes nothing.
 use Prim.Native.Nat.{ℕ, zero, suc, ◌+◌, ◌-◌, ◌*◌, ◌/◌, ◌≤◌, ◌<◌}
 use mathlib.Core.Bool.{true, false}
-use mathlib.Core.Path.{◌≡◌, refl, ap}
+use mathlib.Core.Path.{◌≡◌, refl, ap, subst, subst₂}
 use mathlib.Core.List.{List, ◌∷◌}
 use native.Mathlib.Omega.{arith}
 use lib.ListN.{length, take, drop}
@@ -17,8 +17,12 @@ pub record Counted (s : Bytes) (count at left : ℕ) : Type 0 where
   pub within : at + left * packet_length ≤ length s
   pub few : count ≤ at
 
-pub start : (s : Bytes) → Counted s 0 0 (length s / packet_length)
-start s = record { sum = omega arith; within = omega arith; few = omega arith }
+pub start : (s : Bytes) → Counted s 0 0 (length s / packet_length - 0)
+start s =
+    let all : ℕ = length s / packet_length in
+    let e : all ≡ all - 0 = omega arith in
+    let begun : Counted s 0 0 all = record { sum = omega arith; within = omega arith; few = omega arith } in
+    subst (λ (left : ℕ). Counted s 0 0 left) e begun
 
 -- the next packet, as the code lends it
 abbrev packet_at : Bytes → ℕ → Bytes
@@ -47,6 +51,14 @@ module _ {s : Bytes} {count at left : ℕ} (k : Counted s count at left) (h : 0 
       let e = ap (λ (l : List Bytes). length (those passes l)) (ahead s at left h) in
       let f = ap length (those_others passes (packet_at s at) (packets_of (left - 1) (drop (at + packet_length) s)) p) in
       record { sum = omega (arith, k.sum, e, f); within = omega (arith, k.within); few = omega (arith, k.few) }
+
+-- the same by the index of the packet
+pub by_index : {s : Bytes} {count : ℕ} (i end : ℕ) → Counted s count (i * packet_length + packet_length) (end - i - 1)
+    → Counted s count ((i + 1) * packet_length) (end - (i + 1))
+by_index {s} {count} i end k =
+    let e : i * packet_length + packet_length ≡ (i + 1) * packet_length = omega arith in
+    let f : end - i - 1 ≡ end - (i + 1) = omega arith in
+    subst₂ (λ (at left : ℕ). Counted s count at left) e f k
 
 -- nothing is left
 none_ahead : (s : Bytes) (left : ℕ) → left ≤ 0 → length (those passes (packets_of left s)) ≡ 0

@@ -1,13 +1,15 @@
 // The headers of packets.
 ghost use Rattle.std.specs.Prelude.{◌≡◌};
+ghost use Rattle.refusal.specs.Number.{says};
 ghost use Rattle.packet.specs.Header.{header_of};
-ghost use Rattle.measured.specs.Headers.{fields_answer, header_answer, headers_passed};
+ghost use Rattle.measured.specs.Headers.{header_answer, headers_passed};
 
-use packet::{Clock, Header, PACKET_LENGTH, PacketRead};
+use packet::{Header, PACKET_LENGTH};
+use refusal::Refused;
 
 // number 0: no refusal. pcr_present 0: pcr is 0.
 #[repr(C)]
-#[derive(Drop)]
+#[derive(Default, Drop)]
 pub struct PacketHeader {
     pub number: u64,
     pub place: u64,
@@ -21,87 +23,56 @@ pub struct PacketHeader {
     pub payload: u64,
 }
 
-fn fields_answer(header: Header) -> PacketHeader
-    ensures { result ≡ fields_answer header header.pcr }
-{
-    let pid = header.pid as u64;
-    let start = header.start;
-    let counter = header.counter as u64;
-    let discontinuity = header.discontinuity;
-    let has_payload = header.has_payload;
-    let payload = header.payload as u64;
-    let clock = header.pcr;
-    match clock {
-        Clock::Pcr(ticks) => PacketHeader {
-            number: 0,
-            place: 0,
-            pid,
-            start,
-            counter,
-            discontinuity,
-            pcr_present: true,
-            pcr: ticks.0,
-            has_payload,
-            payload,
-        },
-        Clock::None => PacketHeader {
-            number: 0,
-            place: 0,
-            pid,
-            start,
-            counter,
-            discontinuity,
-            pcr_present: false,
-            pcr: 0,
-            has_payload,
-            payload,
-        },
+// The fields of the header, or the refusal.
+impl From<Result<Header, Refused>> for PacketHeader {
+    ghost from_gives = { λ read answer. answer ≡ header_answer (says read) };
+
+    fn from(read: Result<Header, Refused>) -> PacketHeader {
+        match read {
+            Ok(header) => {
+                let pid = header.pid as u64;
+                PacketHeader {
+                    number: 0,
+                    place: 0,
+                    pid,
+                    start: header.start,
+                    counter: header.counter as u64,
+                    discontinuity: header.discontinuity,
+                    pcr_present: header.pcr.is_some(),
+                    pcr: header.pcr.map_or(0, |ticks| ticks.0),
+                    has_payload: header.payload.is_some(),
+                    payload: header.payload.unwrap_or(0) as u64,
+                }
+            }
+            Err(refused) => PacketHeader {
+                number: refused.why.number() as u64,
+                place: refused.place as u64,
+                ..PacketHeader::default()
+            },
+        }
     }
 }
 
-// What one packet says.
+// Returns what one packet says.
 #[unsafe(no_mangle)]
 pub extern "C" fn measured_header(packet: &[u8]) -> PacketHeader
     ensures { result ≡ header_answer (header_of packet.now) }
 {
-    let read = packet::read(packet);
-    match read {
-        PacketRead::Header(header) => fields_answer(header),
-        PacketRead::Refused(refused) => {
-            let why = refused.why;
-            let number = why.number();
-            PacketHeader {
-                number: number as u64,
-                place: refused.place as u64,
-                pid: 0,
-                start: false,
-                counter: 0,
-                discontinuity: false,
-                pcr_present: false,
-                pcr: 0,
-                has_payload: false,
-                payload: 0,
-            }
-        }
-    }
+    packet::read(packet).into()
 }
 
-// How many packets of a segment pass; bytes behind the last whole one do not count.
+// Returns how many packets of a segment pass; bytes behind the last whole one do not count.
 #[unsafe(no_mangle)]
 pub extern "C" fn measured_headers(segment: &[u8]) -> u64
     ensures { result ≡ headers_passed segment.now }
 {
-    let mut count: usize = 0;
-    let mut at: usize = 0;
-    let mut left = segment.len() / PACKET_LENGTH;
-    while 0 < left {
-        let next = at + PACKET_LENGTH;
-        let good = packet::passes(&segment[at..next]);
-        at = next;
-        left -= 1;
-        if good {
+    let mut count: u64 = 0;
+    // Stays: with `chunks_exact` in place of the index, counting took 1.06 of the time (1.22 ns a packet, not 1.15).
+    for index in 0..segment.len() / PACKET_LENGTH {
+        let at = index * PACKET_LENGTH;
+        if packet::passes(&segment[at..at + PACKET_LENGTH]) {
             count += 1;
         }
     }
-    count as u64
+    count
 }

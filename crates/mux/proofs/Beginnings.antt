@@ -1,10 +1,10 @@
 -- The first start code of a frame, looked for place by place: at each it stands there, or it is the first of the places behind. Assumes
 -- nothing.
+use Rattle.std.specs.Prelude.{Option, Some}
 use Prim.Native.Nat.{ℕ, suc, ◌+◌, ◌≤◌, ◌<◌}
 use mathlib.Core.Bool.{Bool, true, false}
 use mathlib.Core.Path.{◌≡◌, refl, sym, ap, ap₂, subst, ◌∙◌}
 use mathlib.Core.List.{List, [], ◌∷◌, map}
-use mathlib.Core.Option.{Option, some}
 use native.Mathlib.Omega.{arith}
 use native.Mathlib.Numerals.{add-one}
 use borrow.Author.Tests.{le-ltb}
@@ -42,18 +42,18 @@ code_payloads s =
     ap (λ (r : Split). r.payloads) (split_byte 0 (1 ∷ s) (second_no s)) ∙ ap (λ (r : Split). r.payloads) (split_byte 1 s (third_no s))
 
 with_code : (i : ℕ) (s : Bytes) → first_from i (0 ∷ 0 ∷ 1 ∷ s)
-    ≡ pick (frame_type (byte s 0)) (some i) (first_from (suc i) (0 ∷ 1 ∷ s))
+    ≡ pick (frame_type (byte s 0)) (Some i) (first_from (suc i) (0 ∷ 1 ∷ s))
 unfolding first_frame at_start_code
 with_code i s =
     ap₂ (λ (codes : List ℕ) (ps : List Bytes). first_frame codes (map unescape ps)) (codes_yes i 0 (0 ∷ 1 ∷ s) refl)
     (ap (λ (r : Split). r.payloads) (split_code 0 0 1 s refl))
-    ∙ ap₂ (λ (b : Bool) (ps : List Bytes). pick b (some i) (first_frame (start_codes_from (suc i) (0 ∷ 1 ∷ s)) (map unescape ps)))
+    ∙ ap₂ (λ (b : Bool) (ps : List Bytes). pick b (Some i) (first_frame (start_codes_from (suc i) (0 ∷ 1 ∷ s)) (map unescape ps)))
     (frame_first s)
     (sym (code_payloads s))
 
 -- the same of any string at a start code
 at_code : (i : ℕ) (t : Bytes) → at_start_code t ≡ true
-    → first_from i t ≡ pick (frame_type (byte t 3)) (some i) (first_from (suc i) (drop 1 t))
+    → first_from i t ≡ pick (frame_type (byte t 3)) (Some i) (first_from (suc i) (drop 1 t))
 unfolding at_start_code
 at_code i [] e = clash e refl
 at_code i (a ∷ []) e = clash e refl
@@ -68,15 +68,15 @@ module _ (s : Bytes) (i : ℕ) (h : i < length s) where
   abbrev here : Bool
   here = frame_type (byte s (i + 3))
 
-  at_place : at_start_code (drop i s) ≡ true → first_from i (drop i s) ≡ pick here (some i) behind
+  at_place : at_start_code (drop i s) ≡ true → first_from i (drop i s) ≡ pick here (Some i) behind
   at_place e =
       at_code i (drop i s) e
-      ∙ ap₂ (λ (x : ℕ) (t : Bytes). pick (frame_type x) (some i) (first_from (suc i) t)) (get_or-drop i s 3 0)
+      ∙ ap₂ (λ (x : ℕ) (t : Bytes). pick (frame_type x) (Some i) (first_from (suc i) t)) (get_or-drop i s 3 0)
       (ap (drop 1) (next s i h))
-      ∙ ap (λ (n : ℕ). pick here (some i) (first_from n (drop (i + 1) s))) (sym (add-one i))
+      ∙ ap (λ (n : ℕ). pick here (Some i) (first_from n (drop (i + 1) s))) (sym (add-one i))
 
   -- a frame begins there
-  pub found : frame_at s i ≡ true → first_from i (drop i s) ≡ some i
+  pub found : frame_at s i ≡ true → first_from i (drop i s) ≡ Some i
   found e = let b = and_both (at_start_code (drop i s)) here e in at_place b.0 ∙ sym (by_true _ b.1 refl)
 
   -- none does
@@ -98,7 +98,7 @@ codes_behind n i (code ∷ codes) [] a h = refl
 codes_behind n i (code ∷ codes) (obu ∷ obus) a h =
     case (is_frame obu)
     (λ e. ap (within n) (sym (by_true (first_frame codes obus) e refl)) ∙ le-ltb code n (omega (arith, a.0)))
-    (λ e. ap (within n) (sym (by_false (some code) e refl)) ∙ codes_behind n i codes obus a.1 h)
+    (λ e. ap (within n) (sym (by_false (Some code) e refl)) ∙ codes_behind n i codes obus a.1 h)
 
 all_later : (i : ℕ) (codes : List ℕ) → All (λ code. suc i ≤ code) codes → All (λ code. i ≤ code) codes
 all_later i [] a = tt

@@ -1,4 +1,5 @@
 -- A valid queue by its slots, and what send leaves, by the way that it takes. Assumes nothing.
+use Rattle.std.specs.Prelude.{Ok, Err}
 use Prim.Native.Nat.{ℕ, zero, suc, ◌+◌, ◌-◌, ◌*◌, ◌≤◌, ◌<◌}
 use mathlib.Core.Bool.{true, false}
 use mathlib.Core.Path.{◌≡◌, refl, sym, ap, ap₂, ◌∙◌}
@@ -12,6 +13,10 @@ use lib.Seq.{take-append_seam, drop-append_seam}
 use Rattle.lists.specs.Lists.{Bytes, over, any}
 use Rattle.lists.proofs.Parts.{drop_take}
 use Rattle.lists.proofs.Tests.{case, or_by_false, and_by_true, or_neither}
+use Rattle.refusal.specs.declared.Refusal.{Refusal}
+use Rattle.refusal.specs.declared.Refused.{Refused}
+use Rattle.refusal.specs.declared.Refusal.TheVariants as refusals
+use Rattle.refusal.specs.Number.{number_of}
 use Rattle.refusal.specs.Verdict.{Verdict, passed, refused, given}
 use Rattle.refusal.specs.Verdict as verdict
 use Rattle.refusal.proofs.Verdicts.{refuse, pass_on, passed_after, given_passed, never}
@@ -30,8 +35,6 @@ use Rattle.queue.specs.Queue.{TimedUnit, timed, queued_bytes, record_of, no_reco
 use Rattle.queue.proofs.Keeping.{bytes_within}
 use Rattle.mux_rules.specs.declared.Channel.{Channel}
 use Rattle.mux_rules.specs.declared.Written.{Written}
-use Rattle.mux_rules.specs.declared.SendAnswer.TheVariants as answer
-use Rattle.mux_rules.specs.declared.Sent.{Sent}
 use Rattle.mux_rules.specs.Packets.{section_packet, segment_packets, segment, units_packets, packets_for_units, next_channel}
 use Rattle.mux_rules.specs.Sending.{channel_wrong, sending, units_left, channel_left, Sends}
 use Rattle.mux.specs.Parts.{filled, slot_units, slot_wrong, formed, well_formed, slots_packets, table_packets}
@@ -130,11 +133,11 @@ module _ {queue : Queue} {store : Bytes} {units : List TimedUnit} (q : QueueIs q
     abbrev count : ℕ
     count = 3 + packets_for_units units
 
-    refused_by_lem : (number : ℕ) (r : Sent)
-        → r ≡ record { answer = answer.Refused (record { why = record { number = number }; place = 0 }); next = c; queue = queue }
-        → refused number 0 ≡ sending c d (length out) units → Sends c d units out r out
+    refused_by_lem : (why : Refusal) (r : Refused) → r ≡ record { why = why; place = 0 }
+        → refused (number_of why) 0 ≡ sending c d (length out) units
+        → Sends c d units out (record { answer = Err r; next = c; queue = queue }) out
     unfolding units_left channel_left verdict.leaves
-    refused_by_lem number r e f =
+    refused_by_lem why r e f =
         rw e record {
           answers = f;
           next = ap (λ (v : Verdict Written). channel_left v c units) f;
@@ -142,19 +145,17 @@ module _ {queue : Queue} {store : Bytes} {units : List TimedUnit} (q : QueueIs q
           leaves = ap (λ (v : Verdict Written). verdict.leaves v (segment c d units) out) f;
         }
 
-    pub sends_wrong : channel_wrong c d ≡ true → (r : Sent)
-        → r ≡ record { answer = answer.Refused (record { why = record { number = 52 }; place = 0 }); next = c; queue = queue }
-        → Sends c d units out r out
+    pub sends_wrong : channel_wrong c d ≡ true → (r : Refused) → r ≡ record { why = refusals.Channel; place = 0 }
+        → Sends c d units out (record { answer = Err r; next = c; queue = queue }) out
     unfolding sending
-    sends_wrong w r e = refused_by_lem 52 r e (refuse 52 _ w)
+    sends_wrong w r e = refused_by_lem refusals.Channel r e (refuse 52 _ w)
 
     module _ (w : channel_wrong c d ≡ false) where
-      pub sends_many : 65535 < count → (r : Sent)
-          → r ≡ record { answer = answer.Refused (record { why = record { number = 53 }; place = 0 }); next = c; queue = queue }
-          → Sends c d units out r out
+      pub sends_many : 65535 < count → (r : Refused) → r ≡ record { why = refusals.PacketsToSend; place = 0 }
+          → Sends c d units out (record { answer = Err r; next = c; queue = queue }) out
       unfolding sending
       sends_many h r e =
-          refused_by_lem 53 r e
+          refused_by_lem refusals.PacketsToSend r e
           (pass_on 52 w (refuse 53 _ (lt-ltb 65535 (length (segment_packets c d units)) (omega (arith, length_segment c d units)))))
 
       bytes_are : length (segment c d units) ≡ 188 * count
@@ -163,12 +164,11 @@ module _ {queue : Queue} {store : Bytes} {units : List TimedUnit} (q : QueueIs q
           ∙ ap (λ (n : ℕ). 188 * n) (length_segment c d units)
 
       module _ (few : count ≤ 65535) where
-        pub sends_short : length out < 188 * count → (r : Sent)
-            → r ≡ record { answer = answer.Refused (record { why = record { number = 8 }; place = 0 }); next = c; queue = queue }
-            → Sends c d units out r out
+        pub sends_short : length out < 188 * count → (r : Refused) → r ≡ record { why = refusals.NoRoom; place = 0 }
+            → Sends c d units out (record { answer = Err r; next = c; queue = queue }) out
         unfolding sending
         sends_short h r e =
-            refused_by_lem 8 r e
+            refused_by_lem refusals.NoRoom r e
             (pass_on 52 w
             (pass_on 53 (le-ltb 65535 (length (segment_packets c d units)) (omega (arith, length_segment c d units)))
             (refuse 8 _ (lt-ltb (length out) (length (segment c d units)) (omega (arith, bytes_are))))))
@@ -185,7 +185,7 @@ module _ {queue : Queue} {store : Bytes} {units : List TimedUnit} (q : QueueIs q
 
         pub sends_sent : 188 * count ≤ length out → (n m : ℕ) (next : Channel) (empty : Queue) (after : Bytes) → n ≡ 188 * count → m ≡ count
             → next ≡ next_channel c units → empty ≡ queue_of [] → after ≡ over (segment c d units) out
-            → Sends c d units out (record { answer = answer.Sent (record { bytes = n; packets = m }); next = next; queue = empty }) after
+            → Sends c d units out (record { answer = Ok (record { bytes = n; packets = m }); next = next; queue = empty }) after
         unfolding units_left channel_left verdict.leaves
         sends_sent h n m next empty after en em ec eq ea =
             let f = passes h in

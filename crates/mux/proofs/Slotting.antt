@@ -7,8 +7,8 @@ use native.Mathlib.Omega.{arith}
 use native.Mathlib.Numerals.{add-one}
 use borrow.Author.Tests.{leb-true, ltb-false, leb-false}
 use lib.Dec.{leb, ltb}
-use lib.ListN.{length, take, drop, get_or, length-take, length-drop, length-append}
-use lib.Seq.{drop-cons, get_or-take, length-take-le}
+use lib.ListN.{length, take, drop, get_or, length-drop, length-append, drop_of_length-le}
+use lib.Seq.{drop-cons, length-take-le}
 use Rattle.lists.specs.Lists.{Bytes}
 use Rattle.lists.proofs.Tests.{and_both, and_by_false, and_by_true, or_neither}
 use Rattle.unit.specs.Unit.{most_carried}
@@ -30,21 +30,11 @@ unit_packets_lem u =
     ∙ ap (λ (k : ℕ). k + length u.carried) (header_size u.pts u.dts (length u.carried))))
 
 -- ---- slot by slot
-pub slot_next : (units : List Queued) (count i : ℕ) (d : Queued) → i < count → count ≤ length units
-    → drop i (take count units) ≡ get_or units i d ∷ drop (i + 1) (take count units)
-slot_next units count i d h k =
-    rw add-one
-    (drop-cons (take count units) i d (omega (arith, length-take-le count units k))
-    ∙ ap (λ (r : Queued). r ∷ drop (suc i) (take count units)) (get_or-take count units i d h))
+pub slot_next : (rs : List Queued) (i : ℕ) (d : Queued) → i < length rs → drop i rs ≡ get_or rs i d ∷ drop (i + 1) rs
+slot_next rs i d h = rw add-one (drop-cons rs i d h)
 
-pub slot_last : (units : List Queued) (count i : ℕ) → count ≤ i → drop i (take count units) ≡ []
-slot_last units count i h = none_left (take count units) i (omega (arith, length-take count units))
-  where
-    none_left : (l : List Queued) (i : ℕ) → length l ≤ i → drop i l ≡ []
-    none_left [] zero h = refl
-    none_left [] (suc i) h = refl
-    none_left (r ∷ l) zero h = absurd (omega arith)
-    none_left (r ∷ l) (suc i) h = none_left l i (omega arith)
+pub slot_last : (rs : List Queued) (i : ℕ) → length rs ≤ i → drop i rs ≡ []
+slot_last rs i h = drop_of_length-le rs {i = i} h
 
 -- ---- well formed
 module _ (r : Queued) (rs : List Queued) (room : ℕ) where
@@ -96,6 +86,10 @@ formed_none room = refl
 pub well : (q : Queue) (room : ℕ) → well_formed q room ≡ true → (q.count ≤ 8) × (formed (filled q) room ≡ true)
 unfolding well_formed
 well q room e = let b = and_both (leb q.count most_units) (formed (filled q) room) e in (leb-true q.count most_units b.0, b.1)
+
+-- the slots that are filled, as they are lent
+pub well_slots : (q : Queue) (rs : List Queued) (room : ℕ) → rs ≡ filled q → well_formed q room ≡ true → formed rs room ≡ true
+well_slots q rs room e w = ap (λ (l : List Queued). formed l room) e ∙ (well q room w).1
 
 -- a slot of several
 pub slot_short : (rs : List Queued) (room i : ℕ) (d : Queued) → formed rs room ≡ true → i < length rs → (get_or rs i d).length ≤ 1573056

@@ -16,10 +16,6 @@ use Rattle.packet_writer.specs.Putting.{head_size}
 use Rattle.mux_rules.specs.declared.Channel.{Channel}
 use Rattle.mux_rules.specs.Packets.{first_most, others_for, section_packet}
 
--- how many of the bytes that are left go into the next packet
-unfoldable pub part_size : ℕ → ℕ
-part_size left = pick (ltb left 184) left 184
-
 -- how many of a unit's n bytes the first packet has behind a header of so many
 unfoldable pub first_size : Bool → ℕ → ℕ → ℕ
 first_size marked head n = pick (ltb n (first_most marked - head)) n (first_most marked - head)

@@ -4,44 +4,38 @@ ghost use mathlib.Core.List.{flatten};
 ghost use Rattle.lists.specs.Lists.{over};
 ghost use Rattle.packet.specs.Writing.{counter_after};
 ghost use Rattle.mux_rules.specs.Packets.{others_for, others};
-ghost use Rattle.mux.specs.Parts.{part_size};
 
 use packet::PACKET_LENGTH;
 use packet_writer::{MOST_PAYLOAD, put_packet};
 
-// The counter after this one.
-pub(crate) fn next_counter(counter: u64) -> u64
-    requires { counter < 16 }
-    ensures { result ≡ counter_after counter 1 }
-{
-    (counter + 1) % 16
+// A PID of 13 bits, and the counter of four bits of its next packet.
+#[derive(Clone, Copy)]
+pub(crate) struct Stream {
+    pub pid: u64,
+    pub counter: u64,
+    ghost in_range: { (pid < 8192) × (counter < 16) },
 }
 
-// How many of the bytes that are left go into the next packet.
-fn part_size(left: usize) -> usize
-    ensures { result ≡ part_size left }
+// Returns the counter after `n` packets more.
+pub(crate) fn counter_after(counter: u64, n: usize) -> u64
+    requires { (counter < 16) × (n ≤ 68408) }
+    ensures { result ≡ counter_after counter n }
 {
-    if left < MOST_PAYLOAD {
-        return left;
-    }
-    MOST_PAYLOAD
+    (counter + n as u64) % 16
 }
 
-// The packets after a PES's first, with these bytes.
-pub(crate) fn put_others(pid: u64, counter: u64, bytes: &[u8], out: &mut [u8])
-    requires { (pid < 8192) × (counter < 16) × (188 * others_for (length bytes.now) ≤ length out.old) }
+// Writes the packets after a PES's first, with these bytes.
+pub(crate) fn put_others(stream: Stream, bytes: &[u8], out: &mut [u8])
+    requires { 188 * others_for (length bytes.now) ≤ length out.old }
     ensures { out.new
-        ≡ over (flatten (others (others_for (length bytes.now)) pid counter bytes.now))
+        ≡ over (flatten (others (others_for (length bytes.now)) stream.pid stream.counter bytes.now))
         out.old }
 {
-    let mut at: usize = 0;
     let mut to: usize = 0;
-    let mut next = counter;
-    while at < bytes.len() {
-        let end = at + part_size(bytes.len() - at);
-        put_packet(pid, next, &bytes[at..end], &mut out[to..]);
-        at = end;
+    let mut next = stream.counter;
+    for payload in bytes.chunks(MOST_PAYLOAD) {
+        put_packet(stream.pid, next, payload, &mut out[to..]);
         to += PACKET_LENGTH;
-        next = next_counter(next);
+        next = counter_after(next, 1);
     }
 }

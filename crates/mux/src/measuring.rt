@@ -8,44 +8,45 @@ use packet_writer::head_size;
 use queue::{Queue, Queued};
 use unit::MOST_CARRIED;
 
-// A slot that no unit in so many bytes can have.
+// Returns true if no unit in `room` bytes can have this slot.
+#[tactic(auto, unfolding(crate::specs::Parts::slot_wrong))]
 fn slot_wrong(slot: Queued, room: usize) -> bool
     ensures { result ≡ slot_wrong slot room }
 {
-    if MOST_CARRIED < slot.length {
-        return true;
-    }
-    if room < slot.length {
-        return true;
-    }
-    if 8589934592 <= slot.pts.0 {
-        return true;
-    }
-    8589934592 <= slot.dts.0
+    MOST_CARRIED < slot.length
+        || room < slot.length
+        || 8589934592 <= slot.pts.0
+        || 8589934592 <= slot.dts.0
 }
 
-// At most eight slots are filled, and none of them is so.
-pub(crate) fn well_formed(queue: Queue, room: usize) -> bool
-    ensures { result ≡ well_formed queue room }
+// Returns the slots that are filled, of which there are at most eight.
+pub(crate) fn filled(queue: &Queue) -> &[Queued]
+    requires { queue.now.count ≤ 8 }
+    ensures { result.now ≡ filled queue.now }
 {
-    let count = queue.count;
-    if 8 < count {
+    &queue.units[..queue.count]
+}
+
+// Returns true if at most eight slots are filled, and each can be that of a unit in the bytes that the ones before it
+// leave of `room`.
+pub(crate) fn well_formed(queue: &Queue, room: usize) -> bool
+    ensures { result ≡ well_formed queue.now room }
+{
+    if 8 < queue.count {
         return false;
     }
+    let slots = filled(queue);
     let mut left = room;
-    let mut i: usize = 0;
-    while i < count {
-        let slot = queue.units[i];
-        if slot_wrong(slot, left) {
+    for slot in slots {
+        if slot_wrong(*slot, left) {
             return false;
         }
         left -= slot.length;
-        i += 1;
     }
     true
 }
 
-// The packets after the first, of so many bytes.
+// Returns how many packets follow the first, of so many bytes.
 fn others_for(n: usize) -> usize
     requires { n ≤ 1573075 }
     ensures { result ≡ others_for n }
@@ -53,7 +54,7 @@ fn others_for(n: usize) -> usize
     (n + 183) / 184
 }
 
-// The packets of a slot's unit.
+// Returns how many packets a slot's unit takes.
 pub(crate) fn slot_packets(slot: Queued) -> usize
     requires { slot.length ≤ 1573056 }
     ensures { (result ≡ slot_packets slot) × (result ≤ 8551) }
@@ -66,18 +67,15 @@ pub(crate) fn slot_packets(slot: Queued) -> usize
     1 + others_for(whole - most)
 }
 
-// The packets of all units.
-pub(crate) fn queue_packets(queue: Queue, room: usize) -> usize
-    requires { well_formed queue room ≡ true }
-    ensures { (result ≡ slots_packets (filled queue)) × (result ≤ 68408) }
+// Returns how many packets all units take.
+pub(crate) fn queue_packets(queue: &Queue, room: usize) -> usize
+    requires { well_formed queue.now room ≡ true }
+    ensures { (result ≡ slots_packets (filled queue.now)) × (result ≤ 68408) }
 {
-    let count = queue.count;
+    let slots = filled(queue);
     let mut total: usize = 0;
-    let mut i: usize = 0;
-    while i < count {
-        let slot = queue.units[i];
-        total += slot_packets(slot);
-        i += 1;
+    for slot in slots {
+        total += slot_packets(*slot);
     }
     total
 }

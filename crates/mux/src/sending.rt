@@ -7,9 +7,10 @@ ghost use Rattle.mux_rules.specs.Packets.{channel_after};
 ghost use Rattle.mux.specs.Parts.{table_packets};
 
 use crate::channel::channel_wrong;
+use crate::cutting::{Stream, counter_after};
 use crate::measuring::{queue_packets, well_formed};
-use crate::writing::{counter_after, put_units};
-use mux_rules::{Channel, SendAnswer, Sent, Written};
+use crate::writing::put_units;
+use mux_rules::{Channel, Written};
 use packet::PACKET_LENGTH;
 use packet_writer::{put_pat, put_pcr, put_pmt};
 use queue::Queue;
@@ -23,93 +24,74 @@ const UNITS_PLACE: usize = 3 * PACKET_LENGTH;
 // The most packets of a segment.
 const MOST_PACKETS: usize = 65535;
 
-// PAT, PMT and PCR.
+// Writes PAT, PMT and PCR.
 fn put_tables(channel: Channel, video: &[u8], out: &mut [u8])
     requires { (channel_wrong channel video.now ≡ false) × (564 ≤ length out.old) }
     ensures { out.new ≡ over (table_packets channel video.now) out.old }
 {
-    let program = channel.program;
-    let map_pid = channel.map_pid;
-    let pid = channel.av1_pid;
-    let pcr = channel.pcr;
-    put_pat(channel.pat_counter, program, map_pid, out);
+    put_pat(channel.pat_counter, channel.program, channel.map_pid, out);
     put_pmt(
-        map_pid,
+        channel.map_pid,
         channel.map_counter,
-        program,
-        pid,
+        channel.program,
+        channel.av1_pid,
         video,
         &mut out[PACKET_LENGTH..],
     );
-    put_pcr(pid, channel.av1_counter, pcr, &mut out[PCR_PLACE..]);
+    put_pcr(
+        channel.av1_pid,
+        channel.av1_counter,
+        channel.pcr,
+        &mut out[PCR_PLACE..],
+    );
 }
 
-// A refusal, and channel and queue as they were.
-fn refuse(why: Refusal, channel: Channel, queue: Queue) -> Sent
-    ensures { result ≡ record {
-      answer = SendAnswer.Refused (record { why = why; place = 0 });
-      next = channel;
-      queue = queue;
-    } }
+// Advances the counters past a segment with `n` packets of units.
+fn advance(channel: &mut Channel, n: usize)
+    requires { (channel.old.pat_counter < 16) × (channel.old.map_counter < 16)
+        × (channel.old.av1_counter < 16) × (n ≤ 68408) }
+    ensures { channel.new ≡ channel_after channel.old n }
 {
-    Sent {
-        answer: SendAnswer::Refused(Refused { why, place: 0 }),
-        next: channel,
-        queue,
-    }
+    channel.pat_counter = counter_after(channel.pat_counter, 1);
+    channel.map_counter = counter_after(channel.map_counter, 1);
+    channel.av1_counter = counter_after(channel.av1_counter, n);
 }
 
-// The channel after so many packets of units.
-fn channel_after(channel: Channel, n: usize) -> Channel
-    requires { (channel.pat_counter < 16) × (channel.map_counter < 16) × (channel.av1_counter < 16)
-        × (n ≤ 68408) }
-    ensures { result ≡ channel_after channel n }
+// Writes the queued units, whose bytes stand in the store, as a segment. The queue is then empty, and the channel has
+// the counters that follow. Returns refusal 52, 53 or 8; queue, channel and `out` are then left unchanged.
+pub fn send(
+    queue: &mut Queue,
+    store: &[u8],
+    channel: &mut Channel,
+    video: &[u8],
+    out: &mut [u8],
+) -> Result<Written, Refused>
+    ensures { (units : List TimedUnit) → QueueIs queue.old store.now units
+        → Sends channel.old video.now units out.old
+        (record { answer = result; next = channel.new; queue = queue.new }) out.new }
 {
-    let pat = counter_after(channel.pat_counter, 1);
-    let map = counter_after(channel.map_counter, 1);
-    let av1 = counter_after(channel.av1_counter, n);
-    let mut next = channel;
-    next.pat_counter = pat;
-    next.map_counter = map;
-    next.av1_counter = av1;
-    next
-}
-
-// Writes the queued units, whose bytes stand in the store, as a segment; the queue is then empty.
-pub fn send(queue: Queue, store: &[u8], channel: Channel, video: &[u8], out: &mut [u8]) -> Sent
-    ensures { (units : List TimedUnit) → QueueIs queue store.now units
-        → Sends channel video.now units out.old result out.new }
-{
-    if channel_wrong(channel, video) {
-        return refuse(Refusal::CHANNEL, channel, queue);
+    if channel_wrong(*channel, video) {
+        return Err(Refusal::Channel.at(0));
     }
     if !well_formed(queue, store.len()) {
-        return refuse(Refusal::NO_ROOM, channel, queue); // no queue that the operations lead to
+        return Err(Refusal::NoRoom.at(0)); // no queue that the operations lead to
     }
     let units = queue_packets(queue, store.len());
     let packets = 3 + units;
     if MOST_PACKETS < packets {
-        return refuse(Refusal::PACKETS_TO_SEND, channel, queue);
+        return Err(Refusal::PacketsToSend.at(0));
     }
-    if out.len() < PACKET_LENGTH * packets {
-        return refuse(Refusal::NO_ROOM, channel, queue);
+    let bytes = PACKET_LENGTH * packets;
+    if out.len() < bytes {
+        return Err(Refusal::NoRoom.at(0));
     }
-    put_tables(channel, video, out);
-    put_units(
-        channel.av1_pid,
-        channel.av1_counter,
-        queue,
-        store,
-        &mut out[UNITS_PLACE..],
-    );
-    let next = channel_after(channel, units);
-    let cleared = queue.clear();
-    Sent {
-        answer: SendAnswer::Sent(Written {
-            bytes: PACKET_LENGTH * packets,
-            packets,
-        }),
-        next,
-        queue: cleared,
-    }
+    put_tables(*channel, video, out);
+    let stream = Stream {
+        pid: channel.av1_pid,
+        counter: channel.av1_counter,
+    };
+    put_units(stream, queue, store, &mut out[UNITS_PLACE..]);
+    advance(channel, units);
+    queue.clear();
+    Ok(Written { bytes, packets })
 }

@@ -6,7 +6,7 @@ ghost use Rattle.mux.specs.Parts.{first_size, flags_of};
 use crate::frames::frame_begins;
 use packet_writer::MOST_PAYLOAD;
 
-// How many bytes of a PES it has at most.
+// Returns how many bytes of a PES it has at most.
 pub(crate) fn first_most(marked: bool) -> usize
     ensures value { result ≡ first_most marked }
     ensures lower_bound { (182 ≤ result) × (result ≤ 184) }
@@ -17,20 +17,16 @@ pub(crate) fn first_most(marked: bool) -> usize
     MOST_PAYLOAD
 }
 
-// How many of a unit's n bytes it has, behind a header of so many.
+// Returns how many of a unit's `n` bytes it has, behind a header of `head` bytes.
 pub(crate) fn first_size(marked: bool, head: usize, n: usize) -> usize
     requires { head ≤ 19 }
     ensures value { result ≡ first_size marked head n }
     ensures upper_bound { (result ≤ n) × (head + result ≤ 184) }
 {
-    let room = first_most(marked) - head;
-    if n < room {
-        return n;
-    }
-    room
+    n.min(first_most(marked) - head)
 }
 
-// The flags of its adaptation field, where it has so many of the unit's bytes.
+// Returns the flags of its adaptation field, if it has `n` of the unit's bytes.
 pub(crate) fn first_flags(marked: bool, unit: &[u8], n: usize) -> u8
     requires { n ≤ length unit.now }
     ensures { result ≡ flags_of marked (within n (frame_place unit.now)) }

@@ -32,8 +32,7 @@ use Rattle.mux_rules.specs.declared.Channel.{Channel}
 use Rattle.mux_rules.specs.declared.Written.{Written}
 use Rattle.packet.proofs.Packets.{Whole, packets_flatten}
 use Rattle.mux_rules.specs.Packets.{packets_for, segment_packets, segment, packets_for_units}
-use Rattle.mux_rules.specs.Sending.{channel_wrong, sending, units_left, Sends}
-use Rattle.mux_rules.specs.declared.Sent.{Sent}
+use Rattle.mux_rules.specs.Sending.{channel_wrong, sending, units_left, Sent, Sends}
 use Rattle.mux_rules.specs.Claim.{access_units, accepted_as, LongEnough, unit_lengths, unit_times, handed_back, Claim}
 use Rattle.mux_rules.specs.Claim.{channel_then, accepted_twice, TwoSends}
 use Rattle.mux_rules.proofs.Counts.{flat_append, whole_segment, length_segment}

@@ -1,9 +1,9 @@
 -- The packets of one send in turn, as the first of a segment and after another send's, and what the check then answers. Assumes nothing.
+use Rattle.std.specs.Prelude.{Option, Some, None}
 use Prim.Native.Nat.{ℕ, ◌+◌, ◌*◌, ◌≤◌, ◌<◌}
 use mathlib.Core.Bool.{Bool, true, false, ◌||◌, true≢false}
 use mathlib.Core.Path.{◌≡◌, refl, sym, ap, ap₂, ◌∙◌}
 use mathlib.Core.List.{List, [], ◌∷◌, ◌++◌, flatten, append-nil, append_assoc}
-use mathlib.Core.Option.{Option, none, some}
 use native.Mathlib.Omega.{arith}
 use borrow.Author.Tests.{ltb-false, leb-false, eqb-false}
 use lib.Dec.{eqb, ltb}
@@ -146,7 +146,7 @@ module _ (c : Channel) (d : Bytes) (ok : Allowed c d) (rooms : Rooms) where
     pub pat_counter : continuity_counter a.bytes ≡ ka
     pub map_counter : continuity_counter b.bytes ≡ kb
     pub av1_counter : continuity_counter last.bytes ≡ kl
-    pub closes : close_pes (extracted now before) ≡ passed (extracted none units)
+    pub closes : close_pes (extracted now before) ≡ passed (extracted None units)
     pub is : v ≡ passed (going c d rooms ok.pid_some ok.pid_high ok.pid_other a b t last now before s n)
 
   -- where it is
@@ -170,7 +170,7 @@ module _ (c : Channel) (d : Bytes) (ok : Allowed c d) (rooms : Rooms) where
         pat_counter = r.pat_counter;
         map_counter = r.map_counter;
         av1_counter = r.av1_counter ∙ ek;
-        closes = r.closes ∙ ap (λ (x : List AccessUnit). passed (extracted none x)) eu;
+        closes = r.closes ∙ ap (λ (x : List AccessUnit). passed (extracted None x)) eu;
         is =
             ev ∙ r.is
             ∙ ap (λ (x : ℕ). passed
@@ -208,14 +208,14 @@ module _ (c : Channel) (d : Bytes) (ok : Allowed c d) (rooms : Rooms) where
       fine.dts r.av1_counter hk r.closes (omega arith) (omega arith) (omega arith) (omega arith) in
       let then =
       going c d rooms ok.pid_some ok.pid_high ok.pid_other r.a r.b r.t one.last
-      (some (open_for (s + n) u u.carried)) units s (n + k) in
+      (Some (open_for (s + n) u u.carried)) units s (n + k) in
       let there : Reaches (passed then) ka kb (counter_after kl k) (units ++ (unit_at (s + n) u ∷ [])) s (n + k) =
       record {
         a = r.a;
         b = r.b;
         last = one.last;
         t = r.t;
-        now = some (open_for (s + n) u u.carried);
+        now = Some (open_for (s + n) u u.carried);
         before = units;
         pat_counter = r.pat_counter;
         map_counter = r.map_counter;
@@ -266,27 +266,27 @@ module _ (c : Channel) (d : Bytes) (ok : Allowed c d) (rooms : Rooms) where
     unfolding kind_of pick
     of_pat x = ap (kind_of x) pat_read.pid
 
-    of_map : (x : Tables) → x.pat ≡ some (first_pat c d) → kind_of x (packet.pid p2) ≡ Map
+    of_map : (x : Tables) → x.pat ≡ Some (first_pat c d) → kind_of x (packet.pid p2) ≡ Map
     of_map x e = ap (kind_of x) pmt_read.pid ∙ kind_map c d ok.map_low ok.map_high x e
 
-    of_av1 : (x : Tables) → x.pat ≡ some (first_pat c d) → x.pmt ≡ some (first_pmt c d) → kind_of x (packet.pid p3) ≡ Av1
+    of_av1 : (x : Tables) → x.pat ≡ Some (first_pat c d) → x.pmt ≡ Some (first_pmt c d) → kind_of x (packet.pid p3) ≡ Av1
     of_av1 x e f = ap (kind_of x) pcr_read.pid ∙ kind_av1 c d ok.pid_some ok.pid_high ok.pid_other x e f
 
     -- as the first of a segment: before the second and before the third
     abbrev second : Progress
     second =
-        record { index = 1; state = record { tables = after_pat c d (laid 0 p1); extraction = extracted none [] }; totals = totals_at 1 0 }
+        record { index = 1; state = record { tables = after_pat c d (laid 0 p1); extraction = extracted None [] }; totals = totals_at 1 0 }
 
     abbrev third : Progress
     third =
         record {
           index = 2;
-          state = record { tables = after_pmt c d (laid 0 p1) (laid 1 p2); extraction = extracted none [] };
+          state = record { tables = after_pmt c d (laid 0 p1) (laid 1 p2); extraction = extracted None [] };
           totals = totals_at 2 0;
         }
 
     pub first_three : (ps : List Bytes)
-        → run current rooms start (p1 ∷ p2 ∷ p3 ∷ ps) ≡ run current rooms (after (laid 0 p1) (laid 1 p2) t (laid 2 p3) none [] 2 1) ps
+        → run current rooms start (p1 ∷ p2 ∷ p3 ∷ ps) ≡ run current rooms (after (laid 0 p1) (laid 1 p2) t (laid 2 p3) None [] 2 1) ps
     unfolding counting
     first_three ps =
         run_next rooms start _ p1 _ _
@@ -295,10 +295,10 @@ module _ (c : Channel) (d : Bytes) (ok : Allowed c d) (rooms : Rooms) where
         (run_next rooms second _ p2 _ _
         (step_by rooms second _ p2 Map (of_map (after_pat c d (laid 0 p1)) refl)
         (pmt_first c d rooms 1 ok.pid_some ok.pid_high ok.pid_other ok.fine ok.map_low ok.map_high nb hb (laid 0 p1)
-        (extracted none [])))
+        (extracted None [])))
         (run_next rooms third _ p3 _ _
         (step_by rooms third _ p3 Av1 (of_av1 (after_pmt c d (laid 0 p1) (laid 1 p2)) refl refl)
-        (pcr_first c d rooms 2 ok.pid_some ok.pid_high ok.pid_other nl hl t (laid 0 p1) (laid 1 p2) (extracted none [])))
+        (pcr_first c d rooms 2 ok.pid_some ok.pid_high ok.pid_other nl hl t (laid 0 p1) (laid 1 p2) (extracted None [])))
         refl))
 
     -- after another send's
@@ -394,7 +394,7 @@ module _ (c : Channel) (d : Bytes) (ok : Allowed c d) (rooms : Rooms) where
         (access_units 3 us) 2 (1 + packets_for_units us)
     unfolding segment_packets close_if_open
     send_first fits =
-        let g = after (laid 0 (pat_is c na)) (laid 1 (pmt_is c d nb)) t (laid 2 (pcr_is c (counter_before nl) t)) none [] 2 1 in
+        let g = after (laid 0 (pat_is c na)) (laid 1 (pmt_is c d nb)) t (laid 2 (pcr_is c (counter_before nl) t)) None [] 2 1 in
         renamed
         (units_run us g na nb (counter_before nl) [] 2 1
         (record {
@@ -402,7 +402,7 @@ module _ (c : Channel) (d : Bytes) (ok : Allowed c d) (rooms : Rooms) where
           b = laid 1 (pmt_is c d nb);
           last = laid 2 (pcr_is c (counter_before nl) t);
           t = t;
-          now = none;
+          now = None;
           before = [];
           pat_counter = (pat_read na nb (counter_before nl) ha hb (omega arith) t).counter;
           map_counter = (pmt_read na nb (counter_before nl) ha hb (omega arith) t).counter;

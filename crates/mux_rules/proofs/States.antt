@@ -1,9 +1,9 @@
 -- What the check has heard between two packets of segments that send wrote, and what one packet adds to its records. Assumes nothing.
+use Rattle.std.specs.Prelude.{Option, Some, None}
 use Prim.Native.Nat.{ℕ, ◌+◌, ◌≤◌}
 use mathlib.Core.Bool.{Bool, true, false, not, ◌&&◌, ◌||◌, and-false}
 use mathlib.Core.Path.{◌≡◌, refl, ap, ◌∙◌}
 use mathlib.Core.List.{List, [], ◌∷◌}
-use mathlib.Core.Option.{none, some}
 use native.Mathlib.Omega.{arith}
 use borrow.Author.Tests.{eq-eqb, ne_eqb}
 use lib.Dec.{eqb}
@@ -14,8 +14,6 @@ use Rattle.refusal.proofs.Verdicts.{All}
 use Rattle.descriptor.specs.Edition.{current}
 use Rattle.ticks.specs.declared.Ticks27.{Ticks27}
 use Rattle.packet.specs.Header.{pid, pcr, pcr_flag, null_pid, has_payload, continuity_counter, discontinuity_indicator}
-use Rattle.packet.specs.declared.header.Clock.{Clock}
-use Rattle.packet.specs.declared.header.Clock.TheVariants as clock
 use Rattle.packet.specs.Counter.{StreamRecord, named, counter_right, copy_of, due, check, record_of, checked_in}
 use Rattle.packet.proofs.Counters.{check_right}
 use Rattle.packet.proofs.Copies.{copy_not_due}
@@ -40,7 +38,7 @@ laid i p = record { index = i; bytes = p }
 
 -- the record of a PID of which this was the last packet
 abbrev pub seen : ℕ → Laid → StreamRecord
-seen n q = record { pid = n; last = some q.bytes; lies = q.index; repeat = false }
+seen n q = record { pid = n; last = Some q.bytes; lies = q.index; repeat = false }
 
 module _ (c : Channel) (d : Bytes) where
   -- the first packet of the segment brings the first PAT, the second the first PMT
@@ -53,29 +51,29 @@ module _ (c : Channel) (d : Bytes) where
 
   -- after the first PAT, which is the packet a; after the first PMT, which is b
   abbrev pub after_pat : Laid → Tables
-  after_pat a = record { pat = some first_pat; pmt = none; records = seen 0 a ∷ named c.map_pid ∷ []; pcr = clock.None }
+  after_pat a = record { pat = Some first_pat; pmt = None; records = seen 0 a ∷ named c.map_pid ∷ []; pcr = None }
 
   abbrev pub after_pmt : Laid → Laid → Tables
   after_pmt a b =
       record {
-        pat = some first_pat;
-        pmt = some first_pmt;
+        pat = Some first_pat;
+        pmt = Some first_pmt;
         records = seen 0 a ∷ seen c.map_pid b ∷ named c.av1_pid ∷ [];
-        pcr = clock.None;
+        pcr = None;
       }
 
   -- from the first PCR on: the last packets of the three PIDs, and the last PCR
   abbrev pub in_tables : Laid → Laid → Laid → Ticks27 → Tables
   in_tables a b l t =
       record {
-        pat = some first_pat;
-        pmt = some first_pmt;
+        pat = Some first_pat;
+        pmt = Some first_pmt;
         records = seen 0 a ∷ seen c.map_pid b ∷ seen c.av1_pid l ∷ [];
-        pcr = clock.Pcr t;
+        pcr = Some t;
       }
 
   -- ---- the PIDs
-  pub kind_map : 0x0010 ≤ c.map_pid → c.map_pid ≤ 0x1FFE → (t : Tables) → t.pat ≡ some first_pat → kind_of t c.map_pid ≡ Map
+  pub kind_map : 0x0010 ≤ c.map_pid → c.map_pid ≤ 0x1FFE → (t : Tables) → t.pat ≡ Some first_pat → kind_of t c.map_pid ≡ Map
   unfolding kind_of is_map_pid pick
   kind_map low high t e =
       rw (
@@ -85,8 +83,8 @@ module _ (c : Channel) (d : Bytes) where
         eq-eqb c.map_pid c.map_pid refl,
       )
 
-  pub kind_av1 : (c.av1_pid ≡ 0 → ⊥) → c.av1_pid ≤ 0x1FFE → (c.av1_pid ≡ c.map_pid → ⊥) → (t : Tables) → t.pat ≡ some first_pat
-      → t.pmt ≡ some first_pmt → kind_of t c.av1_pid ≡ Av1
+  pub kind_av1 : (c.av1_pid ≡ 0 → ⊥) → c.av1_pid ≤ 0x1FFE → (c.av1_pid ≡ c.map_pid → ⊥) → (t : Tables) → t.pat ≡ Some first_pat
+      → t.pmt ≡ Some first_pmt → kind_of t c.av1_pid ≡ Av1
   unfolding kind_of is_map_pid listed_as pick
   kind_av1 p0 high p2 t e f =
       rw (
@@ -100,7 +98,7 @@ module _ (c : Channel) (d : Bytes) where
 
 -- ---- counters
 -- a PID's first packet sets the counter, and is no copy
-first_new : (p : Bytes) → (copy_of none p && true) ≡ false
+first_new : (p : Bytes) → (copy_of None p && true) ≡ false
 unfolding copy_of
 first_new p = ap (λ (b : Bool). b && true) (and-false (has_payload p && not (discontinuity_indicator p)))
 
@@ -108,20 +106,20 @@ pub first_check : (i n : ℕ) (p : Bytes) → check i (named n) p ≡ passed (se
 unfolding counter_right
 first_check i n p =
     check_right i (named n) p refl
-    ∙ ap (λ (b : Bool). passed (record { pid = n; last = some p; lies = i; repeat = b })) (first_new p)
+    ∙ ap (λ (b : Bool). passed (record { pid = n; last = Some p; lies = i; repeat = b })) (first_new p)
 
 -- then the one that is due, which no copy has
-due_new : (l p : Bytes) → counter_right (some l) p ≡ true → (copy_of (some l) p && true) ≡ false
-due_new l p e = case (copy_of (some l) p) (λ k. clash e (copy_not_due l p k)) (λ k. ap (λ (b : Bool). b && true) k)
+due_new : (l p : Bytes) → counter_right (Some l) p ≡ true → (copy_of (Some l) p && true) ≡ false
+due_new l p e = case (copy_of (Some l) p) (λ k. clash e (copy_not_due l p k)) (λ k. ap (λ (b : Bool). b && true) k)
 
 pub next_check : (i n : ℕ) (l : Laid) (p : Bytes) → discontinuity_indicator p ≡ false
     → continuity_counter p ≡ due (continuity_counter l.bytes) (has_payload p) → check i (seen n l) p ≡ passed (seen n (laid i p))
 unfolding counter_right
 next_check i n l p steady e =
-    let right : counter_right (some l.bytes) p ≡ true =
+    let right : counter_right (Some l.bytes) p ≡ true =
     rw (steady, eq-eqb (continuity_counter p) (due (continuity_counter l.bytes) (has_payload p)) e) in
-    check_right i (seen n l) p (ap (λ (b : Bool). b || (copy_of (some l.bytes) p && true)) right)
-    ∙ ap (λ (b : Bool). passed (record { pid = n; last = some p; lies = i; repeat = b })) (due_new l.bytes p right)
+    check_right i (seen n l) p (ap (λ (b : Bool). b || (copy_of (Some l.bytes) p && true)) right)
+    ∙ ap (λ (b : Bool). passed (record { pid = n; last = Some p; lies = i; repeat = b })) (due_new l.bytes p right)
 
 -- none of these records says that the last packet of its PID was a repeat
 pub none_repeats : (n : ℕ) (records : List StreamRecord) → All (λ r. r.repeat ≡ false) records
@@ -145,12 +143,12 @@ module _ (i : ℕ) (r r' : StreamRecord) (records : List StreamRecord) (p : Byte
 
 -- ---- the PCR
 -- a packet without PCR_flag has none
-pub no_clock : (p : Bytes) → pcr_flag p ≡ false → pcr p ≡ clock.None
+pub no_clock : (p : Bytes) → pcr_flag p ≡ false → pcr p ≡ None
 unfolding pcr pick
-no_clock p e = rw e (either (eqb (pid p) null_pid) clock.None)
+no_clock p e = rw e (either (eqb (pid p) null_pid) None)
 
 -- ---- both: the counter is checked by these records, and the last PCR is then this
-pub counted_by : (i : ℕ) (p : Bytes) (st : State) (after : List StreamRecord) (t : Clock)
+pub counted_by : (i : ℕ) (p : Bytes) (st : State) (after : List StreamRecord) (t : Option Ticks27)
     → checked_in i st.tables.records p ≡ passed after
     → last_pcr st.tables.pcr (counting_pcr st.tables.pmt p) ≡ t
     → counted i p st ≡ passed (with_tables (record { pat = st.tables.pat; pmt = st.tables.pmt; records = after; pcr = t }) st)

@@ -1,10 +1,10 @@
 -- The first three packets of a segment that send wrote, the PAT, the PMT and the PCR: as the first of a segment, and after another send's.
 -- Assumes nothing.
+use Rattle.std.specs.Prelude.{Option, Some, None}
 use Prim.Native.Nat.{ℕ, ◌≤◌, ◌<◌}
 use mathlib.Core.Bool.{Bool, true, false}
 use mathlib.Core.Path.{◌≡◌, refl, sym, ap, ◌∙◌}
 use mathlib.Core.List.{[], ◌∷◌}
-use mathlib.Core.Option.{Option, none, some}
 use native.Mathlib.Omega.{arith}
 use borrow.Author.Tests.{eq-eqb}
 use lib.ListN.{length}
@@ -17,8 +17,6 @@ use Rattle.descriptor.specs.Edition.{current}
 use Rattle.ticks.specs.declared.Ticks27.{Ticks27}
 use Rattle.packet.specs.Header as packet
 use Rattle.packet.specs.Header.{null_pid, has_payload, payload, payload_unit_start_indicator, continuity_counter}
-use Rattle.packet.specs.declared.header.Clock.{Clock}
-use Rattle.packet.specs.declared.header.Clock.TheVariants as clock
 use Rattle.packet.specs.Counter.{named, due}
 use Rattle.packet.specs.Writing.{counter_after, pcr_packet}
 use Rattle.packet.proofs.Writing.{Reads, Carries, carrying_reads}
@@ -68,7 +66,8 @@ module _ (q counter table extension : ℕ) (rest : Bytes) (hq : q < 8192) (hc : 
   section_found = ap section_of both.1.payload ∙ section_back table extension rest short
 
 -- no PCR of a packet without one counts
-pub still : (p : Bytes) (pmt : Option FirstPmt) (earlier : Clock) → packet.pcr_flag p ≡ false → last_pcr earlier (counting_pcr pmt p) ≡
+pub still : (p : Bytes) (pmt : Option FirstPmt) (earlier : Option Ticks27) → packet.pcr_flag p ≡ false →
+    last_pcr earlier (counting_pcr pmt p) ≡
     earlier
 still p pmt earlier e = ap (last_pcr earlier) (uncounted p pmt (no_clock p e))
 
@@ -113,7 +112,7 @@ module _ (c : Channel) (d : Bytes) (rooms : Rooms) (i : ℕ) where
     pat_has = section_carries 0 n 0 0 rest (omega arith) hn (omega arith)
 
     pat_said : (s : Bool) (w : Bytes) → misplaced s w ≡ false → section_of w ≡ pat c.program c.map_pid
-        → (t : Tables) → t.pat ≡ none → t.pmt ≡ none → t.records ≡ seen 0 (laid 0 (pat_is c n)) ∷ [] → t.pcr ≡ clock.None
+        → (t : Tables) → t.pat ≡ None → t.pmt ≡ None → t.records ≡ seen 0 (laid 0 (pat_is c n)) ∷ [] → t.pcr ≡ None
         → at_place 0 (section_read current Pat 0 s w t) ≡ passed (after_pat c d (laid 0 (pat_is c n)))
     unfolding section_read pat_section at_place given pick ◌>>◌ ◌>>=◌
     pat_said s w m e t ep em er ec = rw (ep, m, e, pat_read c.program c.map_pid some-program low high, em, er, ec)
@@ -125,15 +124,15 @@ module _ (c : Channel) (d : Bytes) (rooms : Rooms) (i : ℕ) where
         pat_packet current rooms 0 (pat_is c n) fresh _ pat_reads.passes pat_has
         ∙ section_taken rooms 0 (pat_is c n) fresh _ (after_pat c d (laid 0 (pat_is c n)))
         (section_read current Pat 0 (payload_unit_start_indicator (pat_is c n)) (payload (pat_is c n))) (refl, tt)
-        (counted_by 0 (pat_is c n) fresh (seen 0 (laid 0 (pat_is c n)) ∷ []) clock.None
+        (counted_by 0 (pat_is c n) fresh (seen 0 (laid 0 (pat_is c n)) ∷ []) None
         (checked_first 0 (named 0) _ [] (pat_is c n) (sym pat_reads.pid) (first_check 0 0 (pat_is c n)))
-        (still (pat_is c n) none clock.None pat_reads.clock))
+        (still (pat_is c n) None None pat_reads.clock))
         (pat_said (payload_unit_start_indicator (pat_is c n)) (payload (pat_is c n))
         (section_placed 0 n 0 0 rest (omega arith) hn (omega arith))
         (section_found 0 n 0 0 rest (omega arith) hn (omega arith)) _ refl refl refl refl)
 
     pat_same : (s : Bool) (w : Bytes) → misplaced s w ≡ false → section_of w ≡ pat c.program c.map_pid → (t : Tables)
-        → t.pat ≡ some (first_pat c d)
+        → t.pat ≡ Some (first_pat c d)
         → at_place i (section_read current Pat i s w t) ≡ passed t
     unfolding section_read pat_section later_section at_place given pick ◌>>◌ ◌>>=◌
     pat_same s w m e t ep = rw (ep, m, e, same_self (pat c.program c.map_pid))
@@ -148,11 +147,11 @@ module _ (c : Channel) (d : Bytes) (rooms : Rooms) (i : ℕ) where
         pat_packet current rooms i (pat_is c n) st _ r.passes pat_has
         ∙ section_taken rooms i (pat_is c n) st _ (in_tables c d (laid i (pat_is c n)) b l t)
         (section_read current Pat i (payload_unit_start_indicator (pat_is c n)) (payload (pat_is c n))) (refl, (refl, (refl, tt)))
-        (counted_by i (pat_is c n) st _ (clock.Pcr t)
+        (counted_by i (pat_is c n) st _ (Some t)
         (checked_first i (seen 0 a) _ _ (pat_is c n) (sym r.pid)
         (next_check i 0 a (pat_is c n) r.steady
         (r.counter ∙ sym e ∙ due_next (continuity_counter a.bytes) (has_payload (pat_is c n)) pat_has)))
-        (still (pat_is c n) (some (first_pmt c d)) (clock.Pcr t) r.clock))
+        (still (pat_is c n) (Some (first_pmt c d)) (Some t) r.clock))
         (pat_same (payload_unit_start_indicator (pat_is c n)) (payload (pat_is c n))
         (section_placed 0 n 0 0 rest (omega arith) hn (omega arith))
         (section_found 0 n 0 0 rest (omega arith) hn (omega arith)) _ refl)
@@ -176,8 +175,8 @@ module _ (c : Channel) (d : Bytes) (rooms : Rooms) (i : ℕ) where
     not_zero_lem e = omega (arith, pmt_reads.pid)
 
     pmt_said : (s : Bool) (w : Bytes) → misplaced s w ≡ false → section_of w ≡ pmt c.program c.av1_pid d
-        → (a : Laid) (t : Tables) → t.pat ≡ some (first_pat c d) → t.pmt ≡ none
-        → t.records ≡ seen 0 a ∷ seen c.map_pid (laid 1 (pmt_is c d n)) ∷ [] → t.pcr ≡ clock.None
+        → (a : Laid) (t : Tables) → t.pat ≡ Some (first_pat c d) → t.pmt ≡ None
+        → t.records ≡ seen 0 a ∷ seen c.map_pid (laid 1 (pmt_is c d n)) ∷ [] → t.pcr ≡ None
         → at_place 1 (section_read current Map 1 s w t) ≡ passed (after_pmt c d a (laid 1 (pmt_is c d n)))
     unfolding section_read pmt_section at_place given pick ◌>>◌ ◌>>=◌
     pmt_said s w m e a t ep em er ec = rw (ep, em, m, e, pmt_read c.program c.map_pid c.av1_pid d p0 high p2 fine, er, ec)
@@ -192,16 +191,16 @@ module _ (c : Channel) (d : Bytes) (rooms : Rooms) (i : ℕ) where
         map_packet current rooms 1 (pmt_is c d n) st _ r.passes pmt_has
         ∙ section_taken rooms 1 (pmt_is c d n) st _ (after_pmt c d a (laid 1 (pmt_is c d n)))
         (section_read current Map 1 (payload_unit_start_indicator (pmt_is c d n)) (payload (pmt_is c d n))) (refl, (refl, tt))
-        (counted_by 1 (pmt_is c d n) st _ clock.None
+        (counted_by 1 (pmt_is c d n) st _ None
         (checked_later 1 (seen 0 a) (seen 0 a) _ (pmt_is c d n) _ not_zero_lem
         (checked_first 1 (named c.map_pid) _ [] (pmt_is c d n) (sym r.pid) (first_check 1 c.map_pid (pmt_is c d n))))
-        (still (pmt_is c d n) none clock.None r.clock))
+        (still (pmt_is c d n) None None r.clock))
         (pmt_said (payload_unit_start_indicator (pmt_is c d n)) (payload (pmt_is c d n))
         (section_placed c.map_pid n 2 c.program rests (omega arith) hn short)
         (section_found c.map_pid n 2 c.program rests (omega arith) hn short) a _ refl refl refl refl)
 
     pmt_same : (s : Bool) (w : Bytes) → misplaced s w ≡ false → section_of w ≡ pmt c.program c.av1_pid d → (t : Tables)
-        → t.pat ≡ some (first_pat c d) → t.pmt ≡ some (first_pmt c d) → at_place i (section_read current Map i s w t) ≡ passed t
+        → t.pat ≡ Some (first_pat c d) → t.pmt ≡ Some (first_pmt c d) → at_place i (section_read current Map i s w t) ≡ passed t
     unfolding section_read pmt_section later_section at_place given pick ◌>>◌ ◌>>=◌
     pmt_same s w m e t ep em = rw (ep, em, m, e, same_self (pmt c.program c.av1_pid d))
 
@@ -214,12 +213,12 @@ module _ (c : Channel) (d : Bytes) (rooms : Rooms) (i : ℕ) where
         map_packet current rooms i (pmt_is c d n) st _ r.passes pmt_has
         ∙ section_taken rooms i (pmt_is c d n) st _ (in_tables c d a (laid i (pmt_is c d n)) l t)
         (section_read current Map i (payload_unit_start_indicator (pmt_is c d n)) (payload (pmt_is c d n))) (refl, (refl, (refl, tt)))
-        (counted_by i (pmt_is c d n) st _ (clock.Pcr t)
+        (counted_by i (pmt_is c d n) st _ (Some t)
         (checked_later i (seen 0 a) (seen 0 a) _ (pmt_is c d n) _ not_zero_lem
         (checked_first i (seen c.map_pid b) _ _ (pmt_is c d n) (sym r.pid)
         (next_check i c.map_pid b (pmt_is c d n) r.steady
         (r.counter ∙ sym e ∙ due_next (continuity_counter b.bytes) (has_payload (pmt_is c d n)) pmt_has))))
-        (still (pmt_is c d n) (some (first_pmt c d)) (clock.Pcr t) r.clock))
+        (still (pmt_is c d n) (Some (first_pmt c d)) (Some t) r.clock))
         (pmt_same (payload_unit_start_indicator (pmt_is c d n)) (payload (pmt_is c d n))
         (section_placed c.map_pid n 2 c.program rests (omega arith) hn short)
         (section_found c.map_pid n 2 c.program rests (omega arith) hn short) _ refl refl)
@@ -237,7 +236,7 @@ module _ (c : Channel) (d : Bytes) (rooms : Rooms) (i : ℕ) where
     not_null e = omega arith
 
     -- it counts
-    counts : (earlier : Clock) → last_pcr earlier (counting_pcr (some (first_pmt c d)) (pcr_is c n t)) ≡ clock.Pcr t
+    counts : (earlier : Option Ticks27) → last_pcr earlier (counting_pcr (Some (first_pmt c d)) (pcr_is c n t)) ≡ Some t
     unfolding counting_pcr
     counts earlier =
         ap (last_pcr earlier)
@@ -258,11 +257,11 @@ module _ (c : Channel) (d : Bytes) (rooms : Rooms) (i : ℕ) where
         let st : State = record { tables = after_pmt c d a b; extraction = x } in
         let r = clock_reads in
         av1_empty current rooms i (pcr_is c n t) st _ r.passes clock_empty
-        ∙ counted_by i (pcr_is c n t) st _ (clock.Pcr t)
+        ∙ counted_by i (pcr_is c n t) st _ (Some t)
         (checked_later i (seen 0 a) (seen 0 a) _ (pcr_is c n t) _ not_first
         (checked_later i (seen c.map_pid b) (seen c.map_pid b) _ (pcr_is c n t) _ not_map
         (checked_first i (named c.av1_pid) _ [] (pcr_is c n t) (sym r.pid) (first_check i c.av1_pid (pcr_is c n t)))))
-        (counts clock.None)
+        (counts None)
 
     pub pcr_again : (a b l : Laid) (earlier : Ticks27) (x : Extraction) → continuity_counter l.bytes ≡ n
         → packet_rules current rooms i (pcr_is c n t) Av1 (record { tables = in_tables c d a b l earlier; extraction = x })
@@ -271,10 +270,10 @@ module _ (c : Channel) (d : Bytes) (rooms : Rooms) (i : ℕ) where
         let st : State = record { tables = in_tables c d a b l earlier; extraction = x } in
         let r = clock_reads in
         av1_empty current rooms i (pcr_is c n t) st _ r.passes clock_empty
-        ∙ counted_by i (pcr_is c n t) st _ (clock.Pcr t)
+        ∙ counted_by i (pcr_is c n t) st _ (Some t)
         (checked_later i (seen 0 a) (seen 0 a) _ (pcr_is c n t) _ not_first
         (checked_later i (seen c.map_pid b) (seen c.map_pid b) _ (pcr_is c n t) _ not_map
         (checked_first i (seen c.av1_pid l) _ [] (pcr_is c n t) (sym r.pid)
         (next_check i c.av1_pid l (pcr_is c n t) r.steady
         (r.counter ∙ sym e ∙ due_same (continuity_counter l.bytes) (has_payload (pcr_is c n t)) clock_empty)))))
-        (counts (clock.Pcr earlier))
+        (counts (Some earlier))

@@ -1,9 +1,9 @@
 -- The packets of the units in a segment that send wrote: what one of them does to the check, and all of them in turn. Assumes nothing.
+use Rattle.std.specs.Prelude.{Option, Some, None}
 use Prim.Native.Nat.{ℕ, zero, suc, ◌+◌, ◌*◌, ◌≤◌, ◌<◌}
 use mathlib.Core.Bool.{Bool, true, false, not, ◌&&◌, ◌||◌, and-false}
 use mathlib.Core.Path.{◌≡◌, refl, sym, ap, ap₂, subst, ◌∙◌}
 use mathlib.Core.List.{List, [], ◌∷◌, ◌++◌, append-nil, append_assoc}
-use mathlib.Core.Option.{Option, none, some}
 use native.Mathlib.Omega.{arith}
 use borrow.Author.Tests.{eq-eqb, le-ltb}
 use lib.Dec.{eqb, ltb}
@@ -17,12 +17,10 @@ use Rattle.descriptor.specs.Edition.{current}
 use Rattle.ticks.specs.declared.Ticks27.{Ticks27}
 use Rattle.packet.specs.Header as packet
 use Rattle.packet.specs.Header.{has_payload, payload, continuity_counter}
-use Rattle.packet.specs.declared.header.Clock.TheVariants as clock
 use Rattle.packet.specs.Writing.{most, carrying, counter_after}
 use Rattle.packet.proofs.Writing.{Reads, Carries, carrying_reads}
 use Rattle.pes.specs.declared.header.Header.{Header}
-use Rattle.pes.specs.declared.header.Times.TheVariants.{Stamps}
-use Rattle.pes.specs.Pes.{pes_data}
+use Rattle.pes.specs.Pes.{pes_data, stamps}
 use Rattle.pes.specs.Writing.{times, bytes_after, length_written}
 use Rattle.pes.proofs.Writing.{Opens, opens}
 use Rattle.unit.specs.Unit.{read_unit}
@@ -49,7 +47,7 @@ header_for u =
     record {
       length = length_written u.pts u.dts (length u.carried);
       size = 9 + length (times u.pts u.dts);
-      times = Stamps u.pts u.dts;
+      times = stamps u.pts u.dts;
     }
 
 abbrev pub open_for : ℕ → TimedUnit → Bytes → OpenPes
@@ -93,19 +91,19 @@ module _ (c : Channel) (d : Bytes) (rooms : Rooms) (p0 : c.av1_pid ≡ 0
       (r : Reads p c.av1_pid start (counter_after (continuity_counter l.bytes) 1) false) (k : Carries p part) where
     payload_counted : counted i p (at l now units) ≡ passed (at (laid i p) now units)
     payload_counted =
-        counted_by i p (at l now units) _ (clock.Pcr t)
+        counted_by i p (at l now units) _ (Some t)
         (checked_later i (seen 0 a) (seen 0 a) _ p _ (λ e. p0 (sym r.pid ∙ sym e))
         (checked_later i (seen c.map_pid b) (seen c.map_pid b) _ p _ (λ e. p2 (sym r.pid ∙ sym e))
         (checked_first i (seen c.av1_pid l) _ [] p (sym r.pid)
         (next_check i c.av1_pid l p r.steady (r.counter ∙ due_next (continuity_counter l.bytes) (has_payload p) k.has)))))
-        (still p (some (first_pmt c d)) (clock.Pcr t) r.clock)
+        (still p (Some (first_pmt c d)) (Some t) r.clock)
 
     -- one that starts a PES, where the open one closes
     pub first_taken : (u : TimedUnit) (rest : Bytes) (units' : List AccessUnit) → start ≡ true → part ≡ header u ++ rest
         → u.pts.0 < 8589934592
-        → u.dts.0 < 8589934592 → close_pes (extracted now units) ≡ passed (extracted none units') → length units' < 1024
+        → u.dts.0 < 8589934592 → close_pes (extracted now units) ≡ passed (extracted None units') → length units' < 1024
         → length (carried_units units') + length rest ≤ rooms.bytes → length units' < rooms.lens → 2 * length units' + 2 ≤ rooms.times
-        → packet_rules current rooms i p Av1 (at l now units) ≡ passed (at (laid i p) (some (open_for i u rest)) units')
+        → packet_rules current rooms i p Av1 (at l now units) ≡ passed (at (laid i p) (Some (open_for i u rest)) units')
     first_taken u rest units' es ep hp hd closes few in_bytes in_lens in_times =
         let o : Opens u.pts u.dts (payload p) (length u.carried) rest =
         subst (λ (x : Bytes). Opens u.pts u.dts x (length u.carried) rest) (sym (k.payload ∙ ep))
@@ -116,8 +114,8 @@ module _ (c : Channel) (d : Bytes) (rooms : Rooms) (p0 : c.av1_pid ≡ 0
         ∙ sym (go_on (at (laid i p) now units) _ payload_counted
         (sym (sequence.not_repeated p _ (at (laid i p) now units) (none_repeats _ _ (refl, (refl, (refl, tt))))
         ∙ sequence.starts current rooms i p (at (laid i p) now units) k.has (r.starts ∙ es)
-        ∙ sym (go_on (at (laid i p) none units') _ (on_units_lem close_pes (at (laid i p) now units) (extracted none units') closes)
-        (sym (sequence.opens current rooms i p (at (laid i p) now units) k.has (r.starts ∙ es) (at (laid i p) none units')
+        ∙ sym (go_on (at (laid i p) None units') _ (on_units_lem close_pes (at (laid i p) now units) (extracted None units') closes)
+        (sym (sequence.opens current rooms i p (at (laid i p) now units) k.has (r.starts ∙ es) (at (laid i p) None units')
         ∙ sym (pass_at i 29 o.right
         (pass_at i 30 o.timed
         (pass_at i 31 refl
@@ -126,33 +124,33 @@ module _ (c : Channel) (d : Bytes) (rooms : Rooms) (p0 : c.av1_pid ≡ 0
         (neither _ _ (le-ltb rooms.bytes (length (carried_units units' ++ []) + length (pes_data (payload p))) (omega arith))
         (neither _ _ (le-ltb rooms.lens (length units' + 1) (omega arith))
         (le-ltb rooms.times (2 * (length units' + 1)) (omega arith))))
-        (ap₂ (λ (h : Header) (w : Bytes). passed (at (laid i p) (some (record { first = i; header = h; bytes = w })) units'))
+        (ap₂ (λ (h : Header) (w : Bytes). passed (at (laid i p) (Some (record { first = i; header = h; bytes = w })) units'))
         (sym o.says) (sym o.data_is)))))))))))))
 
     -- the bytes that it adds to an open PES
     adds_part : start ≡ false → unit_bytes i p Av1 ≡ part
     adds_part es = sym (by_false _ (not_starting (has_payload p) (r.starts ∙ es)) (sym k.payload))
 
-    and_added : (o : OpenPes) → start ≡ false → passed (at (laid i p) (some (with_more o part)) units)
-        ≡ passed (with_extraction (added_to i p Av1 (some o) (extracted (some o) units)) (at (laid i p) (some o) units))
+    and_added : (o : OpenPes) → start ≡ false → passed (at (laid i p) (Some (with_more o part)) units)
+        ≡ passed (with_extraction (added_to i p Av1 (Some o) (extracted (Some o) units)) (at (laid i p) (Some o) units))
     unfolding added_to
-    and_added o es = ap (λ (w : Bytes). passed (at (laid i p) (some (with_more o w)) units)) (sym (adds_part es))
+    and_added o es = ap (λ (w : Bytes). passed (at (laid i p) (Some (with_more o w)) units)) (sym (adds_part es))
 
     -- one that goes on with the open PES
-    pub more_taken : (o : OpenPes) → now ≡ some o → start ≡ false
+    pub more_taken : (o : OpenPes) → now ≡ Some o → start ≡ false
         → length (carried_units units) + length o.bytes + length part ≤ rooms.bytes
         → packet_rules current rooms i p Av1 (at l now units)
-        ≡ passed (at (laid i p) (some (with_more o part)) units)
+        ≡ passed (at (laid i p) (Some (with_more o part)) units)
     more_taken o en es in_bytes =
         let m : length (payload p) ≡ length part = ap length k.payload in
         let e = length-append (carried_units units) o.bytes in
         av1_packet current rooms i p (at l now units) _ r.passes
         ∙ sym (go_on (at (laid i p) now units) _ payload_counted
         (subst
-        (λ (x : Option OpenPes). passed (at (laid i p) (some (with_more o part)) units)
+        (λ (x : Option OpenPes). passed (at (laid i p) (Some (with_more o part)) units)
         ≡ unless_repeat p (in_sequence (pes_rules current rooms i p Av1)) (at (laid i p) x units)) (sym en)
-        (sym (sequence.not_repeated p _ (at (laid i p) (some o) units) (none_repeats _ _ (refl, (refl, (refl, tt))))
-        ∙ sequence.adds current rooms i p (at (laid i p) (some o) units) k.has (r.starts ∙ es)
+        (sym (sequence.not_repeated p _ (at (laid i p) (Some o) units) (none_repeats _ _ (refl, (refl, (refl, tt))))
+        ∙ sequence.adds current rooms i p (at (laid i p) (Some o) units) k.has (r.starts ∙ es)
         ∙ sym (pass_at i 29 refl
         (pass_at i 31 refl
         (pass_at i 8 (le-ltb rooms.bytes (length (carried_units units ++ o.bytes) + length (payload p)) (omega arith))
@@ -169,7 +167,7 @@ module _ (c : Channel) (d : Bytes) (rooms : Rooms) (p0 : c.av1_pid ≡ 0
     -- those after the first
     pub others_run : (m : ℕ) (w : Bytes) (l : Laid) (k n : ℕ) (o : OpenPes) → others_for (length w) ≡ m
         → continuity_counter l.bytes ≡ k → k < 16 → length (carried_units units) + length o.bytes + length w ≤ rooms.bytes
-        → To (run current rooms (going l (some o) units s n) (others m c.av1_pid (counter_after k 1) w)) (some (with_more o w))
+        → To (run current rooms (going l (Some o) units s n) (others m c.av1_pid (counter_after k 1) w)) (Some (with_more o w))
         (counter_after k m) (n + m)
     unfolding others run counting
     others_run zero w l k n o hm hl hk hb =
@@ -180,8 +178,8 @@ module _ (c : Channel) (d : Bytes) (rooms : Rooms) (p0 : c.av1_pid ≡ 0
           last = l;
           counter = omega (arith, hl);
           is =
-              ap (λ (x : ℕ). passed (going l (some o) units s x)) z
-              ∙ ap (λ (x : Bytes). passed (going l (some (record { first = o.first; header = o.header; bytes = x })) units s (n + 0))) b;
+              ap (λ (x : ℕ). passed (going l (Some o) units s x)) z
+              ∙ ap (λ (x : Bytes). passed (going l (Some (record { first = o.first; header = o.header; bytes = x })) units s (n + 0))) b;
         }
     others_run (suc m) w l k n o hm hl hk hb =
         let p = carrying c.av1_pid false (counter_after k 1) 0 (take most w) in
@@ -192,12 +190,12 @@ module _ (c : Channel) (d : Bytes) (rooms : Rooms) (p0 : c.av1_pid ≡ 0
         (other_some w m hm) in
         let reads : Reads p c.av1_pid false (counter_after (continuity_counter l.bytes) 1) false =
         subst (λ (x : ℕ). Reads p c.av1_pid false (counter_after x 1) false) (sym hl) both.0 in
-        let one = step_by rooms (going l (some o) units s n) _ p Av1 (at_av1 p l both.0.pid)
-        (more_taken (s + n) p (take most w) false l (some o) units reads both.1 o refl refl (omega arith)) in
+        let one = step_by rooms (going l (Some o) units s n) _ p Av1 (at_av1 p l both.0.pid)
+        (more_taken (s + n) p (take most w) false l (Some o) units reads both.1 o refl refl (omega arith)) in
         let lb = length-append o.bytes (take most w) in
         let next : s + n + 1 ≡ s + (n + 1) = omega arith in
         let then : ℕ → Progress =
-        λ x. record { index = x; state = at (laid (s + n) p) (some (with_more o (take most w))) units; totals = totals_at s (n + 1) } in
+        λ x. record { index = x; state = at (laid (s + n) p) (Some (with_more o (take most w))) units; totals = totals_at s (n + 1) } in
         let rest =
         others_run m (drop most w) (laid (s + n) p) (counter_after k 1) (n + 1) (with_more o (take most w)) (others_next w m hm)
         both.0.counter (omega arith) (omega arith) in
@@ -209,22 +207,22 @@ module _ (c : Channel) (d : Bytes) (rooms : Rooms) (p0 : c.av1_pid ≡ 0
           last = rest.last;
           counter = rest.counter ∙ ek;
           is =
-              run_next rooms (going l (some o) units s n) _ p
+              run_next rooms (going l (Some o) units s n) _ p
               (others m c.av1_pid (counter_after (counter_after k 1) 1) (drop most w)) _ one
               (ap (λ (x : ℕ). run current rooms (then x) (others m c.av1_pid (counter_after (counter_after k 1) 1) (drop most w))) next
               ∙ rest.is)
               ∙ ap₂ (λ (x : ℕ) (y : Bytes). passed
-              (going rest.last (some (record { first = o.first; header = o.header; bytes = y })) units s x)) en eb;
+              (going rest.last (Some (record { first = o.first; header = o.header; bytes = y })) units s x)) en eb;
         }
 
     -- all of them: the PES is open, with the whole unit
     pub unit_run : (u : TimedUnit) (l : Laid) (k n : ℕ) (now : Option OpenPes) (before : List AccessUnit) → u.pts.0 < 8589934592
         → u.dts.0 < 8589934592
-        → continuity_counter l.bytes ≡ k → k < 16 → close_pes (extracted now before) ≡ passed (extracted none units) → length units < 1024
+        → continuity_counter l.bytes ≡ k → k < 16 → close_pes (extracted now before) ≡ passed (extracted None units) → length units < 1024
         → length (carried_units units) + length u.carried ≤ rooms.bytes → length units < rooms.lens
         → 2 * length units + 2 ≤ rooms.times
         → To (run current rooms (going l now before s n) (unit_packets c.av1_pid (counter_after k 1) u))
-        (some (open_for (s + n) u u.carried))
+        (Some (open_for (s + n) u u.carried))
         (counter_after k (packets_for u)) (n + packets_for u)
     unfolding unit_packets counting
     unit_run u l k n now before hp hd hl hk closes few in_bytes in_lens in_times =
@@ -245,7 +243,7 @@ module _ (c : Channel) (d : Bytes) (rooms : Rooms) (p0 : c.av1_pid ≡ 0
         (omega arith) in_lens in_times) in
         let next : s + n + 1 ≡ s + (n + 1) = omega arith in
         let then : ℕ → Progress =
-        λ x. record { index = x; state = at (laid (s + n) p) (some (open_for (s + n) u w)) units; totals = totals_at s (n + 1) } in
+        λ x. record { index = x; state = at (laid (s + n) p) (Some (open_for (s + n) u w)) units; totals = totals_at s (n + 1) } in
         let rest =
         others_run m (other_parts u) (laid (s + n) p) (counter_after k 1) (n + 1) (open_for (s + n) u w) refl both.0.counter (omega arith)
         (omega arith) in
@@ -259,7 +257,7 @@ module _ (c : Channel) (d : Bytes) (rooms : Rooms) (p0 : c.av1_pid ≡ 0
               run_next rooms (going l now before s n) _ p (others m c.av1_pid (counter_after (counter_after k 1) 1) (other_parts u)) _ one
               (ap (λ (x : ℕ). run current rooms (then x) (others m c.av1_pid (counter_after (counter_after k 1) 1) (other_parts u))) next
               ∙ rest.is)
-              ∙ ap₂ (λ (x : ℕ) (y : Bytes). passed (going rest.last (some (open_for (s + n) u y)) units s x)) en eb;
+              ∙ ap₂ (λ (x : ℕ) (y : Bytes). passed (going rest.last (Some (open_for (s + n) u y)) units s x)) en eb;
         }
 
 -- ---- the closing of a PES
@@ -290,9 +288,9 @@ module _ (u : TimedUnit) where
       rw e (and-false (not (eqb field 0))))
 
 abbrev pub unit_at : ℕ → TimedUnit → AccessUnit
-unit_at i u = record { first = i; carried = u.carried; times = Stamps u.pts u.dts }
+unit_at i u = record { first = i; carried = u.carried; times = stamps u.pts u.dts }
 
 pub unit_closes : (i : ℕ) (u : TimedUnit) (units : List AccessUnit) (obus : List Bytes) → read_unit u.carried ≡ passed obus
-    → close_pes (extracted (some (open_for i u u.carried)) units) ≡ passed (extracted none (units ++ (unit_at i u ∷ [])))
+    → close_pes (extracted (Some (open_for i u u.carried)) units) ≡ passed (extracted None (units ++ (unit_at i u ∷ [])))
 unfolding close_if_open close_open at_place ◌>>◌
 unit_closes i u units obus e = sym (pass_at i 32 (length_right u) (rw e))

@@ -11,7 +11,7 @@ use Rattle.comparison.specs.Comparison.{sequence_headers, first_from}
 use Rattle.ticks.specs.declared.Ticks27.{Ticks27}
 use Rattle.packet.specs.Writing.{most}
 use Rattle.pmt.specs.Writing.{map_for}
-use Rattle.pes.specs.declared.header.Times.TheVariants.{Stamps}
+use Rattle.pes.specs.Pes.{stamps}
 use Rattle.queue.specs.declared.records.Queue.{Queue}
 use Rattle.queue.specs.Queue.{TimedUnit, queued_bytes, QueueIs}
 use Rattle.segment_rules.specs.State.{AccessUnit}
@@ -28,7 +28,7 @@ use Rattle.mux_rules.specs.Sending.{sending}
 unfoldable pub access_units : ℕ → List TimedUnit → List AccessUnit
 access_units first [] = []
 access_units first (u ∷ us) =
-    record { first = first; carried = u.carried; times = Stamps u.pts u.dts } ∷ access_units
+    record { first = first; carried = u.carried; times = stamps u.pts u.dts } ∷ access_units
     (first + packets_for u) us
 
 -- what the check gives: the caller's program number, the map with the caller's AV1 PID and descriptor, the same units,

@@ -1,8 +1,8 @@
 -- What send writes, packet by packet. The words of document 02, request 2026-01, stand over each definition. Assumes
 -- nothing.
 use Rattle.std.specs.Prelude.{ℕ, zero, suc, ◌+◌, ◌-◌, ◌*◌, ◌/◌, ◌^◌, Bool, true, false, ltb, length, take, drop}
+use Rattle.std.specs.Prelude.{Option, Some, None}
 use mathlib.Core.List.{List, [], ◌∷◌, ◌++◌, flatten}
-use Rattle.std.proofs.Math.Option.{Option, none, some}
 use Rattle.lists.specs.Lists.{Bytes, pick}
 use Rattle.packet.specs.Writing.{flag, most, carrying, pcr_packet, counter_after, counter_before}
 use Rattle.psi.specs.Writing.{section_payload, pat}
@@ -43,17 +43,17 @@ packets_for u = suc (others_for (length (other_parts u)))
 -- ---- "where the start code of its first type 3 or 6 OBU begins there"
 -- the first start code that begins one, of start codes and their OBUs in turn
 unfoldable pub first_frame : List ℕ → List Bytes → Option ℕ
-first_frame [] obus = none
-first_frame (code ∷ codes) [] = none
-first_frame (code ∷ codes) (obu ∷ obus) = pick (is_frame obu) (some code) (first_frame codes obus)
+first_frame [] obus = None
+first_frame (code ∷ codes) [] = None
+first_frame (code ∷ codes) (obu ∷ obus) = pick (is_frame obu) (Some code) (first_frame codes obus)
 
 abbrev pub frame_place : Bytes → Option ℕ
 frame_place carried = first_frame (start_codes carried) (obus_in carried)
 
 -- it is one of the first n bytes
 abbrev pub within : ℕ → Option ℕ → Bool
-within n none = false
-within n (some place) = ltb place n
+within n None = false
+within n (Some place) = ltb place n
 
 -- the first packet has so many of the unit's bytes
 abbrev pub unit_bytes : TimedUnit → ℕ

@@ -1,18 +1,17 @@
 -- Send's refusals, and what it leaves. The words of document 02, request 2026-01, stand over each definition. Assumes
 -- nothing.
-use Rattle.std.specs.Prelude.{ℕ, ◌*◌, ◌^◌, Bool, ◌≡◌, List, [], ◌∷◌, eqb, leb, ltb, length}
+use Rattle.refusal.specs.declared.Refused.{Refused}
+use Rattle.std.specs.Prelude.{ℕ, ◌*◌, ◌^◌, Bool, ◌≡◌, List, [], ◌∷◌, eqb, leb, ltb, length, Result}
 use Rattle.lists.specs.Lists.{Bytes, any}
 use Rattle.refusal.specs.Verdict.{Verdict, passed, refused, ◌>>◌, given}
 use Rattle.refusal.specs.Verdict as verdict
-use Rattle.refusal.specs.Number.{refused_by}
+use Rattle.refusal.specs.Number.{says}
 use Rattle.descriptor.specs.Descriptor.{wrong}
+use Rattle.queue.specs.declared.records.Queue.{Queue}
 use Rattle.queue.specs.Queue.{TimedUnit, queue_of}
 use Rattle.segment_rules.specs.Check.{most_packets}
 use Rattle.mux_rules.specs.declared.Channel.{Channel}
 use Rattle.mux_rules.specs.declared.Written.{Written}
-use Rattle.mux_rules.specs.declared.SendAnswer.{SendAnswer}
-use Rattle.mux_rules.specs.declared.SendAnswer.TheVariants as answer
-use Rattle.mux_rules.specs.declared.Sent.{Sent}
 use Rattle.mux_rules.specs.Packets.{segment_packets, segment, next_channel}
 
 -- ---- 52 "descriptor, PID, program number, counter or PCR not allowed by 01"
@@ -68,15 +67,16 @@ unfoldable pub channel_left : Verdict Written → Channel → List TimedUnit →
 channel_left (passed written) c units = next_channel c units
 channel_left (refused number place) c units = c
 
--- ---- what the answer says
-abbrev pub send_says : SendAnswer → Verdict Written
-send_says (answer.Sent w) = passed w
-send_says (answer.Refused r) = refused_by r
+-- what send returned, and the channel and the queue then
+pub record Sent : Type 0 where
+  pub answer : Result Written Refused
+  pub next : Channel
+  pub queue : Queue
 
 -- send of these units to an output: its answer, the channel and the queue given back, and the output after it
 pub record Sends (c : Channel) (descriptor : Bytes) (units : List TimedUnit) (out : Bytes) (r : Sent) (after : Bytes)
     : Type 0 where
-  pub answers : send_says r.answer ≡ sending c descriptor (length out) units
+  pub answers : says r.answer ≡ sending c descriptor (length out) units
   pub next : r.next ≡ channel_left (sending c descriptor (length out) units) c units
   pub queue : r.queue ≡ queue_of (units_left (sending c descriptor (length out) units) units)
   pub leaves : after ≡ verdict.leaves (sending c descriptor (length out) units) (segment c descriptor units) out

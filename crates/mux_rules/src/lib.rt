@@ -2,8 +2,6 @@
 // functions.
 #![tactic(auto)]
 
-use queue::Queue;
-use refusal::Refused;
 use ticks::Ticks27;
 
 // What the caller says of a segment that is to be written, beside the units and the video descriptor. The counters are
@@ -24,19 +22,4 @@ pub struct Channel {
 pub struct Written {
     pub bytes: usize,
     pub packets: usize,
-}
-
-// The segment was written; or 52, 53, 8.
-#[derive(Drop)]
-pub enum SendAnswer {
-    Sent(Written),
-    Refused(Refused),
-}
-
-// The answer, the channel with the counters that follow, and the queue then.
-#[derive(Drop)]
-pub struct Sent {
-    pub answer: SendAnswer,
-    pub next: Channel,
-    pub queue: Queue,
 }

@@ -1,10 +1,11 @@
--- The header of an OBU lies within it, its first eleven bytes decide it (`judged_first`), and it gives the number of the OBU's kind
--- (`judged_number`). Assumes nothing.
+-- The header of an OBU lies within it, its first eleven bytes decide it (`judged_first`), and it gives the OBU's kind
+-- (`header_kind`). Assumes nothing.
 use Prim.Native.Nat.{ℕ, ◌+◌, ◌-◌, ◌≤◌, ◌<◌, zero-le}
 use mathlib.Core.Bool.{Bool, true, false, not, ◌&&◌}
 use mathlib.Core.Path.{◌≡◌, refl, sym, ap, subst, ◌∙◌}
 use native.Mathlib.Omega.{arith}
 use borrow.Author.Tests.{eqb-true, eqb-false, ne_eqb, leb-true, leb-false, not-false}
+use Rattle.std.specs.Prelude.{Option, Some, None}
 use lib.Dec.{eqb, leb}
 use lib.ListN.{length, take, drop, length-drop}
 use lib.Seq.{length-take-le, get_or-take, take_all}
@@ -14,15 +15,15 @@ use Rattle.lists.proofs.Tests.{case}
 use Rattle.lists.proofs.Parts.{to_end, drop_take}
 use Rattle.refusal.specs.Verdict.{Verdict, passed, refused, ◌>>=◌, given}
 use Rattle.refusal.proofs.Verdicts.{passed_then, passed_after, passed_same, given_passed, never}
-use Rattle.obu.specs.declared.leb128.Leb.{Leb}
-use Rattle.obu.specs.declared.leb128.Leb.TheVariants.{Number, Bad}
-use Rattle.obu.specs.declared.header.Size.{Size}
-use Rattle.obu.specs.declared.header.Size.TheVariants.{Absent, Present}
+use Rattle.obu.specs.declared.leb128.Leb128.{Leb128}
 use Rattle.obu.specs.declared.header.Header.{Header}
 use Rattle.obu.specs.Leb128.{leb128}
-use Rattle.obu.specs.Header.{forbidden_bit, extension_bit, has_size_bit, fixed_bytes, extension_missing, size_said, size_of, size_bytes}
+use Rattle.obu.specs.Header.{forbidden_bit, type_bits, extension_bit, has_size_bit, fixed_bytes, extension_missing, size_said, size_of}
+use Rattle.obu.specs.Header.{size_bytes}
 use Rattle.obu.specs.Header.{header_with, sized_header, header_of, bytes_remaining, differs, size_wrong, judged, most_judged}
-use Rattle.obu.specs.Order.{kind_number, number_said}
+use Rattle.obu.specs.Order.{kind_of, kind_of_number, kind_number, number_said}
+use Rattle.obu.specs.Table.{kind_meant}
+use Rattle.obu.specs.declared.ordering.Kind as code_kind
 use Rattle.obu.proofs.Lebs.{leb_taken, first_eight}
 
 -- ---- the fixed bytes
@@ -45,16 +46,17 @@ pub behind_fixed : (first fixed : ℕ) (obu : Bytes) → fixed ≡ fixed_bytes f
 behind_fixed first fixed obu e = ap (sized_header first) (to_end obu fixed ∙ ap (λ (k : ℕ). drop k obu) e)
 
 -- ---- the content begins within the OBU, so that none of the bytes that remain is lost in the difference
-said_within : (leb : Leb) (rest : Bytes) (size : Size) → leb128 rest ≡ leb → size_said leb ≡ passed size → size_bytes size ≤ length rest
-said_within (Number value width) rest size e p =
-    subst (λ (z : Size). size_bytes z ≤ length rest) (passed_same (Present value width) size p) (leb_taken rest value width e).1
-said_within Bad rest size e p = never p
+said_within : (leb : Option Leb128) (rest : Bytes) (size : Option Leb128) → leb128 rest ≡ leb → size_said leb ≡ passed size
+    → size_bytes size ≤ length rest
+said_within (Some l) rest size e p =
+    subst (λ (z : Option Leb128). size_bytes z ≤ length rest) (passed_same (Some l) size p) (leb_taken rest l e).1
+said_within None rest size e p = never p
 
-size_within : (t : Bool) (rest : Bytes) (size : Size) → pick t (size_said (leb128 rest)) (passed Absent) ≡ passed size
+size_within : (t : Bool) (rest : Bytes) (size : Option Leb128) → pick t (size_said (leb128 rest)) (passed None) ≡ passed size
     → size_bytes size ≤ length rest
 unfolding pick
 size_within true rest size e = said_within (leb128 rest) rest size refl e
-size_within false rest size e = subst (λ (z : Size). size_bytes z ≤ length rest) (passed_same Absent size e) zero-le
+size_within false rest size e = subst (λ (z : Option Leb128). size_bytes z ≤ length rest) (passed_same None size e) zero-le
 
 sized_within : (first : ℕ) (rest : Bytes) (h : Header) → sized_header first rest ≡ passed h → h.content ≤ fixed_bytes first + length rest
 unfolding sized_header header_with size_of
@@ -76,17 +78,19 @@ content_within s h e =
     omega (arith, sized_within first (drop (fixed_bytes first) s) h r.1, length-drop (fixed_bytes first) s, fixed)
 
 -- ---- of an OBU's first bytes, those after the eleventh change nothing
-said_most : (leb : Leb) (rest : Bytes) (size : Size) → leb128 rest ≡ leb → size_said leb ≡ passed size → size_bytes size ≤ 8
-said_most (Number value width) rest size e p =
-    subst (λ (z : Size). size_bytes z ≤ 8) (passed_same (Present value width) size p) (leb_taken rest value width e).0
-said_most Bad rest size e p = never p
+said_most : (leb : Option Leb128) (rest : Bytes) (size : Option Leb128) → leb128 rest ≡ leb → size_said leb ≡ passed size
+    → size_bytes size ≤ 8
+said_most (Some l) rest size e p =
+    subst (λ (z : Option Leb128). size_bytes z ≤ 8) (passed_same (Some l) size p) (leb_taken rest l e).0
+said_most None rest size e p = never p
 
-size_most : (t : Bool) (rest : Bytes) (size : Size) → pick t (size_said (leb128 rest)) (passed Absent) ≡ passed size → size_bytes size ≤ 8
+size_most : (t : Bool) (rest : Bytes) (size : Option Leb128) → pick t (size_said (leb128 rest)) (passed None) ≡ passed size
+    → size_bytes size ≤ 8
 unfolding pick
 size_most true rest size e = said_most (leb128 rest) rest size refl e
-size_most false rest size e = subst (λ (z : Size). size_bytes z ≤ 8) (passed_same Absent size e) zero-le
+size_most false rest size e = subst (λ (z : Option Leb128). size_bytes z ≤ 8) (passed_same None size e) zero-le
 
-content_first : (first k : ℕ) (rest : Bytes) → 9 ≤ k → (v : Verdict Size) → size_of first rest ≡ v
+content_first : (first k : ℕ) (rest : Bytes) → 9 ≤ k → (v : Verdict (Option Leb128)) → size_of first rest ≡ v
     → (v >>= (λ size. passed (header_with first size (byte (take k rest) (size_bytes size)))))
     ≡ (v >>= (λ size. passed (header_with first size (byte rest (size_bytes size)))))
 unfolding size_of ◌>>=◌
@@ -132,15 +136,12 @@ judged_header s n h e =
     let tile = (passed_after _ _ h (passed_after _ _ h (passed_after _ _ h p.2).1).1).1 in
     p.1 ∙ (passed_after _ _ h (passed_after _ _ h tile).1).1
 
--- which gives the number of its kind
-pub judged_number : (s : Bytes) (n : ℕ) (h : Header) → judged s n ≡ passed h → number_said (header_of s) ≡ kind_number h
-judged_number s n h e = ap number_said (judged_header s n h e)
-
 -- ---- the size that a header says
 -- what a header says of it, and where the content begins
 pub record Sized (s : Bytes) (h : Header) : Type 0 where
   pub said : size_of (byte s 0) (drop (fixed_bytes (byte s 0)) s) ≡ passed h.size
   pub content : h.content ≡ fixed_bytes (byte s 0) + size_bytes h.size
+  pub four_bits : h.obu_type ≡ type_bits (byte s 0)
 
 pub header_sized : (s : Bytes) (h : Header) → header_of s ≡ passed h → Sized s h
 unfolding header_of sized_header header_with
@@ -150,16 +151,27 @@ header_sized s h e =
     let q = (passed_after _ _ h (passed_after _ _ h (passed_after _ _ h e).1).1).1 in
     let p = passed_then (size_of first rest) (λ size. passed (header_with first size (byte rest (size_bytes size)))) h q in
     let same = passed_same (header_with first p.0 (byte rest (size_bytes p.0))) h p.2 in
-    subst (Sized s) same (record { said = p.1; content = refl })
+    subst (Sized s) same (record { said = p.1; content = refl; four_bits = refl })
+
+-- ---- the kind that a header gives
+pub header_kind : (s : Bytes) (h : Header) (k : code_kind.Kind) → kind_meant k ≡ kind_of_number (kind_number h) → header_of s ≡ passed h
+    → kind_meant k ≡ kind_of s
+header_kind s h k is e = is ∙ sym (ap (λ v. kind_of_number (number_said v)) e)
 
 -- "The value must equal the bytes that remain."
-pub size_right : (s : Bytes) (h : Header) (value width : ℕ) → judged s (length s) ≡ passed h → h.size ≡ Present value width
-    → h.content + value ≡ length s
+pub size_right : (s : Bytes) (h : Header) (l : Leb128) → judged s (length s) ≡ passed h → h.size ≡ Some l
+    → h.content + l.value ≡ length s
 unfolding judged
-size_right s h value width e z =
+size_right s h l e z =
     let p = passed_then (header_of s) _ h e in
     let same = passed_same p.0 h (sym p.1 ∙ judged_header s (length s) h e) in
     let right = given_passed 5 _ (passed_after _ _ h p.2).0 in
-    let value-is : not (eqb value (bytes_remaining h (length s))) ≡ false =
-    sym (ap (λ (k : Size). differs k (bytes_remaining h (length s))) z) ∙ ap (λ (k : Header). size_wrong k (length s)) (sym same) ∙ right in
-    omega (arith, eqb-true value (bytes_remaining h (length s)) (not-false _ value-is), content_within s h (judged_header s (length s) h e))
+    let value-is : not (eqb l.value (bytes_remaining h (length s))) ≡ false =
+    sym (ap (λ (k : Option Leb128). differs k (bytes_remaining h (length s))) z)
+    ∙ ap (λ (k : Header). size_wrong k (length s)) (sym same) ∙ right in
+    omega (
+      arith,
+      eqb-true l.value (bytes_remaining h (length s)) (not-false _ value-is),
+      content_within s h (judged_header s
+          (length s) h e),
+    )

@@ -4,14 +4,14 @@ use Prim.Native.Nat.{ℕ}
 use mathlib.Core.Bool.{Bool}
 use mathlib.Core.Path.{sym, subst}
 use mathlib.Core.List.{List}
+use Rattle.std.specs.Prelude.{Option, Some, None}
 use lib.Dec.{eqb}
 use lib.ListN.{length, drop}
 use Rattle.lists.specs.Lists.{Bytes}
 use Rattle.lists.specs.Bytes.{byte}
 use Rattle.refusal.specs.Verdict.{Verdict, NoValue, passed, refused, ◌>>◌, given}
 use Rattle.refusal.proofs.Refusing.{Refuses, refuses_given, refuses_pick, refuses_then, refuses_bind}
-use Rattle.obu.specs.declared.leb128.Leb.{Leb}
-use Rattle.obu.specs.declared.leb128.Leb.TheVariants.{Number, Bad}
+use Rattle.obu.specs.declared.leb128.Leb128.{Leb128}
 use Rattle.obu.specs.Leb128.{leb128}
 use Rattle.obu.specs.Header.{fixed_bytes, size_said, size_of, sized_header, header_of, judged, obu_refusal}
 use Rattle.obu.specs.Order.{Kind, OrderMeans, order_refusal}
@@ -23,9 +23,9 @@ module _ (P : ℕ → Type 0) where
   refuses_try number t v h k = refuses_then P _ _ (refuses_given P number t h) (λ _ _. k)
 
   module _ (p4 : P 4) (p5 : P 5) (p6 : P 6) (p42 : P 42) where
-    leb_refuses : (leb : Leb) → Refuses P (size_said leb)
-    leb_refuses (Number value width) = tt
-    leb_refuses Bad = p5
+    leb_refuses : (leb : Option Leb128) → Refuses P (size_said leb)
+    leb_refuses (Some l) = tt
+    leb_refuses None = p5
 
     header_refuses : (obu : Bytes) → Refuses P (given 3 (eqb (length obu) 0)) → Refuses P (header_of obu)
     unfolding header_of sized_header size_of

@@ -1,23 +1,30 @@
 -- The order rule by positions. `is_order_table`: one test over a table gives the rule at each of its entries. `Reached` and its laws: how
 -- the position of the OBUs so far decides. Assumes nothing.
-use Prim.Native.Nat.{ℕ, zero, suc, ◌+◌, ◌*◌, ◌/◌, ◌%◌, ◌≤◌, ◌<◌}
+use Prim.Native.Nat.{ℕ, suc, ◌+◌, ◌≤◌, ◌<◌}
 use mathlib.Core.Bool.{Bool, true, false, true≢false}
-use mathlib.Core.Path.{◌≡◌, refl, sym, ap, subst, subst₂, ◌∙◌}
+use mathlib.Core.Path.{◌≡◌, refl, sym, ap, subst, ◌∙◌}
+use mathlib.Core.Logic.{◌⊎◌, inl, inr}
 use mathlib.Core.List.{List, [], ◌∷◌, ◌++◌, map, append_assoc, append-nil}
 use native.Mathlib.Omega.{arith}
 use native.Mathlib.Numerals.{add-one}
-use borrow.Author.Tests.{eqb-true, eqb-false, ne_eqb}
+use borrow.Author.Tests.{eqb-true, eqb-false}
 use lib.Dec.{eqb}
-use lib.ListN.{length, take, drop, get_or, length-map, take-append-drop}
+use lib.ListN.{length, take, drop, get_or, get_or-map, length-map, take-append-drop}
 use lib.Seq.{take_all, take-suc}
-use Rattle.lists.specs.Lists.{any}
+use Rattle.lists.specs.Lists.{any, all}
 use Rattle.lists.proofs.Tests.{case}
-use Rattle.lists.proofs.Tables.{all_below, below}
+use Rattle.lists.proofs.Tables.{each, all_below, below}
 use Rattle.refusal.specs.Verdict.{Verdict, passed, refused, NoValue, passes}
 use Rattle.refusal.proofs.Verdicts.{passes_passed}
+use Rattle.std.specs.Prelude.{Option, Some, None}
+use Rattle.obu.specs.declared.ordering.Position.TheVariants as at
+use Rattle.obu.specs.declared.ordering.Position as code_position
+use Rattle.obu.specs.contracts.ordering.Position as position_type
+use denote.Enum.Declared.{tag_of}
 use Rattle.obu.specs.Order.{Kind, temporal_delimiter, frame_header, tile_group, frame, is, head_kind, tile_kind, last_kind, kind_of_number}
 use Rattle.obu.specs.Order.{OrderLegal, after_frame, in_tiles, at_frame, before_frame, order_refusal}
-use Rattle.obu.specs.Table.{Position, start, front, tiles, ended, whole, broken, position_of, MayFollow, Reach, LeadsTo, IsOrderTable}
+use Rattle.obu.specs.Table.{Position, start, front, tiles, ended, whole, broken, MayFollow, Reach, LeadsTo, IsOrderTable}
+use Rattle.obu.specs.Table.{position_meant, column_of}
 use Rattle.obu.proofs.Steps.{tiles_on, tiles_stop, one_frame_lem, one_header, no_frame, head_on, head_stop, delimited, not_delimited}
 use Rattle.obu.proofs.Meaning.{order_legal, legal_order, order_only}
 
@@ -52,7 +59,7 @@ unfoldable pub run : Position → List Kind → Position
 run p [] = p
 run p (k ∷ s) = run (after p k) s
 
-abbrev may_end : Position → Bool
+abbrev pub may_end : Position → Bool
 may_end start = false
 may_end front = false
 may_end tiles = false
@@ -151,6 +158,17 @@ unfolding LeadsTo run
 after_leads p k rest = (λ h. follows (after p k) rest (behind p (k ∷ rest) h), λ h. follows p (k ∷ rest) (behind (after p k) rest h))
 
 -- ---- the table, by one test over its 17 rows of 5
+abbrev pub positions : List code_position.Position
+positions = at.Start ∷ at.Front ∷ at.Tiles ∷ at.Ended ∷ at.Whole ∷ []
+
+position_at : (p : code_position.Position) → (column_of p < 5) × (get_or positions (column_of p) at.Start ≡ p)
+position_at at.Start = (omega arith, refl)
+position_at at.Front = (omega arith, refl)
+position_at at.Tiles = (omega arith, refl)
+position_at at.Ended = (omega arith, refl)
+position_at at.Whole = (omega arith, refl)
+
+-- the test of two positions, by their numbers
 abbrev pub number_of_position : Position → ℕ
 number_of_position start = 0
 number_of_position front = 1
@@ -158,6 +176,10 @@ number_of_position tiles = 2
 number_of_position ended = 3
 number_of_position whole = 4
 number_of_position broken = 5
+
+unfoldable position_of : ℕ → Position
+position_of n =
+    get_or (start ∷ front ∷ tiles ∷ ended ∷ whole ∷ []) n broken
 
 numbered : (p : Position) → position_of (number_of_position p) ≡ p
 unfolding position_of
@@ -168,117 +190,104 @@ numbered ended = refl
 numbered whole = refl
 numbered broken = refl
 
-unfoldable pub right : List (List ℕ) → ℕ → Bool
-right table n =
-    eqb (get_or (get_or table (n / 5) []) (n % 5) 0) (number_of_position (after (position_of (n % 5)) (kind_of_number (n / 5))))
+abbrev Table : Type 0
+Table = List (List (Option code_position.Position))
 
-pub is_order_table : (table : List (List ℕ)) → all_below (right table) 85 ≡ true → IsOrderTable table
-unfolding IsOrderTable right
-is_order_table table e k p h j =
-    let n : ℕ = k * 5 + p in
-    let q : n / 5 ≡ k = omega arith in
-    let r : n % 5 ≡ p = omega arith in
-    let t : get_or (get_or table (n / 5) []) (n % 5) 0 ≡ number_of_position (after (position_of (n % 5)) (kind_of_number (n / 5))) =
-    eqb-true _ _ (below (right table) 85 e n (omega arith)) in
-    let entry : get_or (get_or table k []) p 0 ≡ number_of_position (after (position_of p) (kind_of_number k)) =
-    subst₂ (λ (x y : ℕ). get_or (get_or table x []) y 0 ≡ number_of_position (after (position_of y) (kind_of_number x))) q r t in
-    subst (LeadsTo (position_of p) (kind_of_number k)) (sym (ap position_of entry ∙ numbered (after (position_of p) (kind_of_number k))))
-    (after_leads (position_of p) (kind_of_number k))
+abbrev pub entry : Table → ℕ → code_position.Position → Position
+entry table k p = position_meant (get_or (get_or table k []) (column_of p) None)
 
--- ---- positions by their numbers
-past : (p : ℕ) → 4 < p → position_of p ≡ broken
-unfolding position_of
-past p h =
-    let not : (n : ℕ) → n < 5 → eqb p n ≡ false = λ n l. ne_eqb p n (λ e. omega arith) in
-    rw (not 0 (omega arith), not 1 (omega arith), not 2 (omega arith), not 3 (omega arith), not 4 (omega arith))
+unfoldable pub right : Table → ℕ → code_position.Position → Bool
+right table k p =
+    eqb (number_of_position (entry table k p)) (number_of_position (after (position_meant (Some p)) (kind_of_number k)))
 
--- at each position but the broken one some list may follow
-open_at : (p : ℕ) → p < 5 → (rest : List Kind) × MayFollow (position_of p) rest
-unfolding position_of run after after_start after_front after_tiles any
-open_at zero h = (frame ∷ [], follows start (frame ∷ []) refl)
-open_at (suc zero) h = (frame ∷ [], follows front (frame ∷ []) refl)
-open_at (suc (suc zero)) h = (tile_group ∷ [], follows tiles (tile_group ∷ []) refl)
-open_at (suc (suc (suc zero))) h = ([], follows ended [] refl)
-open_at (suc (suc (suc (suc zero)))) h = ([], follows whole [] refl)
-open_at (suc (suc (suc (suc (suc p))))) h = absurd (omega arith)
+unfoldable pub all_right : Table → Bool
+all_right table = all_below (λ k. all (right table k) positions) 17
+
+pub is_order_table : (table : Table) → all_right table ≡ true → IsOrderTable table
+unfolding IsOrderTable all_right right
+is_order_table table e k p few =
+    let row : all (right table k) positions ≡ true = below (λ x. all (right table x) positions) 17 e k few in
+    let here : right table k p ≡ true =
+    subst (λ (x : code_position.Position). right table k x ≡ true) (position_at p).1
+    (each (right table k) at.Start positions row (column_of p) (position_at p).0) in
+    let to : Position = after (position_meant (Some p)) (kind_of_number k) in
+    let same : entry table k p ≡ to = sym (numbered (entry table k p)) ∙ ap position_of (eqb-true _ _ here) ∙ numbered to in
+    subst (LeadsTo (position_meant (Some p)) (kind_of_number k)) (sym same) (after_leads (position_meant (Some p)) (kind_of_number k))
+
+-- ---- positions
+-- at each some list may follow
+open_at : (p : code_position.Position) → (rest : List Kind) × MayFollow (position_meant (Some p)) rest
+unfolding run after after_start after_front after_tiles any
+open_at at.Start = (frame ∷ [], follows start (frame ∷ []) refl)
+open_at at.Front = (frame ∷ [], follows front (frame ∷ []) refl)
+open_at at.Tiles = (tile_group ∷ [], follows tiles (tile_group ∷ []) refl)
+open_at at.Ended = ([], follows ended [] refl)
+open_at at.Whole = ([], follows whole [] refl)
 
 -- before the tiles have ended nothing but more may follow; from there on the end may
-too_few : (p : ℕ) → p < 3 → MayFollow (position_of p) [] → ⊥
-unfolding position_of run
-too_few zero h f = true≢false (sym (behind start [] f))
-too_few (suc zero) h f = true≢false (sym (behind front [] f))
-too_few (suc (suc zero)) h f = true≢false (sym (behind tiles [] f))
-too_few (suc (suc (suc p))) h f = absurd (omega arith)
+too_few : (p : Position) → may_end p ≡ false → MayFollow p [] → ⊥
+unfolding run
+too_few p e f = true≢false (sym (behind p [] f) ∙ e)
 
-enough : (p : ℕ) → 3 ≤ p → p < 5 → MayFollow (position_of p) []
-unfolding position_of run
-enough zero h j = absurd (omega arith)
-enough (suc zero) h j = absurd (omega arith)
-enough (suc (suc zero)) h j = absurd (omega arith)
-enough (suc (suc (suc zero))) h j = follows ended [] refl
-enough (suc (suc (suc (suc zero)))) h j = follows whole [] refl
-enough (suc (suc (suc (suc (suc p))))) h j = absurd (omega arith)
+enough : (p : Position) → may_end p ≡ true → MayFollow p []
+unfolding run
+enough p e = follows p [] e
 
 -- ---- the position reached before a place
-get_d_map : (f : ℕ → Kind) (l : List ℕ) (i : ℕ) → get_or (map f l) i (f 0) ≡ f (get_or l i 0)
-get_d_map f [] i = refl
-get_d_map f (n ∷ l) zero = refl
-get_d_map f (n ∷ l) (suc i) = get_d_map f l i
-
-abbrev pub kinds_of : List ℕ → List Kind
-kinds_of kinds = map kind_of_number kinds
-
-pub record Reached (kinds : List ℕ) (position i : ℕ) : Type 0 where
-  pub within : position < 5
+pub record Reached {A : Type 0} (meant : A → Kind) (kinds : List A) (position : code_position.Position) (i : ℕ) : Type 0 where
   pub place : i ≤ length kinds
-  pub reach : Reach (take i (kinds_of kinds)) (position_of position)
+  pub reach : Reach (take i (map meant kinds)) (position_meant (Some position))
   -- each shorter beginning can go on
-  pub least : (j : ℕ) → j < i → (rest : List Kind) × OrderLegal (take (suc j) (kinds_of kinds) ++ rest)
+  pub least : (j : ℕ) → j < i → (rest : List Kind) × OrderLegal (take (suc j) (map meant kinds) ++ rest)
 
-pub at_start : (kinds : List ℕ) → Reached kinds 0 0
-unfolding position_of MayFollow
-at_start kinds = record { within = omega arith; place = omega arith; reach = λ rest. (λ h. h, λ h. h); least = λ j h. absurd (omega arith) }
+pub at_start : {A : Type 0} (meant : A → Kind) (kinds : List A) → Reached meant kinds at.Start 0
+unfolding MayFollow
+at_start meant kinds = record { place = omega arith; reach = λ rest. (λ h. h, λ h. h); least = λ j h. absurd (omega arith) }
 
-module _ {kinds : List ℕ} {position i : ℕ} (r : Reached kinds position i) where
-  -- the next kind leads to a position
-  module _ (h : i < length kinds) (to : ℕ) (g : LeadsTo (position_of position) (kind_of_number (get_or kinds i 0)) (position_of to)) where
-    one_more : (rest : List Kind)
-        → take (suc i) (kinds_of kinds) ++ rest ≡ take i (kinds_of kinds) ++ (kind_of_number (get_or kinds i 0) ∷ rest)
+module _ {A : Type 0} {meant : A → Kind} {kinds : List A} {position : code_position.Position} {i : ℕ}
+    (r : Reached meant kinds position i) where
+  -- the next kind leads to a position, or breaks the order
+  module _ (h : i < length kinds) (d : A) (to : Option code_position.Position)
+      (g : LeadsTo (position_meant (Some position)) (meant (get_or kinds i d)) (position_meant to)) where
+    one_more : (rest : List Kind) → take (suc i) (map meant kinds) ++ rest ≡ take i (map meant kinds) ++ (meant
+        (get_or kinds i d) ∷ rest)
     one_more rest =
         ap (λ (l : List Kind). l ++ rest)
-        (take-suc (kinds_of kinds) i (kind_of_number 0) (omega (arith, length-map kinds kind_of_number))
-        ∙ ap (λ (k : Kind). take i (kinds_of kinds) ++ (k ∷ [])) (get_d_map kind_of_number kinds i))
-        ∙ append_assoc (take i (kinds_of kinds)) (kind_of_number (get_or kinds i 0) ∷ []) rest
+        (take-suc (map meant kinds) i (meant d) (omega (arith, length-map kinds meant))
+        ∙ ap (λ (x : Kind). take i (map meant kinds) ++ (x ∷ [])) (get_or-map meant kinds i d))
+        ∙ append_assoc (take i (map meant kinds)) (meant (get_or kinds i d) ∷ []) rest
 
-    leads : Reach (take (suc i) (kinds_of kinds)) (position_of to)
+    leads : Reach (take (suc i) (map meant kinds)) (position_meant to)
     unfolding LeadsTo
     leads rest =
-        let before = r.reach (kind_of_number (get_or kinds i 0) ∷ rest) in (
+        let before = r.reach (meant (get_or kinds i d) ∷ rest) in (
           λ l. (g rest).0 (before.0 (subst OrderLegal (one_more rest) l)),
           λ m. subst OrderLegal (sym (one_more rest)) (before.1 ((g rest).1 m)),
         )
 
-    pub goes_on : to ≤ 4 → Reached kinds to (i + 1)
-    goes_on j =
+    pub goes_on : (p : code_position.Position) → to ≡ Some p → Reached meant kinds p (i + 1)
+    goes_on p f =
+        let there : Reach (take (suc i) (map meant kinds)) (position_meant (Some p)) =
+        subst (λ (x : Option code_position.Position). Reach (take (suc i) (map meant kinds)) (position_meant x)) f leads in
         record {
-          within = omega arith;
           place = omega arith;
-          reach = subst (λ (n : ℕ). Reach (take n (kinds_of kinds)) (position_of to)) (sym (add-one i)) leads;
+          reach = subst (λ (n : ℕ). Reach (take n (map meant kinds)) (position_meant (Some p))) (sym (add-one i)) there;
           least = λ n l. case (eqb n i)
-              (λ e. let o = open_at to (omega arith) in
-              (o.0, subst (λ (x : ℕ). OrderLegal (take (suc x) (kinds_of kinds) ++ o.0)) (sym (eqb-true n i e)) ((leads o.0).1 o.1)))
+              (λ e. let o = open_at p in
+              (o.0, subst (λ (x : ℕ). OrderLegal (take (suc x) (map meant kinds) ++ o.0)) (sym (eqb-true n i e)) ((there o.0).1 o.1)))
               (λ e. r.least n (let d = eqb-false n i e in omega arith));
         }
 
-    pub breaks : 4 < to → refused 7 i ≡ order_refusal (kinds_of kinds)
-    breaks j =
-        let none : (rest : List Kind) → ¬ OrderLegal (take (suc i) (kinds_of kinds) ++ rest) =
-        λ rest l. unfold MayFollow in subst (λ (p : Position). MayFollow p rest) (past to j) ((leads rest).0 l) in
-        order_only (kinds_of kinds) (refused 7 i) (
+    pub breaks : to ≡ None → refused 7 i ≡ order_refusal (map meant kinds)
+    breaks f =
+        let none : (rest : List Kind) → ¬ OrderLegal (take (suc i) (map meant kinds) ++ rest) =
+        λ rest l. unfold MayFollow in subst (λ (x : Option code_position.Position). MayFollow (position_meant x) rest) f
+        ((leads rest).0 l) in
+        order_only (map meant kinds) (refused 7 i) (
           refl,
           record {
-            not_legal = λ l. none (drop (suc i) (kinds_of kinds)) (subst OrderLegal (sym (take-append-drop (suc i) (kinds_of kinds))) l);
-            within = omega (arith, length-map kinds kind_of_number);
+            not_legal = λ l. none (drop (suc i) (map meant kinds)) (subst OrderLegal (sym (take-append-drop (suc i) (map meant kinds))) l);
+            within = omega (arith, length-map kinds meant);
             breaks = λ l rest. none rest;
             least = r.least;
           },
@@ -286,23 +295,52 @@ module _ {kinds : List ℕ} {position i : ℕ} (r : Reached kinds position i) wh
 
   -- the end
   module _ (h : length kinds ≤ i) where
-    all_taken : take i (kinds_of kinds) ++ [] ≡ kinds_of kinds
-    all_taken =
-        append-nil (take i (kinds_of kinds)) ∙ take_all i (kinds_of kinds) (omega (arith, length-map kinds kind_of_number))
+    all_taken : take i (map meant kinds) ++ [] ≡ map meant kinds
+    all_taken = append-nil (take i (map meant kinds)) ∙ take_all i (map meant kinds) (omega (arith, length-map kinds meant))
 
-    pub too_soon : position < 3 → refused 7 i ≡ order_refusal (kinds_of kinds)
+    pub too_soon : may_end (position_meant (Some position)) ≡ false → refused 7 (length kinds) ≡ order_refusal (map meant kinds)
     too_soon j =
-        order_only (kinds_of kinds) (refused 7 i) (
+        order_only (map meant kinds) (refused 7 (length kinds)) (
           refl,
           record {
-            not_legal = λ l. too_few position j ((r.reach []).0 (subst OrderLegal (sym all_taken) l));
-            within = omega (arith, r.place, length-map kinds kind_of_number);
-            breaks = λ l. absurd (omega (arith, length-map kinds kind_of_number));
-            least = r.least;
+            not_legal = λ l. too_few (position_meant (Some position)) j ((r.reach []).0 (subst OrderLegal (sym all_taken) l));
+            within = omega (arith, length-map kinds meant);
+            breaks = λ l. absurd (omega (arith, length-map kinds meant));
+            least = λ n l. r.least n (omega arith);
           },
         )
 
-    pub in_order : 3 ≤ position → passed tt ≡ order_refusal (kinds_of kinds)
+    pub in_order : may_end (position_meant (Some position)) ≡ true → passed tt ≡ order_refusal (map meant kinds)
     in_order j =
-        order_only (kinds_of kinds) (passed tt)
-        (subst OrderLegal all_taken ((r.reach []).1 (enough position j r.within)))
+        order_only (map meant kinds) (passed tt) (subst OrderLegal all_taken ((r.reach []).1 (enough (position_meant (Some position)) j)))
+
+-- ---- the code's tests
+-- by the kind that a number has
+pub led : (p to : Position) {a b : Kind} → a ≡ b → LeadsTo p a to → LeadsTo p b to
+led p to e l = subst (λ (k : Kind). LeadsTo p k to) e l
+
+pub ends : (p : code_position.Position) → (p ≡ at.Ended) ⊎ (p ≡ at.Whole) → may_end (position_meant (Some p)) ≡ true
+ends p (inl e) = rw e refl
+ends p (inr e) = rw e refl
+
+pub goes_on_from : (p : code_position.Position) → (p ≡ at.Start) ⊎ (p ≡ at.Front) ⊎ (p ≡ at.Tiles)
+    → may_end (position_meant (Some p)) ≡ false
+goes_on_from p (inl e) = rw e refl
+goes_on_from p (inr (inl e)) = rw e refl
+goes_on_from p (inr (inr e)) = rw e refl
+
+-- the column is the number of the variant
+column : (p : code_position.Position) → column_of p ≡ tag_of position_type.the_type p
+column at.Start = refl
+column at.Front = refl
+column at.Tiles = refl
+column at.Ended = refl
+column at.Whole = refl
+
+pub at_entry : (table : Table) → IsOrderTable table → (k : ℕ) (p : code_position.Position) → k < 17
+    → LeadsTo (position_meant (Some p)) (kind_of_number k)
+    (position_meant (get_or (get_or table k []) (tag_of position_type.the_type p) None))
+unfolding IsOrderTable
+at_entry table h k p few =
+    subst (λ (n : ℕ). LeadsTo (position_meant (Some p)) (kind_of_number k) (position_meant (get_or (get_or table k []) n None))) (column p)
+    (h k p few)

@@ -1,4 +1,4 @@
--- Two kinds that are found to be the same, and the numbers above those of the kinds. Assumes nothing.
+-- Two kinds that are found to be the same, and the numbers that no kind has. Assumes nothing.
 use Prim.Native.Nat.{ℕ, ◌≤◌, ◌<◌}
 use mathlib.Core.Bool.{Bool, true, false, true≢false}
 use mathlib.Core.Path.{◌≡◌, sym, ◌∙◌}
@@ -9,7 +9,7 @@ use borrow.Author.Tests.{ne_eqb}
 use lib.Dec.{eqb}
 use Rattle.lists.specs.Lists.{any}
 use Rattle.lists.proofs.Tests.{case}
-use Rattle.obu.specs.Order.{Kind, Kind-discrete, kind_of_number, is}
+use Rattle.obu.specs.Order.{Kind, Kind-discrete, is, kind_of_number}
 
 -- two kinds that the test finds equal are equal
 same_by : (a b : Kind) (d : Dec (a ≡ b)) → (elim d as (λ x. Bool) [ yes e ↦ true | no e ↦ false ]) ≡ true → a ≡ b

@@ -5,6 +5,6 @@ mod header;
 mod leb128;
 mod ordering;
 
-pub use header::{Header, JUDGED_BYTES, Judged, Size, judge, kind_number, read_header, size_bytes};
-pub use leb128::{Leb, read_leb128};
-pub use ordering::{Ordered, order};
+pub use header::{Header, JUDGED_BYTES, judge, read_header, size_bytes};
+pub use leb128::{Leb128, read_leb128};
+pub use ordering::{Kind, kind_number, kind_of, order, order_kinds};

@@ -1,9 +1,9 @@
 -- Two packets whose bytes are equal but for those of the PCR: they have the same header and flags (`same_front`), so that one with a PCR
 -- and one without are never equal (`first_alone`, `second_alone`). Assumes nothing.
+use Rattle.std.specs.Prelude.{Some}
 use Prim.Native.Nat.{ℕ, ◌+◌, ◌%◌, ◌<◌, ◌≤◌}
 use mathlib.Core.Bool.{Bool, true, false, not, ◌&&◌, and_assoc}
 use mathlib.Core.Path.{◌≡◌, refl, sym, ap, ◌∙◌}
-use mathlib.Core.Option.{some}
 use mathlib.Core.List.{[], ◌∷◌, ◌++◌}
 use native.Mathlib.Omega.{arith}
 use borrow.Author.Tests.{ltb-true, ltb-false, ne_eqb, not-true}
@@ -81,7 +81,7 @@ module _ (p q : Bytes) where
       (length-take-le 6 p (flag_long p e) ∙ sym (length-take-le 6 q (flag_long q f)))))
 
 -- ---- a copy has not the counter that is due
-pub copy_not_due : (last p : Bytes) → copy_of (some last) p ≡ true → counter_right (some last) p ≡ false
+pub copy_not_due : (last p : Bytes) → copy_of (Some last) p ≡ true → counter_right (Some last) p ≡ false
 unfolding copy_of counter_right due pick
 copy_not_due last p e =
     let k = and_both (has_payload p && not (discontinuity_indicator p)) (bytes_same last p) e in

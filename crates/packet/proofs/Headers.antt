@@ -1,23 +1,27 @@
 -- A packet that passed says what its fields are, and its payload lies from its place on. The rule of the adaptation field's length, by the
 -- control bits. Assumes nothing.
+use Rattle.std.specs.Prelude.{Some, None, is_some}
 use Prim.Native.Nat.{ℕ}
 use mathlib.Core.Bool.{Bool, true, false, not, ◌&&◌, ◌||◌}
 use mathlib.Core.Path.{◌≡◌, refl, sym}
 use borrow.Author.Tests.{ne_eqb}
 use lib.Dec.{eqb, ltb}
-use lib.ListN.{drop}
 use Rattle.lists.specs.Lists.{Bytes, pick}
 use Rattle.refusal.specs.Verdict.{passed}
 use Rattle.refusal.proofs.Verdicts.{passed_after, passed_same}
 use Rattle.packet.specs.declared.header.Header.{Header}
-use Rattle.packet.specs.Header.{has_payload, payload}
-use Rattle.packet.specs.Header.{payload_place, fields, header_of}
+use Rattle.packet.specs.Header.{has_payload}
+use Rattle.packet.specs.Header.{header_length, payload_place, fields, header_of}
 
 -- ---- the payload
--- what lies from its place on is the payload
-pub payload_from : (p : Bytes) → has_payload p ≡ true → payload p ≡ drop (payload_place p) p
-unfolding payload payload_place pick
-payload_from p e = rw e
+-- there is a place where there is payload
+pub has_place : (p : Bytes) → has_payload p ≡ is_some (payload_place p)
+unfolding payload_place pick
+has_place p = go (has_payload p)
+  where
+    go : (b : Bool) → b ≡ is_some (pick b (Some (header_length p)) None)
+    go true = refl
+    go false = refl
 
 -- ---- a packet that passed
 -- it says what its fields are

@@ -1,12 +1,10 @@
--- The numbers that the code keeps of the records: how many they are (`numbers_long`), at the beginning (`fresh_numbers_lem`), what is read
--- of
--- them (`last_kept_lem`, `listed_kept`, `look_behind_two`), and what a write makes of them (`put_kept`, `pid_kept`, `pids-kept`,
--- `pids-padded`). Assumes nothing.
+-- The numbers that the code keeps of the records: before the first packet (`fresh_numbers_lem`), what is read of them (`last_kept_lem`,
+-- `listed_kept`, `look_behind_two`), and what a write makes of them (`put_kept`, `pid_kept`). Assumes nothing.
+use Rattle.std.specs.Prelude.{Option, Some, None}
 use Prim.Native.Nat.{ℕ, zero, suc, ◌+◌, ◌*◌, ◌/◌, ◌%◌, ◌≤◌, ◌<◌}
 use mathlib.Core.Bool.{Bool, true, false}
 use mathlib.Core.Path.{◌≡◌, refl, sym, ap, ap₂, ◌∙◌}
 use mathlib.Core.List.{List, [], ◌∷◌, ◌++◌, map, append_assoc, map-append}
-use mathlib.Core.Option.{Option, none, some}
 use native.Mathlib.Omega.{arith}
 use lib.ListN.{length, get_or, take, drop, set, replicate, length-append, length-drop, length-set, length-replicate, length-map}
 use lib.ListN.{get_or-append, get_or-map}
@@ -16,11 +14,9 @@ use mir.Val.{bool_byte}
 use Rattle.lists.specs.Lists.{Bytes}
 use Rattle.lists.proofs.Picks.{by_lt}
 use Rattle.packet.specs.Header.{continuity_counter}
-use Rattle.packet.specs.declared.counter.Last.TheVariants as last
-use Rattle.packet.specs.Counter.{StreamRecord, named, pids_of, last_kept, last_of}
-use Rattle.packet.specs.Streams.{look_up_from, look_up, most_records, padded, mark_of, index_of, numbers_of, listed_pids, last_from}
-use Rattle.packet.specs.Streams.{last_in}
-use Rattle.packet.specs.Streams.{with_last, with_pid}
+use Rattle.packet.specs.Counter.{StreamRecord, named, pids_of, seen, last_kept, last_of}
+use Rattle.packet.specs.Streams.{look_up_from, look_up, most_records, padded, mark_of, index_of, numbers_of, streams_of, listed_pids}
+use Rattle.packet.specs.Streams.{last_from, last_in, with_last, with_pid}
 use Rattle.packet.proofs.Slots.{first_has_not}
 
 -- ---- lists
@@ -121,14 +117,14 @@ unfolding last_kept
 no_index n = refl
 
 -- ---- how many they are, and the first
-pub fresh_numbers_lem : numbers_of (named 0 ∷ []) ≡ replicate 42 0
+pub fresh_numbers_lem : streams_of (named 0 ∷ []) ≡ record { numbers = replicate 42 0 }
 unfolding last_kept
 fresh_numbers_lem = refl
 
 -- ---- what is read
 -- two numbers of a last packet stand for it
 packet_back : (n i : ℕ) (repeat : Bool) → n < 16
-    → last_from (suc (2 * n + bool_byte repeat)) i ≡ last.Packet n i repeat
+    → last_from (suc (2 * n + bool_byte repeat)) i ≡ seen n i repeat
 unfolding last_from
 packet_back n i false h =
     let e : (2 * n + 0) / 2 % 256 ≡ n = omega arith in
@@ -142,8 +138,8 @@ packet_back n i true h =
 last_back : (o : Option Bytes) (i : ℕ) (repeat : Bool)
     → last_from (mark_of (last_kept o i repeat)) (index_of (last_kept o i repeat)) ≡ last_kept o i repeat
 unfolding last_kept last_from
-last_back none i repeat = refl
-last_back (some p) i repeat = packet_back (continuity_counter p) i repeat (omega arith)
+last_back None i repeat = refl
+last_back (Some p) i repeat = packet_back (continuity_counter p) i repeat (omega arith)
 
 module _ (records : List StreamRecord) (k : ℕ) (inside : k < length records) (few : length records ≤ most_records) where
   abbrev pids : List ℕ
@@ -192,19 +188,20 @@ module _ (records : List StreamRecord) (k : ℕ) (inside : k < length records) (
       (part_set index records k r inside)
 
 pub last_kept_lem : (records : List StreamRecord) (k : ℕ) → k < length records → length records ≤ most_records
-    → last_in (numbers_of records) k ≡ last_of (get_or records k (named 0))
+    → last_in (streams_of records) k ≡ last_of (get_or records k (named 0))
 unfolding last_in
 last_kept_lem records k h few =
     let r = get_or records k (named 0) in
-    sym (by_lt last.Unseen (let slot : k < most_records = omega arith in slot)
+    sym (by_lt None (let slot : k < most_records = omega arith in slot)
     (sym (ap₂ last_from (mark_at records k h few) (index_at records k h few) ∙ last_back r.last r.lies r.repeat)))
 
 -- ---- what is written
 pub put_kept : (records : List StreamRecord) (k : ℕ) (r : StreamRecord) → k < length records → length records ≤ most_records
-    → r.pid ≡ (get_or records k (named 0)).pid → with_last (numbers_of records) k (last_of r) ≡ numbers_of (set records k r)
+    → r.pid ≡ (get_or records k (named 0)).pid → with_last (streams_of records) k (last_of r) ≡ streams_of (set records k r)
 unfolding with_last
 put_kept records k r h few e =
-    sym (by_lt (numbers_of records) (let slot : k < most_records = omega arith in slot) (sym (put_at records k h few r e)))
+    ap (λ (l : List ℕ). record { numbers = l })
+    (sym (by_lt (numbers_of records) (let slot : k < most_records = omega arith in slot) (sym (put_at records k h few r e))))
 
 -- the marks and indices of PIDs that are named are there already
 others_kept : (records : List StreamRecord) (pids : List ℕ) → length records + length pids ≤ most_records
@@ -219,22 +216,23 @@ pids_named [] (n ∷ pids) = ap (λ (t : List ℕ). n ∷ t) (pids_named [] pids
 pids_named (r ∷ records) pids = ap (λ (t : List ℕ). r.pid ∷ t) (pids_named records pids)
 
 pub pid_kept : (records : List StreamRecord) (n : ℕ) → length records < most_records
-    → with_pid (numbers_of records) (length records) n ≡ numbers_of (records ++ (named n ∷ []))
+    → with_pid (streams_of records) (length records) n ≡ streams_of (records ++ (named n ∷ []))
 unfolding with_pid
 pid_kept records n h =
     let others = padded (map mark records) ++ padded (map index records) in
     let count : length (pids_of records) ≡ length records = length-map records (λ (r : StreamRecord). r.pid) in
-    sym (by_lt (numbers_of records) h
+    ap (λ (l : List ℕ). record { numbers = l })
+    (sym (by_lt (numbers_of records) h
     (sym (ap (λ (k : ℕ). set (numbers_of records) k n) (sym count)
     ∙ set-append_left (padded (pids_of records)) others (length (pids_of records)) n
     (omega (arith, count, part_long (λ (r : StreamRecord). r.pid) records (omega arith)))
     ∙ ap₂ (λ (s t : List ℕ). s ++ t)
     (padded_next (pids_of records) n (omega (arith, count)) ∙ ap padded (sym (pids_named records (n ∷ []))))
-    (others_kept records (n ∷ []) (omega arith)))))
+    (others_kept records (n ∷ []) (omega arith))))))
 
 -- ---- the listed streams
 pub listed_kept : (a b : StreamRecord) (records : List StreamRecord) → length records ≤ 12
-    → listed_pids (length records) (numbers_of (a ∷ b ∷ records)) ≡ pids_of records
+    → listed_pids (length records) (streams_of (a ∷ b ∷ records)) ≡ pids_of records
 listed_kept a b records h =
     let pids = pids_of records in
     let behind = drop (length (pids_of (a ∷ b ∷ records))) blank in

@@ -2,9 +2,9 @@ pub mod Headers
 pub mod Plain
 pub mod Counters
 pub mod Slots
-pub mod Keeping
 pub mod Recorded
 pub mod Packets
 pub mod Copies
 pub mod Writing
 pub mod WritingClocks
+pub mod Keeping

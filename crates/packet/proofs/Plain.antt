@@ -1,5 +1,6 @@
 -- A packet with payload, without an adaptation field and not scrambled, as the upper half of its fourth byte says: nothing of it is wrong
 -- by 23, and what it says lies in its first four bytes. Assumes nothing.
+use Rattle.std.specs.Prelude.{Some, None}
 use Prim.Native.Nat.{ℕ, ◌/◌, ◌%◌}
 use mathlib.Core.Bool.{true, false, not, and-false}
 use mathlib.Core.Path.{◌≡◌, ap}
@@ -8,7 +9,6 @@ use lib.Dec.{eqb}
 use Rattle.lists.specs.Lists.{Bytes, pick}
 use Rattle.lists.specs.Bytes.{byte}
 use Rattle.lists.proofs.Tests.{case}
-use Rattle.packet.specs.declared.header.Clock.TheVariants.{None}
 use Rattle.packet.specs.Header.{payload_unit_start_indicator, pid, null_pid, transport_scrambling_control, adaptation_field_control}
 use Rattle.packet.specs.Header.{continuity_counter, has_adaptation_field, has_payload, adaptation_flags, pcr, header_length, payload_place}
 use Rattle.packet.specs.Header.{fields_wrong, header_wrong, fields}
@@ -34,7 +34,7 @@ module _ (p : Bytes) (e : byte p 3 / 16 ≡ 1) where
   unfolding pcr pick
   no_clock = case (eqb (pid p) null_pid) (λ t. rw t) (λ t. rw (t, no_flags))
 
-  place : payload_place p ≡ 4
+  place : payload_place p ≡ Some 4
   unfolding payload_place header_length pick
   place = rw (has_payload_lem, no_field)
 
@@ -49,7 +49,6 @@ module _ (p : Bytes) (e : byte p 3 / 16 ≡ 1) where
         counter = continuity_counter p;
         discontinuity = false;
         pcr = None;
-        has_payload = true;
-        payload = 4;
+        payload = Some 4;
       }
-  plain_fields = rw (no_flags, no_clock, has_payload_lem, place)
+  plain_fields = rw (no_flags, no_clock, place)

@@ -1,5 +1,6 @@
 -- The PCR packet that the segment writer writes is read as one without payload (`pcr_reads`) that has the PCR (`pcr_is_lem`). Assumes
 -- nothing.
+use Rattle.std.specs.Prelude.{Some}
 use Prim.Native.Nat.{ℕ, ◌^◌, ◌<◌}
 use mathlib.Core.Bool.{true, false}
 use mathlib.Core.Path.{◌≡◌, refl, sym, ap, ◌∙◌}
@@ -14,7 +15,6 @@ use Rattle.lists.proofs.Tests.{and_by_true}
 use Rattle.ticks.specs.declared.Ticks27.{Ticks27}
 use Rattle.packet.specs.Header as packet
 use Rattle.packet.specs.Header.{pcr, null_pid, adaptation_flags}
-use Rattle.packet.specs.declared.header.Clock.TheVariants.{Pcr}
 use Rattle.packet.proofs.Headers.{control_10}
 use Rattle.ticks.specs.Writing.{extension, pcr_bytes}
 use Rattle.ticks.proofs.Writing.{clock_back}
@@ -60,11 +60,11 @@ module _ (q counter : ℕ) (t : Ticks27) (hq : q < 8192) (hc : counter < 16) whe
   pcr_empty = no_payload h (omega arith) refl
 
   -- "a PCR": the caller's
-  pub pcr_is_lem : (q ≡ null_pid → ⊥) → pcr (pcr_packet q counter t) ≡ Pcr t
+  pub pcr_is_lem : (q ≡ null_pid → ⊥) → pcr (pcr_packet q counter t) ≡ Some t
   unfolding pcr_packet pcr
   pcr_is_lem n =
       sym (by_false _ (ne_eqb (packet.pid whole) null_pid (λ e. n (sym h.pid ∙ e)))
-      (by_true _ flag_clock (ap Pcr (sym (clock_back t)))))
+      (by_true _ flag_clock (ap Some (sym (clock_back t)))))
 
 pub length_pcr : (q counter : ℕ) (t : Ticks27) → length (pcr_packet q counter t) ≡ 188
 unfolding pcr_packet

@@ -1,7 +1,7 @@
 // The continuity counter of a PID's packets.
 ghost use Rattle.std.specs.Prelude.{◌≡◌};
 ghost use Rattle.packet.specs.Counter.{due, counter_right, bytes_same, repeats};
-ghost use Rattle.packet.specs.Counter.{counted, copied, stream_after, Of, Checks};
+ghost use Rattle.packet.specs.Counter.{counted, copied, Of, Checks};
 
 use crate::header::{Header, pcr_flag};
 use lists::{part, rest, same};
@@ -18,47 +18,36 @@ pub struct Counted {
     pub equal: bool,
 }
 
-// The last packet of a PID, or that none was seen since the PID was named. `repeat` says that it repeated the packet
-// before it.
+// The last packet of a PID. `repeat` says that it repeated the packet before it.
 #[derive(Clone, Copy)]
-pub enum Last {
-    Unseen,
-    Packet {
-        counter: u8,
-        index: usize,
-        repeat: bool,
-    },
+pub struct Last {
+    pub counter: u8,
+    pub index: usize,
+    pub repeat: bool,
 }
 
-// A PID and its last packet.
+// A PID and its last packet; `None` if no packet was seen since the PID was named.
 #[derive(Clone, Copy)]
 pub struct Stream {
     pub pid: u16,
-    pub last: Last,
+    pub last: Option<Last>,
 }
 
-// The counter is right, or 24.
-#[derive(Drop)]
-pub enum Counter {
-    Right,
-    Refused(Refused),
-}
-
-// The verdict on a packet, and the record given back.
+// The record given back, and the verdict on a packet.
 #[derive(Drop)]
 pub struct Checked {
     pub stream: Stream,
-    pub verdict: Counter,
+    pub verdict: Result<(), Refused>,
 }
 
 impl Header {
-    // What the rule of the counter looks at.
+    // Returns what the rule of the counter looks at.
     pub fn counted(self, index: usize, equal: bool) -> Counted
         ensures { result ≡ counted self index equal }
     {
         Counted {
             counter: self.counter,
-            payload: self.has_payload,
+            payload: self.payload.is_some(),
             discontinuity: self.discontinuity,
             index,
             equal,
@@ -67,39 +56,27 @@ impl Header {
 }
 
 impl Counted {
+    // Returns whether the packet is a copy of its PID's last packet.
     fn is_copy(self) -> bool
         ensures { result ≡ copied self }
     {
-        if !self.payload {
-            return false;
-        }
-        if self.discontinuity {
-            return false;
-        }
-        self.equal
+        self.payload && !self.discontinuity && self.equal
     }
 }
 
-// All bytes of two packets are equal but those of the PCR.
+// Returns whether all bytes of two packets are equal but those of the PCR.
 pub fn same_bytes(last: &[u8], packet: &[u8]) -> bool
     ensures { result ≡ bytes_same last.now packet.now }
 {
-    if !pcr_flag(last) {
-        if pcr_flag(packet) {
-            return false;
-        }
-        return same(last, packet);
+    match (pcr_flag(last), pcr_flag(packet)) {
+        (false, false) => same(last, packet),
+        (true, true) => same(part(last, 0, 6), part(packet, 0, 6))
+            && same(rest(last, 12), rest(packet, 12)),
+        (true, false) | (false, true) => false,
     }
-    if !pcr_flag(packet) {
-        return false;
-    }
-    if !same(part(last, 0, 6), part(packet, 0, 6)) {
-        return false;
-    }
-    same(rest(last, 12), rest(packet, 12))
 }
 
-// The counter that is due after the last one.
+// Returns the counter that is due after the last one.
 fn next_counter(last: u8, payload: bool) -> u8
     ensures { result ≡ due last payload }
 {
@@ -110,79 +87,51 @@ fn next_counter(last: u8, payload: bool) -> u8
 }
 
 impl Stream {
+    // Returns whether the packet repeats the last one.
     fn is_repeated_by(self, packet: Counted) -> bool
         ensures { Of self packet (λ t p. result ≡ repeats t p) }
     {
-        let last = self.last;
-        let Last::Packet {
-            counter: _,
-            index: _,
-            repeat,
-        } = last
-        else {
+        let Some(last) = self.last else {
             return false;
         };
-        if !packet.is_copy() {
-            return false;
-        }
-        !repeat
+        packet.is_copy() && !last.repeat
     }
 
+    // Returns whether the packet's counter is right after the last one.
     fn is_followed_by(self, packet: Counted) -> bool
         ensures { Of self packet (λ t p. result ≡ counter_right t.last p) }
     {
-        let last = self.last;
-        let Last::Packet {
-            counter,
-            index: _,
-            repeat: _,
-        } = last
-        else {
+        let Some(last) = self.last else {
             return true;
         };
-        if packet.discontinuity {
-            return true;
-        }
-        packet.counter == next_counter(counter, packet.payload)
+        packet.discontinuity || packet.counter == next_counter(last.counter, packet.payload)
     }
 
-    // The record after a packet.
-    fn after(self, packet: Counted, repeat: bool) -> Stream
-        ensures { result ≡ stream_after self packet repeat }
-    {
-        Stream {
-            pid: self.pid,
-            last: Last::Packet {
-                counter: packet.counter,
-                index: packet.index,
-                repeat,
-            },
-        }
-    }
-
-    // The check of a packet: the record updated, or 24 and the record as it was.
+    // Checks a packet. Returns the record with the packet as its last one; or refusal 24 at place 0 if the packet's
+    // counter is wrong, and the record as it was.
+    // Stays: document 01 names the form: it takes self, and returns the new record with the verdict.
     pub fn check(self, packet: Counted) -> Checked
         ensures of { Of self packet (λ t p. Checks packet.index t p result) }
         ensures pid_value { result.stream.pid ≡ self.pid }
     {
-        if self.is_repeated_by(packet) {
+        let repeat = self.is_repeated_by(packet);
+        if !repeat && !self.is_followed_by(packet) {
             return Checked {
-                stream: self.after(packet, true),
-                verdict: Counter::Right,
+                stream: self,
+                verdict: Err(Refusal::ContinuityCounter.at(0)),
             };
         }
-        if self.is_followed_by(packet) {
-            return Checked {
-                stream: self.after(packet, false),
-                verdict: Counter::Right,
-            };
-        }
+        let last = Some(Last {
+            counter: packet.counter,
+            index: packet.index,
+            repeat,
+        });
         Checked {
-            stream: self,
-            verdict: Counter::Refused(Refused {
-                why: Refusal::CONTINUITY_COUNTER,
-                place: 0,
-            }),
+            stream: Stream {
+                pid: self.pid,
+                last,
+            },
+            verdict: Ok(()),
         }
     }
 }

@@ -1,14 +1,13 @@
 // The header and the adaptation field of one packet.
-ghost use Rattle.std.specs.Prelude.{◌≡◌, ◌/◌};
+ghost use Rattle.std.specs.Prelude.{◌≡◌, ◌/◌, Some};
 ghost use Rattle.lists.specs.Bytes.{byte};
-ghost use Rattle.refusal.specs.Verdict.{refused};
-ghost use Rattle.refusal.specs.Number.{number_of};
+ghost use Rattle.refusal.specs.Number.{says};
 ghost use Rattle.packet.specs.Header.{transport_error_indicator, payload_unit_start_indicator, pid};
 ghost use Rattle.packet.specs.Header.{transport_scrambling_control, adaptation_field_control, continuity_counter};
 ghost use Rattle.packet.specs.Header.{has_adaptation_field, has_payload, adaptation_field_length, adaptation_flags};
 ghost use Rattle.packet.specs.Header.{discontinuity_indicator, pcr_flag, clock_extension, clock_reference, pcr};
 ghost use Rattle.packet.specs.Header.{header_length, payload_place, adaptation_length_wrong, pcr_cut_short};
-ghost use Rattle.packet.specs.Header.{extension_wrong, fields_wrong, header_wrong, fields, header_of, packet_says};
+ghost use Rattle.packet.specs.Header.{extension_wrong, fields_wrong, header_wrong, fields, header_of};
 ghost use Rattle.packet.specs.Header.{passes, packet_at};
 ghost use Rattle.packet.specs.Header.{payload as header_payload};
 
@@ -22,39 +21,19 @@ pub const PACKET_LENGTH: usize = 188;
 // The PID of null packets.
 pub const NULL_PID: u16 = 0x1FFF;
 
-// A packet's PCR.
-#[derive(Clone, Copy)]
-pub enum Clock {
-    Pcr(Ticks27),
-    None,
-}
-
-// What a packet says. `payload` is where the payload begins, 0 where there is none.
+// What a packet says. `payload` is where the payload begins, `None` if there is none.
 #[derive(Clone, Copy)]
 pub struct Header {
     pub pid: u16,
     pub start: bool,
     pub counter: u8,
     pub discontinuity: bool,
-    pub pcr: Clock,
-    pub has_payload: bool,
-    pub payload: usize,
-}
-
-// The header of a packet, or the refusal.
-#[derive(Drop)]
-pub enum PacketRead {
-    Header(Header),
-    Refused(Refused),
-}
-
-fn refuse(why: Refusal) -> PacketRead
-    ensures { packet_says result ≡ refused (number_of why) 0 }
-{
-    PacketRead::Refused(Refused { why, place: 0 })
+    pub pcr: Option<Ticks27>,
+    pub payload: Option<usize>,
 }
 
 // The fields of the header.
+// Stays: each function takes the packet's bytes alone, so a struct around them would make no function shorter.
 fn transport_error_indicator(packet: &[u8]) -> bool
     ensures { result ≡ transport_error_indicator packet.now }
 {
@@ -67,9 +46,11 @@ fn payload_unit_start_indicator(packet: &[u8]) -> bool
     byte_at(packet, 1) / 64 % 2 == 1
 }
 
-fn packet_pid(packet: &[u8]) -> u16
+// Returns the PID of a packet.
+pub fn pid_of(packet: &[u8]) -> u16
     ensures { result ≡ pid packet.now }
 {
+    // Stays: with `u16::from_be_bytes` `read` takes 165 instructions a packet of samples/clip.ts, with this 141.
     (byte_at(packet, 1) % 32) as u16 * 256 + byte_at(packet, 2) as u16
 }
 
@@ -113,10 +94,7 @@ fn adaptation_field_length(packet: &[u8]) -> u8
 fn adaptation_flags(packet: &[u8]) -> u8
     ensures { result ≡ adaptation_flags packet.now }
 {
-    if !has_adaptation_field(packet) {
-        return 0;
-    }
-    if adaptation_field_length(packet) == 0 {
+    if !has_adaptation_field(packet) || adaptation_field_length(packet) == 0 {
         return 0;
     }
     byte_at(packet, 5)
@@ -137,34 +115,33 @@ pub(crate) fn pcr_flag(packet: &[u8]) -> bool
 fn clock_extension(packet: &[u8]) -> u16
     ensures { result ≡ clock_extension packet.now }
 {
+    // Stays: with `u16::from_be_bytes` `passes` takes 35.3 instructions a packet, with this 34.6.
     (byte_at(packet, 10) % 2) as u16 * 256 + byte_at(packet, 11) as u16
 }
 
-fn clock_reference(packet: &[u8]) -> Clock
-    ensures { result ≡ clock_reference packet.now }
+fn clock_reference(packet: &[u8]) -> Ticks27
+    ensures { Some result ≡ clock_reference packet.now }
 {
-    let a = byte_at(packet, 6);
-    let b = byte_at(packet, 7);
-    let c = byte_at(packet, 8);
-    let d = byte_at(packet, 9);
-    let e = byte_at(packet, 10);
-    let f = byte_at(packet, 11);
-    Clock::Pcr(Ticks27::pcr(a, b, c, d, e, f))
+    Ticks27::pcr(
+        byte_at(packet, 6),
+        byte_at(packet, 7),
+        byte_at(packet, 8),
+        byte_at(packet, 9),
+        byte_at(packet, 10),
+        byte_at(packet, 11),
+    )
 }
 
-fn packet_pcr(packet: &[u8]) -> Clock
+fn packet_pcr(packet: &[u8]) -> Option<Ticks27>
     ensures { result ≡ pcr packet.now }
 {
-    if packet_pid(packet) == NULL_PID {
-        return Clock::None;
+    if pid_of(packet) == NULL_PID || !pcr_flag(packet) {
+        return None;
     }
-    if pcr_flag(packet) {
-        return clock_reference(packet);
-    }
-    Clock::None
+    Some(clock_reference(packet))
 }
 
-// How many bytes the header and the adaptation field take.
+// Returns how many bytes the header and the adaptation field take.
 fn header_length(packet: &[u8]) -> usize
     ensures { result ≡ header_length packet.now }
 {
@@ -174,16 +151,17 @@ fn header_length(packet: &[u8]) -> usize
     4
 }
 
-fn payload_place(packet: &[u8]) -> usize
+// Returns where the payload begins; `None` if there is none.
+fn payload_place(packet: &[u8]) -> Option<usize>
     ensures { result ≡ payload_place packet.now }
 {
-    if has_payload(packet) {
-        return header_length(packet);
+    if !has_payload(packet) {
+        return None;
     }
-    0
+    Some(header_length(packet))
 }
 
-// The payload of a packet.
+// Returns the payload of a packet; no bytes if there is none.
 pub fn payload(packet: &[u8]) -> &[u8]
     ensures { result.now ≡ header_payload packet.now }
 {
@@ -193,7 +171,7 @@ pub fn payload(packet: &[u8]) -> &[u8]
     rest(packet, packet.len())
 }
 
-// The packet of a segment with this index; no bytes where there is none.
+// Returns the packet of a segment with this index; no bytes if there is none.
 pub fn packet_at(segment: &[u8], index: usize) -> &[u8]
     ensures { result.now ≡ packet_at segment.now index }
 {
@@ -204,131 +182,111 @@ pub fn packet_at(segment: &[u8], index: usize) -> &[u8]
     part(segment, index * PACKET_LENGTH, PACKET_LENGTH)
 }
 
-// The length of the adaptation field does not go with the control bits.
+// Returns whether the length of the adaptation field does not go with the control bits.
 fn adaptation_length_wrong(packet: &[u8]) -> bool
     ensures { result ≡ adaptation_length_wrong packet.now }
 {
-    let control = adaptation_field_control(packet);
     let length = adaptation_field_length(packet);
-    if control == 2 {
-        return length != 183;
+    match adaptation_field_control(packet) {
+        2 => length != 183,
+        3 => 182 < length,
+        _ => false,
     }
-    if control == 3 {
-        return 182 < length;
-    }
-    false
 }
 
 fn pcr_cut_short(packet: &[u8]) -> bool
     ensures { result ≡ pcr_cut_short packet.now }
 {
-    if pcr_flag(packet) {
-        return adaptation_field_length(packet) < 7;
-    }
-    false
+    pcr_flag(packet) && adaptation_field_length(packet) < 7
 }
 
 fn extension_wrong(packet: &[u8]) -> bool
     ensures { result ≡ extension_wrong packet.now }
 {
-    if pcr_flag(packet) {
-        return 299 < clock_extension(packet);
-    }
-    false
+    pcr_flag(packet) && 299 < clock_extension(packet)
 }
 
 fn fields_wrong(packet: &[u8]) -> bool
     ensures { result ≡ fields_wrong packet.now }
 {
-    if transport_scrambling_control(packet) != 0 {
-        return true;
-    }
-    if adaptation_field_control(packet) == 0 {
-        return true;
-    }
-    if adaptation_length_wrong(packet) {
-        return true;
-    }
-    if pcr_cut_short(packet) {
-        return true;
-    }
-    extension_wrong(packet)
+    transport_scrambling_control(packet) != 0
+        || adaptation_field_control(packet) == 0
+        || adaptation_length_wrong(packet)
+        || pcr_cut_short(packet)
+        || extension_wrong(packet)
 }
 
 fn header_wrong(packet: &[u8]) -> bool
     ensures { result ≡ header_wrong packet.now }
 {
-    if packet_pid(packet) == NULL_PID {
-        return false;
-    }
-    fields_wrong(packet)
+    pid_of(packet) != NULL_PID && fields_wrong(packet)
 }
 
 fn header_fields(packet: &[u8]) -> Header
     ensures { result ≡ fields packet.now }
 {
     Header {
-        pid: packet_pid(packet),
+        pid: pid_of(packet),
         start: payload_unit_start_indicator(packet),
         counter: continuity_counter(packet),
         discontinuity: discontinuity_indicator(packet),
         pcr: packet_pcr(packet),
-        has_payload: has_payload(packet),
         payload: payload_place(packet),
     }
 }
 
-// What a packet says that has payload and no adaptation field and is not scrambled: it lies in the first four bytes.
+// Returns what a packet says that has payload and no adaptation field and is not scrambled: it lies in the first four
+// bytes.
 fn plain_fields(packet: &[u8]) -> Header
     requires { byte packet.now 3 / 16 ≡ 1 }
     ensures { result ≡ fields packet.now }
 {
     Header {
-        pid: packet_pid(packet),
+        pid: pid_of(packet),
         start: payload_unit_start_indicator(packet),
         counter: continuity_counter(packet),
         discontinuity: false,
-        pcr: Clock::None,
-        has_payload: true,
-        payload: 4,
+        pcr: None,
+        payload: Some(4),
     }
 }
 
-// The header of such a packet; 21, 22: nothing of it is wrong by 23.
-fn read_plain(packet: &[u8]) -> PacketRead
+// Returns the header of such a packet, of which nothing is wrong by 23. Returns refusal 21 or 22 at place 0.
+// Stays: if `read` makes the tests of both in one function, it takes 168 instructions a packet, with this function 141.
+fn read_plain(packet: &[u8]) -> Result<Header, Refused>
     requires { byte packet.now 3 / 16 ≡ 1 }
-    ensures { packet_says result ≡ header_of packet.now }
+    ensures { says result ≡ header_of packet.now }
 {
     if byte_at(packet, 0) != 0x47 {
-        return refuse(Refusal::SYNC_BYTE);
+        return Err(Refusal::SyncByte.at(0));
     }
     if transport_error_indicator(packet) {
-        return refuse(Refusal::TRANSPORT_ERROR);
+        return Err(Refusal::TransportError.at(0));
     }
-    PacketRead::Header(plain_fields(packet))
+    Ok(plain_fields(packet))
 }
 
-// The header of a packet; 21, 22, 23. Most packets are plain: the byte that says so comes first, and no other test of
-// the length is then left.
-pub fn read(packet: &[u8]) -> PacketRead
-    ensures { packet_says result ≡ header_of packet.now }
+// Returns the header of a packet. Returns refusal 21, 22 or 23 at place 0. Most packets are plain: the byte that says
+// so comes first, and no other test of the length is then left.
+pub fn read(packet: &[u8]) -> Result<Header, Refused>
+    ensures { says result ≡ header_of packet.now }
 {
     if byte_at(packet, 3) / 16 == 1 {
         return read_plain(packet);
     }
     if byte_at(packet, 0) != 0x47 {
-        return refuse(Refusal::SYNC_BYTE);
+        return Err(Refusal::SyncByte.at(0));
     }
     if transport_error_indicator(packet) {
-        return refuse(Refusal::TRANSPORT_ERROR);
+        return Err(Refusal::TransportError.at(0));
     }
     if header_wrong(packet) {
-        return refuse(Refusal::PACKET_HEADER);
+        return Err(Refusal::PacketHeader.at(0));
     }
-    PacketRead::Header(header_fields(packet))
+    Ok(header_fields(packet))
 }
 
-// None of 21, 22, 23, where nothing is asked of the fields.
+// Returns whether `read` gives a header; it gives no field.
 pub fn passes(packet: &[u8]) -> bool
     ensures { result ≡ passes packet.now }
 {

@@ -6,8 +6,6 @@ mod counter;
 mod header;
 mod streams;
 
-pub use counter::{Checked, Counted, Counter, Last, Stream, same_bytes};
-pub use header::{
-    Clock, Header, NULL_PID, PACKET_LENGTH, PacketRead, packet_at, passes, payload, read,
-};
-pub use streams::{FIRST_LISTED, Slot, last_at, look_up, put_last, put_pid};
+pub use counter::{Checked, Counted, Last, Stream, same_bytes};
+pub use header::{Header, NULL_PID, PACKET_LENGTH, packet_at, passes, payload, pid_of, read};
+pub use streams::{FIRST_LISTED, Streams};

@@ -1,24 +1,25 @@
 -- Bytes put into an output one string behind the other. Assumes nothing.
-use Prim.Native.Nat.{ℕ, zero, suc, ◌+◌, ◌-◌, ◌*◌, ◌/◌, ◌%◌, ◌≤◌, ◌<◌}
+use Prim.Native.Nat.{ℕ, zero, suc, ◌+◌, ◌-◌, ◌*◌, ◌/◌, ◌%◌, ◌^◌, ◌≤◌, ◌<◌}
 use mathlib.Core.Bool.{Bool, true, false}
 use mathlib.Core.Path.{◌≡◌, refl, sym, ap, ap₂, ◌∙◌}
 use mathlib.Core.List.{[], ◌∷◌, ◌++◌, append_assoc}
 use native.Mathlib.Omega.{arith}
-use lib.ListN.{length, take, drop, get_or, set, length-append, get_or-replicate}
+use lib.ListN.{length, take, drop, get_or, set, length-append}
 use lib.Seq.{drop-drop, take-append_seam, drop-append_seam}
 use Rattle.lists.specs.Lists.{Bytes, over, placed, pick}
 use borrow.Rule.Slice.PartMut.{mid_of, put_mid}
-use Rattle.lists.proofs.Parts.{next, tail_placed}
+use Rattle.lists.proofs.Parts.{tail_placed}
 use Rattle.ticks.specs.declared.Ticks27.{Ticks27}
 use Rattle.ticks.specs.declared.Ticks90.{Ticks90}
 use Rattle.ticks.specs.Writing.{time_bytes}
+use Rattle.std.specs.Int.{w32, to_be_bytes}
+use Rattle.crc.specs.Crc.{bytes_of}
 use Rattle.packet.specs.Writing.{flag, stuffing, header, most, control, adaptation_field, carrying}
 use Rattle.psi.specs.Writing.{section_payload}
 use Rattle.psi.proofs.Writing.{length_payload}
 use Rattle.ticks.specs.Writing.{pcr_bytes}
 use Rattle.lists.proofs.Writing.{length_over}
 use Rattle.packet_writer.specs.Parts.{base_bytes}
-use Rattle.packet.proofs.Writing.{length_stuffing}
 
 -- v behind w, which stands at the front
 pub behind_put : (w v out s : Bytes) (n : ℕ) → n ≡ length w → s ≡ over w out → placed s n v ≡ over (w ++ v) out
@@ -34,10 +35,11 @@ pub first_set : (out : Bytes) (b : ℕ) → 0 < length out → set out 0 b ≡ o
 first_set [] b h = absurd (omega arith)
 first_set (x ∷ out) b h = refl
 
--- ---- stuffing
-pub next_stuffing : (n i : ℕ) → i < n → drop i (stuffing n) ≡ 0xFF ∷ drop (i + 1) (stuffing n)
-next_stuffing n i h =
-    next (stuffing n) i (omega (arith, length_stuffing n)) ∙ ap (λ (b : ℕ). b ∷ drop (i + 1) (stuffing n)) (get_or-replicate n i 0xFF 0 h)
+-- ---- a CRC, the highest byte first
+pub crc_high_first : (r : ℕ) → r < 2 ^ 32 → to_be_bytes w32 r ≡ bytes_of r
+crc_high_first r h =
+    let e : r / 2 ^ 24 % 256 ≡ r / 2 ^ 24 = omega arith in
+    ap (λ (b : ℕ). b ∷ r / 2 ^ 16 % 256 ∷ r / 2 ^ 8 % 256 ∷ r % 256 ∷ []) e
 
 -- ---- the header's bytes
 pub flag_on : (b : Bool) → b ≡ true → flag b ≡ 1
@@ -47,6 +49,11 @@ flag_on b e = rw e
 pub flag_off : (b : Bool) → b ≡ false → flag b ≡ 0
 unfolding flag pick
 flag_off b e = rw e
+
+-- as the code writes it
+pub header_by : (start : Bool) (pid control counter f : ℕ) (w : Bytes) → f ≡ flag start * 64 → w ≡ pid / 256 ∷ pid % 256 ∷ []
+    → 71 ∷ (f + get_or w 0 0) ∷ get_or w 1 0 ∷ (control * 16 + counter) ∷ [] ≡ header pid start control counter
+header_by start pid control counter f w ef ew = rw (ew, ef) refl
 
 pub control_none : (n : ℕ) → n ≡ 0 → 1 ≡ control n
 unfolding control

@@ -39,18 +39,16 @@ module _ (pts dts : Ticks90) (n : ℕ) where
       (λ e. length_header pts dts n ∙ ap (λ (s : Bytes). 9 + length s) (times_both pts dts e) ∙ by_false _ e refl)
 
 -- as the code writes it
-pub pts_by : (t : Ticks90) (n f h l : ℕ) (w : Bytes) → f ≡ field_of (8 + n) → h ≡ f / 256 → l ≡ f % 256 → w ≡ time_bytes 2 t
-    → 0 ∷ 0 ∷ 1 ∷ 189 ∷ h ∷ l ∷ 132 ∷ 128 ∷ 5 ∷ get_or w 0 0 ∷ get_or w 1 0 ∷ get_or w 2 0 ∷ get_or w 3 0 ∷ get_or w 4 0 ∷ [] ≡ pes_header t
-    t n
-pts_by t n f h l w ef eh el ew = rw (ew, eh, el, ef) (sym (header_alone t t n (eq-eqb t.0 t.0 refl)))
+pub pts_by : (t : Ticks90) (n f : ℕ) (l w : Bytes) → f ≡ field_of (8 + n) → l ≡ f / 256 ∷ f % 256 ∷ [] → w ≡ time_bytes 2 t
+    → 0 ∷ 0 ∷ 1 ∷ 189 ∷ get_or l 0 0 ∷ get_or l 1 0 ∷ 132 ∷ 128 ∷ 5 ∷ get_or w 0 0 ∷ get_or w 1 0 ∷ get_or w 2 0 ∷ get_or w 3 0 ∷
+    get_or w 4 0 ∷ [] ≡ pes_header t t n
+pts_by t n f l w ef el ew = rw (ew, el, ef) (sym (header_alone t t n (eq-eqb t.0 t.0 refl)))
 
-pub both_by : (t d : Ticks90) (n f h l : ℕ) (w v : Bytes) → (t.0 ≡ d.0 → ⊥) → f ≡ field_of (13 + n) → h ≡ f / 256 → l ≡ f % 256
+pub both_by : (t d : Ticks90) (n f : ℕ) (l w v : Bytes) → (t.0 ≡ d.0 → ⊥) → f ≡ field_of (13 + n) → l ≡ f / 256 ∷ f % 256 ∷ []
     → w ≡ time_bytes 3 t → v ≡ time_bytes 1 d
-    → 0 ∷ 0 ∷ 1 ∷ 189 ∷ h ∷ l ∷ 132 ∷ 192 ∷ 10 ∷ get_or w 0 0 ∷ get_or w 1 0 ∷ get_or w 2 0 ∷ get_or w 3 0 ∷ get_or w 4 0 ∷ get_or v 0 0 ∷
-    get_or v 1 0 ∷
-    get_or v 2 0 ∷ get_or v 3 0 ∷ get_or v 4 0 ∷ []
-    ≡ pes_header t d n
-both_by t d n f h l w v ne ef eh el ew ev = rw (ew, ev, eh, el, ef) (sym (header_both t d n (ne_eqb t.0 d.0 ne)))
+    → 0 ∷ 0 ∷ 1 ∷ 189 ∷ get_or l 0 0 ∷ get_or l 1 0 ∷ 132 ∷ 192 ∷ 10 ∷ get_or w 0 0 ∷ get_or w 1 0 ∷ get_or w 2 0 ∷ get_or w 3 0 ∷
+    get_or w 4 0 ∷ get_or v 0 0 ∷ get_or v 1 0 ∷ get_or v 2 0 ∷ get_or v 3 0 ∷ get_or v 4 0 ∷ [] ≡ pes_header t d n
+both_by t d n f l w v ne ef el ew ev = rw (ew, ev, el, ef) (sym (header_both t d n (ne_eqb t.0 d.0 ne)))
 
 -- both times are one
 pub same_time : (pts dts : Ticks90) → pts.0 ≡ dts.0 → pts ≡ dts

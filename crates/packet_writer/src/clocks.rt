@@ -8,10 +8,10 @@ ghost use Rattle.packet_writer.specs.Putting.{pcr_put};
 
 use crate::bytes::{copy_at, fill_at};
 use crate::packets::put_header;
-use crate::unfit::pcr_unfit;
+use crate::unfit::{Place, pcr_unfit};
 use ticks::Ticks27;
 
-// A PCR's six bytes.
+// Returns a PCR's six bytes.
 fn pcr_bytes(pcr: Ticks27) -> [u8; 6]
     requires { pcr.0 < 2576980377600 }
     ensures { result ≡ pcr_bytes pcr }
@@ -24,20 +24,15 @@ fn pcr_bytes(pcr: Ticks27) -> [u8; 6]
     [upper[0], upper[1], upper[2], upper[3], last, low]
 }
 
-// The first four of them.
+// Returns the first four bytes of a PCR, whose base has 33 bits.
 fn base_bytes(base: u64) -> [u8; 4]
     requires { base < 8589934592 }
     ensures { result ≡ base_bytes base }
 {
-    [
-        (base / 33554432) as u8,
-        (base / 131072 % 256) as u8,
-        (base / 512 % 256) as u8,
-        (base / 2 % 256) as u8,
-    ]
+    ((base / 2) as u32).to_be_bytes()
 }
 
-// The fifth: the base's last bit, the reserved bits, the extension's first bit.
+// Returns the fifth byte: the base's last bit, the reserved bits, the extension's first bit.
 fn last_base_byte(base: u64, extension: u64) -> u8
     requires { extension < 300 }
     ensures { result ≡ base % 2 * 128 + 126 + extension / 256 }
@@ -45,7 +40,7 @@ fn last_base_byte(base: u64, extension: u64) -> u8
     (base % 2) as u8 * 128 + 126 + (extension / 256) as u8
 }
 
-// One less modulo 16.
+// Returns the counter before this one, modulo 16.
 fn counter_before(counter: u64) -> u64
     requires { counter < 16 }
     ensures value { result ≡ counter_before counter }
@@ -54,25 +49,26 @@ fn counter_before(counter: u64) -> u64
     (counter + 15) % 16
 }
 
-// The packet with the PCR alone.
-fn put_clock(pid: u64, counter: u64, pcr: Ticks27, out: &mut [u8])
-    requires { (pid < 8192) × (counter < 16) × (pcr.0 < 2576980377600) × (188 ≤ length out.old) }
-    ensures { out.new ≡ over (pcr_packet pid counter pcr) out.old }
+// Writes the packet with the PCR alone.
+fn put_clock(place: Place, pcr: Ticks27, out: &mut [u8])
+    requires { (pcr.0 < 2576980377600) × (188 ≤ length out.old) }
+    ensures { out.new ≡ over (pcr_packet place.pid place.counter pcr) out.old }
 {
-    put_header(pid, false, 2, counter, out);
+    put_header(place, false, 2, out);
     let clock = pcr_bytes(pcr);
-    let field: [u8; 2] = [183, 16];
-    copy_at(&field, 4, out);
+    copy_at(&[183, 16], 4, out);
     copy_at(&clock, 6, out);
     fill_at(176, 12, out);
 }
 
-// The packet of a PCR, of the counter of its PID's next payload.
+// Writes the packet of a PCR, of the counter of its PID's next payload. If a number does not fit or `out` is too short,
+// `out` is left unchanged.
 pub fn put_pcr(pid: u64, counter: u64, pcr: Ticks27, out: &mut [u8])
     ensures { out.new ≡ pcr_put pid counter pcr out.old }
 {
     if pcr_unfit(pid, counter, pcr, out.len()) {
         return;
     }
-    put_clock(pid, counter_before(counter), pcr, out);
+    let counter = counter_before(counter);
+    put_clock(Place { pid, counter }, pcr, out);
 }

@@ -1,5 +1,5 @@
 // What is not written: a number that its field cannot hold, a payload that is too long, an output without room.
-ghost use Rattle.std.specs.Prelude.{◌≡◌};
+ghost use Rattle.std.specs.Prelude.{◌≡◌, ◌<◌};
 ghost use Rattle.packet_writer.specs.Putting.{unfit, packet_unfit, pat_unfit, pmt_unfit, pcr_unfit, start_unfit};
 
 use crate::Start;
@@ -11,43 +11,41 @@ use ticks::Ticks27;
 // The last continuity counter.
 const LAST_COUNTER: u64 = 15;
 
-// A PID of more than 13 bits, a counter of more than four, or no room for a packet.
+// A PID of 13 bits, and the counter of four bits of one of its packets.
+#[derive(Clone, Copy)]
+pub(crate) struct Place {
+    pub pid: u64,
+    pub counter: u64,
+    ghost in_range: { (pid < 8192) × (counter < 16) },
+}
+
+// Returns true if the PID has more than 13 bits, the counter more than four, or the output no room for a packet.
+#[tactic(auto, unfolding(crate::specs::Putting::unfit))]
+// Stays: the public functions take each field as a number, whatever its value; what fits its field is a `Place`.
 fn unfit(pid: u64, counter: u64, room: usize) -> bool
     ensures { result ≡ unfit pid counter room }
 {
-    if 8191 < pid {
-        return true;
-    }
-    if LAST_COUNTER < counter {
-        return true;
-    }
-    room < PACKET_LENGTH
+    8191 < pid || LAST_COUNTER < counter || room < PACKET_LENGTH
 }
 
-// No packet with a payload of n bytes.
+// Returns true if no packet is put with a payload of `n` bytes.
+#[tactic(auto, unfolding(crate::specs::Putting::packet_unfit))]
 pub(crate) fn packet_unfit(pid: u64, counter: u64, n: usize, room: usize) -> bool
     ensures { result ≡ packet_unfit pid counter n room }
 {
-    if MOST_PAYLOAD < n {
-        return true;
-    }
-    unfit(pid, counter, room)
+    MOST_PAYLOAD < n || unfit(pid, counter, room)
 }
 
-// No packet of a PAT.
+// Returns true if no packet of a PAT is put.
+#[tactic(auto, unfolding(crate::specs::Putting::pat_unfit))]
 pub(crate) fn pat_unfit(counter: u64, program: u64, map_pid: u64, room: usize) -> bool
     ensures { result ≡ pat_unfit counter program map_pid room }
 {
-    if 65535 < program {
-        return true;
-    }
-    if 8191 < map_pid {
-        return true;
-    }
-    unfit(0, counter, room)
+    65535 < program || 8191 < map_pid || unfit(0, counter, room)
 }
 
-// No packet of a PMT with a descriptor of n bytes.
+// Returns true if no packet of a PMT is put with a descriptor of `n` bytes.
+#[tactic(auto, unfolding(crate::specs::Putting::pmt_unfit))]
 pub(crate) fn pmt_unfit(
     map_pid: u64,
     counter: u64,
@@ -58,41 +56,24 @@ pub(crate) fn pmt_unfit(
 ) -> bool
     ensures { result ≡ pmt_unfit map_pid counter program pid n room }
 {
-    if n != 6 {
-        return true;
-    }
-    if 65535 < program {
-        return true;
-    }
-    if 8191 < pid {
-        return true;
-    }
-    unfit(map_pid, counter, room)
+    n != 6 || 65535 < program || 8191 < pid || unfit(map_pid, counter, room)
 }
 
-// No packet of a PCR.
+// Returns true if no packet of a PCR is put.
+#[tactic(auto, unfolding(crate::specs::Putting::pcr_unfit))]
 pub(crate) fn pcr_unfit(pid: u64, counter: u64, pcr: Ticks27, room: usize) -> bool
     ensures { result ≡ pcr_unfit pid counter pcr room }
 {
-    if 2576980377600 <= pcr.0 {
-        return true;
-    }
-    unfit(pid, counter, room)
+    2576980377600 <= pcr.0 || unfit(pid, counter, room)
 }
 
-// No first packet of a PES with n of the unit's bytes.
+// Returns true if no first packet of a PES is put with `n` of the unit's bytes.
+#[tactic(auto, unfolding(crate::specs::Putting::start_unfit))]
 pub(crate) fn start_unfit(pid: u64, counter: u64, start: Start, n: usize, room: usize) -> bool
     ensures { result ≡ start_unfit pid counter start n room }
 {
-    if 8589934592 <= start.pts.0 {
-        return true;
-    }
-    if 8589934592 <= start.dts.0 {
-        return true;
-    }
-    let size = head_size(start.pts, start.dts);
-    if MOST_PAYLOAD - size < n {
-        return true;
-    }
-    unfit(pid, counter, room)
+    8589934592 <= start.pts.0
+        || 8589934592 <= start.dts.0
+        || MOST_PAYLOAD - head_size(start.pts, start.dts) < n
+        || unfit(pid, counter, room)
 }

@@ -15,9 +15,8 @@ use Rattle.lists.proofs.Tests.{case}
 use Rattle.ticks.specs.declared.Ticks90.{Ticks90}
 use Rattle.ticks.specs.Writing.{time_bytes}
 use Rattle.ticks.proofs.Writing.{prefix_back, markers_back, stamp_back}
-use Rattle.pes.specs.declared.header.Times.TheVariants.{Stamps}
 use Rattle.pes.specs.Pes.{header_wrong, no_times, header_of, pes_data, time_stamp_wrong, times_wrong, times_of, least_length_byte}
-use Rattle.pes.specs.Pes.{present_dts}
+use Rattle.pes.specs.Pes.{present_dts, stamps as at_times}
 use Rattle.pes.specs.Pes as read
 use Rattle.pes.specs.Writing.{pts_alone, times, time_flags, length_written, pes_header}
 
@@ -62,17 +61,18 @@ module _ (n : ℕ) (rest : Bytes) where
   whole_length : word (n / 256) (n % 256) ≡ n
   whole_length = omega arith
 
-  alone_says : (t : Ticks90) → t.0 < 2 ^ 33 → header_of (alone t) ≡ record { length = n; size = 14; times = Stamps t t }
+  alone_says : (t : Ticks90) → t.0 < 2 ^ 33 → header_of (alone t) ≡ record { length = n; size = 14; times = at_times t t }
   unfolding times_of read.dts pick
   alone_says t h =
-      ap₂ (λ (x : ℕ) (y : Ticks90). record { length = x; size = 14; times = Stamps y y }) whole_length (stamp_back 0b0010 t (omega arith) h)
+      ap₂ (λ (x : ℕ) (y : Ticks90). record { length = x; size = 14; times = at_times y y }) whole_length (stamp_back 0b0010 t
+      (omega arith) h)
 
-  both_says : (t d : Ticks90) → t.0 < 2 ^ 33 → d.0 < 2 ^ 33 → header_of (both t d) ≡ record { length = n; size = 19; times = Stamps t d }
+  both_says : (t d : Ticks90) → t.0 < 2 ^ 33 → d.0 < 2 ^ 33 → header_of (both t d) ≡ record { length = n; size = 19; times = at_times t d }
   unfolding times_of read.dts pick
   both_says t d h k =
-      ap₂ (λ (x : ℕ) (y : Ticks90). record { length = x; size = 19; times = Stamps y (present_dts (both t d)) }) whole_length
+      ap₂ (λ (x : ℕ) (y : Ticks90). record { length = x; size = 19; times = at_times y (present_dts (both t d)) }) whole_length
       (stamp_back 0b0011 t (omega arith) h)
-      ∙ ap (λ (y : Ticks90). record { length = n; size = 19; times = Stamps t y }) (stamp_back 0b0001 d (omega arith) k)
+      ∙ ap (λ (y : Ticks90). record { length = n; size = 19; times = at_times t y }) (stamp_back 0b0001 d (omega arith) k)
 
 -- the header by its parts
 abbrev form : ℕ → ℕ → Bytes → Bytes → Bytes
@@ -84,7 +84,7 @@ module _ (pts dts : Ticks90) where
   pub record Opens (payload : Bytes) (n : ℕ) (rest : Bytes) : Type 0 where
     pub right : header_wrong payload ≡ false
     pub timed : no_times payload ≡ false
-    pub says : header_of payload ≡ record { length = length_written pts dts n; size = 9 + length (times pts dts); times = Stamps pts dts }
+    pub says : header_of payload ≡ record { length = length_written pts dts n; size = 9 + length (times pts dts); times = at_times pts dts }
     pub data_is : pes_data payload ≡ rest
 
   by_form : (n : ℕ) (rest stamps : Bytes) (flags : ℕ) → time_flags pts dts ≡ flags → times pts dts ≡ stamps
@@ -121,7 +121,7 @@ module _ (pts dts : Ticks90) where
         timed = refl;
         says =
             alone_says m rest pts hp
-            ∙ ap₂ (λ (x : ℕ) (y : Ticks90). record { length = m; size = 9 + x; times = Stamps pts y }) (sym (ap length t)) d;
+            ∙ ap₂ (λ (x : ℕ) (y : Ticks90). record { length = m; size = 9 + x; times = at_times pts y }) (sym (ap length t)) d;
         data_is = refl;
       }))
       (λ e.
@@ -132,7 +132,7 @@ module _ (pts dts : Ticks90) where
         timed = refl;
         says =
             both_says m rest pts dts hp hd
-            ∙ ap (λ (x : ℕ). record { length = m; size = 9 + x; times = Stamps pts dts }) (sym (ap length t));
+            ∙ ap (λ (x : ℕ). record { length = m; size = 9 + x; times = at_times pts dts }) (sym (ap length t));
         data_is = refl;
       }))
 

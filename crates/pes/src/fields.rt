@@ -6,43 +6,49 @@ ghost use Rattle.pes.specs.Pes.{stamp_at, dts};
 use lists::byte_at;
 use ticks::Ticks90;
 
+// Returns PES_packet_length.
 pub(crate) fn packet_length(payload: &[u8]) -> u16
     ensures { result ≡ pes_packet_length payload.now }
 {
-    byte_at(payload, 4) as u16 * 256 + byte_at(payload, 5) as u16
+    u16::from_be_bytes([byte_at(payload, 4), byte_at(payload, 5)])
 }
 
+// Returns the size of the header: nine bytes and PES_header_data_length.
 pub(crate) fn header_size(payload: &[u8]) -> u16
     ensures { result ≡ header_size payload.now }
 {
-    9 + byte_at(payload, 8) as u16
+    9 + u16::from(byte_at(payload, 8))
 }
 
+// Returns PTS_DTS_flags.
 pub(crate) fn pts_dts_flags(payload: &[u8]) -> u8
     ensures { result ≡ pts_dts_flags payload.now }
 {
     byte_at(payload, 7) / 64 % 4
 }
 
+// Returns true if neither PTS nor DTS follows.
 pub(crate) fn no_times(payload: &[u8]) -> bool
     ensures { result ≡ no_times payload.now }
 {
     pts_dts_flags(payload) == 0
 }
 
+// Returns true if a PTS follows and no DTS.
 pub(crate) fn pts_alone(payload: &[u8]) -> bool
     ensures { result ≡ pts_alone payload.now }
 {
     pts_dts_flags(payload) == 2
 }
 
+// Returns true if both follow.
 pub(crate) fn pts_and_dts(payload: &[u8]) -> bool
     ensures { result ≡ pts_and_dts payload.now }
 {
     pts_dts_flags(payload) == 3
 }
 
-// The time stamp whose five bytes begin there.
+// Returns the time stamp whose five bytes begin at this offset.
 fn stamp_at(payload: &[u8], at: usize) -> Ticks90
     requires { at ≤ 14 }
     ensures { result ≡ stamp_at payload.now at }
@@ -56,18 +62,21 @@ fn stamp_at(payload: &[u8], at: usize) -> Ticks90
     )
 }
 
+// Returns the PTS.
 pub(crate) fn pts(payload: &[u8]) -> Ticks90
     ensures { result ≡ pts payload.now }
 {
     stamp_at(payload, 9)
 }
 
-// The DTS; the PTS where it is absent.
+// Returns the DTS, or the PTS if the DTS is absent.
+#[tactic(auto, unfolding(crate::specs::Pes::dts, lists::specs::Lists::pick))]
 pub(crate) fn dts(payload: &[u8]) -> Ticks90
     ensures { result ≡ dts payload.now }
 {
     if pts_and_dts(payload) {
-        return stamp_at(payload, 14);
+        stamp_at(payload, 14)
+    } else {
+        pts(payload)
     }
-    pts(payload)
 }

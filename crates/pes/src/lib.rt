@@ -6,4 +6,4 @@ mod conditions;
 mod fields;
 mod header;
 
-pub use header::{Header, PesRead, Times, read};
+pub use header::{Header, Times, read};

@@ -36,12 +36,6 @@ module _ (s : Bytes) (from : ℕ) where
   abbrev pub Counted : ℕ → Type 0
   Counted n = nulls_in rest ≡ n + nulls_in (drop n rest)
 
-  pub none_yet : Counted 0
-  none_yet = omega arith
-
-  pub none_there : length s / packet_length ≤ from → 0 ≡ nulls_in rest
-  none_there h = sym (ap nulls_in (none_from s from 0 (omega arith)) ∙ nulls_none)
-
   module _ (n : ℕ) (inv : Counted n) where
     pub one_more : from + n < length s / packet_length → is_null (packet_at s (from + n)) ≡ true → Counted (n + 1)
     one_more h e =
@@ -82,12 +76,6 @@ module _ (s : Bytes) (from q last : ℕ) where
   abbrev pub CountedOn : ℕ → ℕ → Type 0
   CountedOn n counter = counting_on q last (rest s from) ≡ n + counting_on q counter (drop n (rest s from))
 
-  pub none_counted : CountedOn 0 last
-  none_counted = omega arith
-
-  pub none_counts : length s / packet_length ≤ from → 0 ≡ counting_on q last (rest s from)
-  none_counts h = sym (ap (counting_on q last) (none_from s from 0 (omega arith)) ∙ counting_none q last)
-
   module _ (n counter : ℕ) (inv : CountedOn n counter) where
     pub counts_end : length s / packet_length ≤ from + n → n ≡ counting_on q last (rest s from)
     counts_end h = omega (arith, inv, ap (counting_on q counter) (none_from s from n h) ∙ counting_none q counter)
@@ -127,10 +115,6 @@ module _ (room n last : ℕ) where
     unfolding going_on pick
     going_stop e = rw (e, and-false (not (ltb room payload_length)))
 
-pub none_put : (out : List ℕ) (l : List Bytes) → out ≡ over (payloads 0 l) out
-unfolding flatten
-none_put out l = refl
-
 -- they are among those there are, and have room
 pub going_bounded : (room n last : ℕ) (l : List Bytes) → (going_on room n last l ≤ length l) ×
     (going_on room n last l * payload_length ≤ room)
@@ -169,9 +153,6 @@ module _ (s : Bytes) (from q last : ℕ) (out₀ : List ℕ) where
     pub stands : out ≡ over (payloads n left) out₀
     pub long : length (payloads n left) ≡ written
     pub room : written ≤ length out₀
-
-  pub none_goes : length s / packet_length ≤ from → 0 ≡ going_on (length out₀) q last left
-  none_goes h = sym (ap (going_on (length out₀) q last) (none_from s from 0 (omega arith)) ∙ going_none (length out₀) q last)
 
   pub follows_none : Followed out₀ 0 last 0
   unfolding flatten

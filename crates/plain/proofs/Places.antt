@@ -1,5 +1,5 @@
 -- The packets of a segment from an index on, as the code takes them. Assumes nothing.
-use Prim.Native.Nat.{ℕ, zero, suc, ◌+◌, ◌-◌, ◌*◌, ◌/◌, ◌≤◌, ◌<◌}
+use Prim.Native.Nat.{ℕ, zero, suc, ◌+◌, ◌*◌, ◌/◌, ◌≤◌, ◌<◌}
 use mathlib.Core.Path.{◌≡◌, refl, sym, ap, ◌∙◌}
 use mathlib.Core.List.{List, [], ◌∷◌}
 use native.Mathlib.Omega.{arith}
@@ -52,7 +52,3 @@ module _ (s : Bytes) (from n : ℕ) where
 
 pub packet_length_lem : (s : Bytes) (k : ℕ) → k < length s / packet_length → length (packet_at s k) ≡ packet_length
 packet_length_lem s k h = length-take-le 188 (drop (k * 188) s) (omega (arith, length-drop (k * 188) s))
-
--- what is lent of the segment is a packet of it
-pub lent_packet : (s : Bytes) (k : ℕ) → take (k * 188 + 188 - k * 188) (drop (k * 188) s) ≡ packet_at s k
-lent_packet s k = let e : k * 188 + 188 - k * 188 ≡ 188 = omega arith in ap (λ (m : ℕ). take m (drop (k * 188) s)) e

@@ -1,5 +1,6 @@
 -- A packet that counts on: what its header says, and that 21, 22 and 23 pass it; likewise a null packet. One that goes on counts on.
 -- Assumes nothing.
+use Rattle.std.specs.Prelude.{None}
 use Prim.Native.Nat.{ℕ, ◌/◌, ◌%◌}
 use mathlib.Core.Bool.{Bool, true, false, not, ◌&&◌, and-false}
 use mathlib.Core.Path.{◌≡◌, refl, sym, ap, ap₂, ◌∙◌}
@@ -12,7 +13,6 @@ use Rattle.lists.specs.Bytes.{byte, bits, bit}
 use Rattle.lists.proofs.Tests.{and_both}
 use Rattle.refusal.specs.Verdict.{passed}
 use Rattle.refusal.proofs.Verdicts.{pass_on}
-use Rattle.packet.specs.declared.header.Clock.TheVariants as clock
 use Rattle.packet.specs.Header.{pid, null_pid, sync_lost, transport_error_indicator, payload_unit_start_indicator, pcr}
 use Rattle.packet.specs.Header.{transport_scrambling_control, adaptation_field_control, continuity_counter}
 use Rattle.packet.specs.Header.{has_adaptation_field, has_payload, adaptation_flags, discontinuity_indicator, pcr_flag}
@@ -85,10 +85,10 @@ module _ (n last : ℕ) (p : Bytes) (h : counts_on n last p ≡ true) where
   pub no_break : discontinuity_indicator p ≡ false
   no_break = ap (bit 7) no_flags
 
-  pub no_pcr : pcr p ≡ clock.None
+  pub no_pcr : pcr p ≡ None
   unfolding pcr pick
-  no_pcr = ap (λ (x : Bool). pick (eqb (pid p) null_pid) clock.None (pick x (clock_reference p) clock.None)) no_pcr_flag
-      ∙ either (eqb (pid p) null_pid) clock.None
+  no_pcr = ap (λ (x : Bool). pick (eqb (pid p) null_pid) None (pick x (clock_reference p) None)) no_pcr_flag
+      ∙ either (eqb (pid p) null_pid) None
 
   -- the payload is all behind the header
   pub payload_behind : payload p ≡ drop 4 p

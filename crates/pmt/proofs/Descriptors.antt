@@ -1,7 +1,8 @@
 -- The descriptors of a loop, one at a time: what is found in those before a place, and those from there on, are what is found in all.
 -- Assumes nothing.
+use Rattle.std.specs.Prelude.{None}
 use Prim.Native.Nat.{ℕ, zero, suc, ◌+◌, ◌-◌, ◌≤◌, ◌<◌}
-use mathlib.Core.Bool.{Bool, true, false, ◌&&◌, ◌||◌}
+use mathlib.Core.Bool.{Bool, true, false, ◌||◌}
 use mathlib.Core.Path.{◌≡◌, refl, sym, ap, ap₂, ◌∙◌}
 use mathlib.Core.List.{List, [], ◌∷◌, ◌++◌, append-nil, append_assoc}
 use native.Mathlib.Omega.{arith}
@@ -11,69 +12,17 @@ use lib.ListN.{length, take, drop, length-drop, drop_of_length-le}
 use lib.Seq.{drop-drop, get_or-drop}
 use Rattle.lists.specs.Lists.{Bytes, pick, any, those}
 use Rattle.lists.specs.Bytes.{byte}
-use Rattle.lists.proofs.Picks.{by_true, by_false, by_eq, by_ne}
 use Rattle.refusal.specs.Verdict.{Verdict, passed, refused, ◌>>=◌, ◌>>◌, given}
-use Rattle.descriptor.specs.Descriptor.{video_tag, wrong}
 use Rattle.descriptor.specs.Edition.{Edition}
 use Rattle.pmt.specs.Pmt.{descriptor_size, descriptors_within, descriptors, is_video, video_descriptors, video_wrong, is_registration}
 use Rattle.pmt.specs.Pmt.{registration_first, registration_later}
 use Rattle.pmt.specs.Answer.{video_of}
 use Rattle.pmt.specs.Parts.{videos_of, another_video, with_video, found_in, with_descriptor, loop_found}
-use Rattle.pmt.specs.declared.loops.Video.{Video}
-use Rattle.pmt.specs.declared.loops.Video.TheVariants.{Absent, Present}
 use Rattle.pmt.specs.declared.loops.Videos.{Videos}
 use Rattle.pmt.specs.declared.loops.Found.{Found}
 
--- ---- one descriptor, as the code takes it in
--- the edition has no video descriptors
-pub not_interpreted : (edition : Edition) (v : Videos) (d : Bytes) → edition.interprets_video ≡ false → v ≡ with_video edition v d
-unfolding with_video
-not_interpreted edition v d h =
-    by_false (another_video v.first d) (ap (λ (t : Bool). t && eqb (byte d 0) video_tag) h) refl
-
--- by its tag
-by_tag : (edition : Edition) (v w : Videos) (d : Bytes) → edition.interprets_video ≡ true
-    → v ≡ pick (eqb (byte d 0) video_tag) (another_video w.first d) w → v ≡ with_video edition w d
-unfolding with_video
-by_tag edition v w d h e =
-    e ∙ ap (λ (t : Bool). pick (t && eqb (byte d 0) video_tag) (another_video w.first d) w) (sym h)
-
--- it is no video descriptor
-pub no_video : (edition : Edition) (v : Videos) (d : Bytes) → edition.interprets_video ≡ true → (byte d 0 ≡ video_tag → ⊥)
-    → v ≡ with_video edition v d
-no_video edition v d i h = by_tag edition v v d i (by_ne (another_video v.first d) h refl)
-
--- it is the first
-pub first_video : (edition : Edition) (v : Videos) (d : Bytes) (a b c e : ℕ) (t : Bool) → edition.interprets_video ≡ true
-    → byte d 0 ≡ video_tag → v.first ≡ Absent → a ≡ byte d 2 → b ≡ byte d 3 → c ≡ byte d 4 → e ≡ byte d 5 → t ≡ wrong d
-    → record { first = Present a b c e; wrong = t } ≡ with_video edition v d
-first_video edition v d a b c e t i tag absent p q r s f =
-    let g : record { first = Present a b c e; wrong = t } ≡ another_video Absent d = cc in
-    by_tag edition _ v d i (by_eq v tag (g ∙ ap (λ (x : Video). another_video x d) (sym absent)))
-
--- it is another
-again : (x : Video) (d : Bytes) (a b c e : ℕ) → x ≡ Present a b c e → record { first = x; wrong = true } ≡ another_video x d
-again x d a b c e p = rw p
-
-pub video_again : (edition : Edition) (v : Videos) (d : Bytes) (a b c e : ℕ) → edition.interprets_video ≡ true → byte d 0 ≡ video_tag
-    → v.first ≡ Present a b c e → record { first = v.first; wrong = true } ≡ with_video edition v d
-video_again edition v d a b c e i tag p = by_tag edition _ v d i (by_eq v tag (again v.first d a b c e p))
-
 abbrev having : Bool → Bool → Videos → Found
 having first later videos = record { first = first; later = later; videos = videos }
-
-pub as_first : (edition : Edition) (f : Found) (d : Bytes) (first registration : Bool) (v : Videos) → first ≡ true
-    → registration ≡ is_registration edition d → v ≡ with_video edition f.videos d
-    → having registration f.later v ≡ with_descriptor edition f first d
-unfolding with_descriptor
-as_first edition f d first registration v p q r =
-    by_true _ p (ap₂ (λ (b : Bool) (x : Videos). having b f.later x) q r)
-
-pub as_later : (edition : Edition) (f : Found) (d : Bytes) (first later : Bool) (v : Videos) → first ≡ false
-    → later ≡ (f.later || is_registration edition d) → v ≡ with_video edition f.videos d
-    → having f.first later v ≡ with_descriptor edition f first d
-unfolding with_descriptor
-as_later edition f d first later v p q r = by_false _ p (ap₂ (having f.first) q r)
 
 -- ---- one more descriptor than those before it
 any_more : {A : Type 0} (f : A → Bool) (l : List A) (a : A) → any f (l ++ (a ∷ [])) ≡ (any f l || f a)
@@ -148,7 +97,7 @@ bind_passed (passed a) = refl
 bind_passed (refused number place) = refl
 
 abbrev nothing : Found
-nothing = having false false (record { first = Absent; wrong = false })
+nothing = having false false (record { first = None; wrong = false })
 
 pub walk_start : {edition : Edition} (s : Bytes) → Walked edition s nothing 0
 unfolding is_empty registration_first registration_later those video_of video_wrong

@@ -1,12 +1,13 @@
 -- The entries' kinds, taken in one after the other, give the AV1 entry that the definition finds among all of them, or its 28. Assumes
 -- nothing.
+use Rattle.std.specs.Prelude.{Option}
 use Prim.Native.Nat.{ℕ, suc, ◌+◌}
 use mathlib.Core.Bool.{Bool, true, false, not, ◌&&◌, ◌||◌}
 use mathlib.Core.Path.{◌≡◌, refl, sym, ap, ap₂, ◌∙◌}
 use mathlib.Core.List.{List, [], ◌∷◌}
 use native.Mathlib.Omega.{arith}
 use lib.Dec.{eqb}
-use Rattle.lists.specs.Lists.{pick, any, those}
+use Rattle.lists.specs.Lists.{Bytes, pick, any, those}
 use Rattle.lists.proofs.Elements.{those_first, those_others, any_now, any_later}
 use Rattle.lists.proofs.Picks.{by_true, either}
 use Rattle.lists.proofs.Tests.{case}
@@ -16,24 +17,12 @@ use Rattle.pmt.specs.Pmt.{MapEntry, video_descriptors, video_wrong, registration
 use Rattle.pmt.specs.Pmt.{one_av1, av1_entry}
 use Rattle.pmt.specs.Answer.{first_of, video_of, map_of}
 use Rattle.pmt.specs.Parts.{kind_from, kind_of, with_kind, with_all, list_of, map_from, listed_map}
-use Rattle.pmt.specs.declared.loops.Video.{Video}
 use Rattle.pmt.specs.declared.entries.Kind.{Kind}
 use Rattle.pmt.specs.declared.entries.Kind.TheVariants.{Other, Right, Misplaced}
 use Rattle.pmt.specs.declared.entries.Av1.{Av1}
 use Rattle.pmt.specs.declared.entries.Av1.TheVariants.{Missing, One, Wrong}
 use Rattle.pmt.specs.declared.entries.Listed.{Listed}
 use Rattle.pmt.specs.declared.section.ProgramMap.{ProgramMap}
-
--- ---- one entry's kind, as the code takes it in
-module _ (k : Kind) (slot : ℕ) (a : Av1) where
-  pub take_other : k ≡ Other → a ≡ with_kind k slot a
-  take_other e = rw e
-
-  pub take_misplaced : k ≡ Misplaced → Wrong ≡ with_kind k slot a
-  take_misplaced e = rw e
-
-  pub take_first : (v : Video) → k ≡ Right v → a ≡ Missing → One slot v ≡ with_kind k slot a
-  take_first v e f = rw (e, f)
 
 -- ---- a list's first element, by a test of it
 module _ {A : Type 0} (f : A → Bool) (a : A) (s : List A) where
@@ -54,10 +43,10 @@ module _ (edition : Edition) where
   abbrev av1 : MapEntry → Bool
   av1 e = is_av1 edition e
 
-  ruled : Bool → Bool → Bool → Video → Kind
+  ruled : Bool → Bool → Bool → Option Bytes → Kind
   ruled elsewhere first wrong v = pick elsewhere Misplaced (pick first (pick wrong Misplaced (Right v)) Other)
 
-  tests : (later first six wrong : Bool) (v : Video)
+  tests : (later first six wrong : Bool) (v : Option Bytes)
       → pick later Misplaced (pick (not first) Other (pick (not six) Misplaced (pick wrong Misplaced (Right v))))
       ≡ ruled (later || (first && not six)) (six && first) wrong v
   unfolding pick ruled
@@ -67,7 +56,7 @@ module _ (edition : Edition) where
   tests false false true wrong v = refl
   tests false false false wrong v = refl
 
-  abbrev video_in : MapEntry → Video
+  abbrev video_in : MapEntry → Option Bytes
   video_in e = video_of (video_descriptors edition e.descriptors)
 
   abbrev videos_wrong : MapEntry → Bool
@@ -119,14 +108,14 @@ module _ (edition : Edition) where
   av1_in es = those av1 es
 
   -- a second one is against the rule, whatever its video descriptors
-  second : (e : MapEntry) (slot at : ℕ) (v : Video) → misplaced e ≡ false → av1 e ≡ true
+  second : (e : MapEntry) (slot at : ℕ) (v : Option Bytes) → misplaced e ≡ false → av1 e ≡ true
       → with_kind (kind_of edition e) slot (One at v) ≡ Wrong
   second e slot at v p q =
       case (videos_wrong e)
       (λ r. ap (λ (k : Kind). with_kind k slot (One at v)) (kind_wrong e p q r))
       (λ r. ap (λ (k : Kind). with_kind k slot (One at v)) (kind_right e p q r))
 
-  one_then : (es : List MapEntry) (slot at : ℕ) (v : Video)
+  one_then : (es : List MapEntry) (slot at : ℕ) (v : Option Bytes)
       → with_all edition es slot (One at v) ≡ pick (misplaced_in es) Wrong (alone (av1_in es) (One at v))
   unfolding with_all any those alone pick
   one_then [] slot at v = refl
@@ -144,8 +133,8 @@ module _ (edition : Edition) where
 
   -- ---- the map of the entries, with the one AV1 entry
   module _ (pcr_pid : ℕ) (l : Listed) where
-    abbrev map_with : ℕ → Video → ProgramMap
-    map_with slot v = record { pcr_pid = pcr_pid; count = l.count; entries = l.entries; av1 = slot; video = v }
+    abbrev map_with : ℕ → Option Bytes → ProgramMap
+    map_with slot v = record { pcr_pid = pcr_pid; count = l.entries.count; entries = l.entries.slots; av1 = slot; video = v }
 
     -- the definition's verdict, by its two tests: whether a registration is astray, and which are AV1 entries
     abbrev judged : Bool → List MapEntry → ℕ → Verdict ProgramMap

@@ -1,5 +1,5 @@
 pub mod Descriptors
-pub mod Slots
+pub mod Filled
 pub mod Finding
 pub mod Trying
 pub mod Turns

@@ -16,15 +16,11 @@ use Rattle.psi.specs.Section.{common_wrong, before_crc, up_to_crc, table_id_exte
 use Rattle.descriptor.specs.Edition.{Edition}
 use Rattle.pmt.specs.Pmt.{MapEntry, MapContent, descriptors, entries, av1_entry, pcr_pid, program_info_length, program_info, entry_bytes}
 use Rattle.pmt.specs.Pmt.{read_pmt}
-use Rattle.pmt.specs.Answer.{map_of, mapped, pmt_says, no_map, map_beside}
-use Rattle.pmt.specs.Parts.{loop_found, list_of, list_read, map_from, listed_map, body_map}
-use Rattle.pmt.specs.declared.loops.Video.{Video}
+use Rattle.pmt.specs.Answer.{map_of, mapped}
+use Rattle.pmt.specs.Parts.{loop_found, list_of, list_read, listed_map, body_map}
 use Rattle.pmt.specs.declared.loops.Found.{Found}
-use Rattle.pmt.specs.declared.entries.Av1.{Av1}
-use Rattle.pmt.specs.declared.entries.Av1.TheVariants.{Missing, One, Wrong}
 use Rattle.pmt.specs.declared.entries.Listed.{Listed}
 use Rattle.pmt.specs.declared.section.ProgramMap.{ProgramMap}
-use Rattle.pmt.specs.declared.section.PmtRead.{PmtRead}
 use Rattle.pmt.proofs.Finding.{listed_map_lem}
 use Rattle.pmt.proofs.Trying.{unfilled_loop, filled_loop}
 
@@ -32,23 +28,6 @@ use Rattle.pmt.proofs.Trying.{unfilled_loop, filled_loop}
 pub passes : {A B : Type 0} {v : Verdict A} {r w : Verdict B} (a : A) → v ≡ passed a → r ≡ w → r ≡ (v >> w)
 unfolding ◌>>◌
 passes a e f = rw e f
-
--- ---- the map of the listed entries, by what is known of the AV1 entry
-module _ (pcr_pid : ℕ) (l : Listed) where
-  pub missing_map : l.av1 ≡ Missing → refused 28 0 ≡ listed_map pcr_pid l
-  missing_map e = sym (ap (λ (a : Av1). map_from a pcr_pid l) e)
-
-  pub wrong_map : l.av1 ≡ Wrong → refused 28 0 ≡ listed_map pcr_pid l
-  wrong_map e = sym (ap (λ (a : Av1). map_from a pcr_pid l) e)
-
-  pub one_map : (slot : ℕ) (v : Video) → l.av1 ≡ One slot v
-      → passed (record { pcr_pid = pcr_pid; count = l.count; entries = l.entries; av1 = slot; video = v }) ≡ listed_map pcr_pid l
-  one_map slot v e = sym (ap (λ (a : Av1). map_from a pcr_pid l) e)
-
--- ---- beside a refusal stands the empty map
-pub refused_beside : (r : PmtRead) (number : ℕ) → pmt_says r ≡ refused number 0 → r.map ≡ no_map → r.map ≡ map_beside (pmt_says r)
-unfolding map_beside
-refused_beside r number e f = f ∙ sym (ap map_beside e)
 
 -- ---- what stands behind the fixed fields
 module _ (edition : Edition) (map_pid : ℕ) (s : Bytes) (most : 16 ≤ length s) (n : ℕ) (e : n ≡ program_info_length s) where
@@ -79,9 +58,12 @@ module _ (edition : Edition) (map_pid : ℕ) (s : Bytes) (most : 16 ≤ length s
     entries_lent =
         sym (drop_take (12 + n) (length s - 4) s fits) ∙ sym (drop-drop n 12 (before_crc s)) ∙ ap (λ (i : ℕ). drop i (up_to_crc 12 s)) e
 
-    pub info_unfilled : loop_found edition (take (12 + n - 12) (drop 12 s)) ≡ refused 26 0 → refused 26 0 ≡ body_map edition map_pid s
+    pub info_unfilled : (number place : ℕ) → loop_found edition (take (12 + n - 12) (drop 12 s)) ≡ refused number place
+        → refused number place ≡ body_map edition map_pid s
     unfolding body_map
-    info_unfilled f = pass_on 26 info_fits (stops _ (unfilled_loop edition (program_info s) (ap (loop_found edition) (sym info_lent) ∙ f)))
+    info_unfilled number place f =
+        pass_on 26 info_fits
+        (stops _ (unfilled_loop edition (program_info s) number place (ap (loop_found edition) (sym info_lent) ∙ f)))
 
     module _ (found : Found) (f : loop_found edition (take (12 + n - 12) (drop 12 s)) ≡ passed found) where
       info_filled : (ds : List Bytes) × (descriptors (program_info s) ≡ passed ds)
@@ -92,9 +74,10 @@ module _ (edition : Edition) (map_pid : ℕ) (s : Bytes) (most : 16 ≤ length s
       unfolding body_map
       body p = pass_on 26 info_fits (passes info_filled.0 info_filled.1 p)
 
-      pub entries_refused : (number : ℕ) → list_read edition map_pid (take (length s - 4 - (12 + n)) (drop (12 + n) s)) ≡ refused number 0
-          → refused number 0 ≡ body_map edition map_pid s
-      entries_refused number p = body (stop number 0 _ (ap (list_read edition map_pid) (sym entries_lent) ∙ p))
+      pub entries_refused : (number place : ℕ)
+          → list_read edition map_pid (take (length s - 4 - (12 + n)) (drop (12 + n) s)) ≡ refused number place
+          → refused number place ≡ body_map edition map_pid s
+      entries_refused number place p = body (stop number place _ (ap (list_read edition map_pid) (sym entries_lent) ∙ p))
 
       pub entries_passed : (l : Listed) → list_read edition map_pid (take (length s - 4 - (12 + n)) (drop (12 + n) s)) ≡ passed l →
           (pcr : ℕ)

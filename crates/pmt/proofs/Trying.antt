@@ -21,9 +21,10 @@ use Rattle.pmt.specs.declared.entries.Kind.{Kind}
 use Rattle.pmt.specs.declared.entries.Tried.{Tried}
 
 -- ---- what a loop's reading says of its descriptors
-pub unfilled_loop : (edition : Edition) (s : Bytes) → loop_found edition s ≡ refused 26 0 → descriptors s ≡ refused 26 0
+pub unfilled_loop : (edition : Edition) (s : Bytes) (number place : ℕ) → loop_found edition s ≡ refused number place
+    → descriptors s ≡ refused number place
 unfolding loop_found
-unfilled_loop edition s e = refused_first (descriptors s) (found_in edition) 26 0 e
+unfilled_loop edition s number place e = refused_first (descriptors s) (found_in edition) number place e
 
 pub filled_loop : (edition : Edition) (s : Bytes) (f : Found) → loop_found edition s ≡ passed f
     → (ds : List Bytes) × (descriptors s ≡ passed ds) × (found_in edition ds ≡ f)
@@ -63,11 +64,13 @@ module _ (edition : Edition) (map_pid : ℕ) (earlier : List ℕ) (s : Bytes) wh
       lent =
           sym (drop_take 5 (5 + n) s (omega arith)) ∙ ap (λ (k : ℕ). drop 5 (take (5 + k) s)) e
 
-      pub unfilled : loop_found edition (take (5 + n - 5) (drop 5 s)) ≡ refused 26 0 → refused 26 0 ≡ tried_entry edition map_pid earlier s
+      pub unfilled : (number place : ℕ) → loop_found edition (take (5 + n - 5) (drop 5 s)) ≡ refused number place
+          → refused number place ≡ tried_entry edition map_pid earlier s
       unfolding tried_entry entry
-      unfilled g =
-          let d : descriptors (es_info s) ≡ refused 26 0 = unfilled_loop edition (es_info s) (ap (loop_found edition) (sym lent) ∙ g) in
-          stop 26 0 _ (sym (pass_on 26 whole (stop 26 0 _ d)))
+      unfilled number place g =
+          let d : descriptors (es_info s) ≡ refused number place =
+          unfilled_loop edition (es_info s) number place (ap (loop_found edition) (sym lent) ∙ g) in
+          stop number place _ (sym (pass_on 26 whole (stop number place _ d)))
 
       module _ (f : Found) (g : loop_found edition (take (5 + n - 5) (drop 5 s)) ≡ passed f) (pid : ℕ) (p : pid ≡ elementary_pid s) where
         loop : (ds : List Bytes) × (descriptors (es_info s) ≡ passed ds) × (found_in edition ds ≡ f)

@@ -1,33 +1,24 @@
 -- What the promises of private functions cite; no public promise does. Assumes nothing.
-use Rattle.std.specs.Prelude.{ℕ, suc, Bool, true, not, ◌||◌, List, [], ◌∷◌, map, eqb, ltb, length, take}
+use Rattle.std.specs.Prelude.{ℕ, suc, Bool, true, not, ◌||◌, List, [], ◌∷◌, map, eqb, ltb, length}
+use Rattle.std.specs.Prelude.{take, Option, Some, None}
 use Rattle.lists.specs.Lists.{Bytes, pick}
-use Rattle.lists.specs.Bytes.{byte}
 use Rattle.refusal.specs.Verdict.{Verdict, passed, refused, ◌>>=◌, ◌>>◌, given}
-use Rattle.refusal.specs.Number.{number_of}
 use Rattle.descriptor.specs.Descriptor.{wrong}
 use Rattle.descriptor.specs.Edition.{Edition}
 use Rattle.psi.specs.Section.{up_to_crc}
 use Rattle.pmt.specs.Pmt.{MapEntry, descriptors, entry_size, entry, entries, is_video, video_descriptors, video_wrong}
 use Rattle.pmt.specs.Pmt.{is_registration, registration_first, registration_later, pcr_pid, program_info_length}
 use Rattle.pmt.specs.Pmt.{program_info, entry_bytes}
-use Rattle.pmt.specs.Answer.{listed, slots, video_of}
-use Rattle.pmt.specs.declared.loops.Video.{Video}
-use Rattle.pmt.specs.declared.loops.Video.TheVariants.{Absent, Present}
+use Rattle.pmt.specs.Answer.{listed, no_entries, slots, video_bytes, video_of}
 use Rattle.pmt.specs.declared.loops.Videos.{Videos}
 use Rattle.pmt.specs.declared.loops.Found.{Found}
-use Rattle.pmt.specs.declared.loops.Loop.{Loop}
-use Rattle.pmt.specs.declared.loops.Loop.TheVariants.{Filled, Unfilled}
-use Rattle.pmt.specs.declared.entries.Entry.{Entry}
+use Rattle.pmt.specs.declared.slots.Entries.{Entries}
 use Rattle.pmt.specs.declared.entries.Kind.{Kind}
 use Rattle.pmt.specs.declared.entries.Kind.TheVariants.{Other, Right, Misplaced}
 use Rattle.pmt.specs.declared.entries.Av1.{Av1}
 use Rattle.pmt.specs.declared.entries.Av1.TheVariants.{Missing, One, Wrong}
 use Rattle.pmt.specs.declared.entries.Tried.{Tried}
-use Rattle.pmt.specs.declared.entries.TriedEntry.{TriedEntry}
-use Rattle.pmt.specs.declared.entries.TriedEntry.TheVariants as tried
 use Rattle.pmt.specs.declared.entries.Listed.{Listed}
-use Rattle.pmt.specs.declared.entries.ListAnswer.{ListAnswer}
-use Rattle.pmt.specs.declared.entries.ListAnswer.TheVariants as list
 use Rattle.pmt.specs.declared.section.ProgramMap.{ProgramMap}
 
 -- ---- one loop of descriptors
@@ -36,9 +27,9 @@ abbrev pub videos_of : List Bytes → Videos
 videos_of ds = record { first = video_of ds; wrong = video_wrong ds }
 
 -- with one more
-abbrev pub another_video : Video → Bytes → Videos
-another_video Absent d = record { first = Present (byte d 2) (byte d 3) (byte d 4) (byte d 5); wrong = wrong d }
-another_video (Present a b c e) d = record { first = Present a b c e; wrong = true }
+abbrev pub another_video : Option Bytes → Bytes → Videos
+another_video None d = record { first = Some (video_bytes d); wrong = wrong d }
+another_video (Some first) d = record { first = Some first; wrong = true }
 
 unfoldable pub with_video : Edition → Videos → Bytes → Videos
 with_video edition v d = pick (is_video edition d) (another_video v.first d) v
@@ -63,10 +54,6 @@ with_descriptor edition f first d =
       videos = with_video edition f.videos d;
     })
 
-abbrev pub loop_says : Loop → Verdict Found
-loop_says (Filled f) = passed f
-loop_says Unfilled = refused 26 0
-
 -- 26, or what is found in the loop
 unfoldable pub loop_found : Edition → Bytes → Verdict Found
 loop_found edition s = descriptors s >>= λ ds. passed (found_in edition ds)
@@ -83,13 +70,16 @@ kind_from stream_type f =
 abbrev pub kind_of : Edition → MapEntry → Kind
 kind_of edition e = kind_from e.stream_type (found_in edition e.descriptors)
 
--- the PIDs in the first slots
-abbrev pub pids_in : List Entry → ℕ → List ℕ
-pids_in slots count = map (λ e. e.pid) (take count slots)
+-- the entries in the code's slots, and none of them
+abbrev pub filled : List MapEntry → Entries
+filled es = record { slots = slots es; count = length es }
 
-abbrev pub tried_says : TriedEntry → Verdict Tried
-tried_says (tried.Passed t) = passed t
-tried_says tried.Wrong = refused 26 0
+abbrev pub no_entry_yet : Entries
+no_entry_yet = record { slots = no_entries; count = 0 }
+
+-- the PIDs in the first slots
+abbrev pub pids_in : Entries → List ℕ
+pids_in entries = map (λ e. e.pid) (take entries.count entries.slots)
 
 -- 26, or the entry at the head of s, its size and its kind
 unfoldable pub tried_entry : Edition → ℕ → List ℕ → Bytes → Verdict Tried
@@ -112,14 +102,7 @@ with_all edition (e ∷ es) slot a = with_all edition es (suc slot) (with_kind (
 
 abbrev pub list_of : Edition → List MapEntry → Listed
 list_of edition es =
-    record { answer = list.Passed; count = length es; entries = slots es; av1 = with_all edition es 0 Missing }
-
-abbrev pub list_answer : ListAnswer → Listed → Verdict Listed
-list_answer list.Passed l = passed l
-list_answer (list.Refused why) l = refused (number_of why) 0
-
-abbrev pub list_says : Listed → Verdict Listed
-list_says l = list_answer l.answer l
+    record { entries = filled es; av1 = with_all edition es 0 Missing }
 
 -- 26, 27, or the entries
 unfoldable pub list_read : Edition → ℕ → Bytes → Verdict Listed
@@ -130,7 +113,8 @@ list_read edition map_pid s = entries map_pid s >>= λ es. passed (list_of editi
 abbrev pub map_from : Av1 → ℕ → Listed → Verdict ProgramMap
 map_from Missing pcr_pid l = refused 28 0
 map_from (One slot v) pcr_pid l =
-    passed (record { pcr_pid = pcr_pid; count = l.count; entries = l.entries; av1 = slot; video = v })
+    passed
+    (record { pcr_pid = pcr_pid; count = l.entries.count; entries = l.entries.slots; av1 = slot; video = v })
 map_from Wrong pcr_pid l = refused 28 0
 
 abbrev pub listed_map : ℕ → Listed → Verdict ProgramMap

@@ -1,15 +1,15 @@
 // The entries of a map, tried in order.
-ghost use Rattle.std.specs.Prelude.{◌≡◌, ◌≤◌, eqb};
-ghost use Rattle.lists.specs.Lists.{any};
+ghost use Rattle.std.specs.Prelude.{◌≡◌};
+ghost use Rattle.refusal.specs.Number.{says};
 ghost use Rattle.descriptor.specs.Naming.{edition_says};
-ghost use Rattle.pmt.specs.Answer.{no_entries};
 ghost use Rattle.pmt.specs.Pmt.{pid_field, length_field, pid_wrong};
-ghost use Rattle.pmt.specs.Parts.{kind_from, pids_in, tried_says, tried_entry, with_kind, list_says, list_read};
+ghost use Rattle.pmt.specs.Parts.{kind_from, pids_in, tried_entry, with_kind, list_read};
 
-use crate::loops::{Found, Loop, Video, read_loop};
+use crate::loops::{Found, read_loop};
+use crate::slots::Entries;
 use descriptor::Edition;
 use packet::NULL_PID;
-use refusal::Refusal;
+use refusal::{Refusal, Refused};
 
 // The most entries of a map.
 const MOST_ENTRIES: usize = 12;
@@ -24,219 +24,129 @@ pub struct Entry {
     pub stream_type: u8,
 }
 
-// Slots that no entry has filled.
-fn no_entries() -> [Entry; 12]
-    ensures { result ≡ no_entries }
-{
-    let none = Entry {
-        pid: 0,
-        stream_type: 0,
-    };
-    [none; 12]
-}
-
-// What an entry is to 28: another, an AV1 entry that is right, or one against the rule.
-#[derive(Drop)]
+// What an entry is to 28: another, an AV1 entry that is right with its video descriptor, or one against the rule.
+#[derive(Clone, Copy)]
 enum Kind {
     Other,
-    Right(Video),
+    Right(Option<[u8; 4]>),
     Misplaced,
 }
 
 // An entry that passed, how many bytes it takes, and what it is to 28.
-#[derive(Drop)]
+#[derive(Clone, Copy)]
 struct Tried {
     entry: Entry,
     size: usize,
     kind: Kind,
 }
 
-#[derive(Drop)]
-enum TriedEntry {
-    Passed(Tried),
-    Wrong,
-}
-
 // What is known of the AV1 entry: none yet, the slot and the video descriptor of the only one, or that 28 is to be
 // given.
-#[derive(Drop)]
+#[derive(Clone, Copy)]
 pub(crate) enum Av1 {
     Missing,
-    One(usize, Video),
+    One(usize, Option<[u8; 4]>),
     Wrong,
 }
 
-// All entries passed, or why they are refused.
-#[derive(Clone, Copy)]
-pub(crate) enum ListAnswer {
-    Passed,
-    Refused(Refusal),
+impl Av1 {
+    // Returns what is known with one more entry of this kind in this slot.
+    fn with(self, kind: Kind, slot: usize) -> Av1
+        ensures { result ≡ with_kind kind slot self }
+    {
+        match (kind, self) {
+            (Kind::Other, known) => known,
+            (Kind::Right(video), Av1::Missing) => Av1::One(slot, video),
+            _ => Av1::Wrong,
+        }
+    }
 }
 
-// The entries that passed, in the first slots, and what is known of the AV1 entry.
-#[derive(Drop)]
+// The entries that passed, and what is known of the AV1 entry.
+#[derive(Clone, Copy)]
 pub(crate) struct Listed {
-    pub(crate) answer: ListAnswer,
-    pub(crate) count: usize,
-    pub(crate) entries: [Entry; 12],
+    pub(crate) entries: Entries,
     pub(crate) av1: Av1,
 }
 
-// A PID, and a length, of which the first byte has the upper bits.
+// Returns a PID, of which the first byte has the upper five bits.
 pub(crate) fn pid_field(high: u8, low: u8) -> u16
     ensures { result ≡ pid_field high low }
 {
-    (high % 32) as u16 * 256 + low as u16
+    u16::from_be_bytes([high % 32, low])
 }
 
+// Returns a length, of which the first byte has the upper four bits.
 pub(crate) fn length_field(high: u8, low: u8) -> usize
     ensures { result ≡ length_field high low }
 {
-    (high % 16) as usize * 256 + low as usize
+    usize::from(u16::from_be_bytes([high % 16, low]))
 }
 
-// An entry in one of the first slots has the PID.
-fn pid_listed(entries: [Entry; 12], count: usize, pid: u16) -> bool
-    requires { count ≤ 12 }
-    ensures { result ≡ any (eqb pid) (pids_in entries count) }
+// Returns true if the PID is 0, the null packets', the map's, or that of an earlier entry.
+#[tactic(auto, using(crate::proofs::Filled::among), unfolding(crate::specs::Pmt::pid_wrong, lists::specs::Lists::any))]
+fn pid_wrong(map_pid: u16, earlier: &Entries, pid: u16) -> bool
+    ensures { result ≡ pid_wrong map_pid (pids_in earlier.now) pid }
 {
-    let mut i: usize = 0;
-    while i < count {
-        if pid == entries[i].pid {
-            return true;
-        }
-        i += 1;
-    }
-    false
+    pid == 0 || pid == NULL_PID || pid == map_pid || earlier.contains_pid(pid)
 }
 
-// The PID is 0, the null packets', the map's, or that of an earlier entry.
-fn pid_wrong(map_pid: u16, entries: [Entry; 12], count: usize, pid: u16) -> bool
-    requires { count ≤ 12 }
-    ensures { result ≡ pid_wrong map_pid (pids_in entries count) pid }
-{
-    if pid == 0 {
-        return true;
-    }
-    if pid == NULL_PID {
-        return true;
-    }
-    if pid == map_pid {
-        return true;
-    }
-    pid_listed(entries, count, pid)
-}
-
-// What an entry with this stream_type and such a loop is to 28.
+// Returns what an entry with this stream_type and such a loop is to 28.
+#[tactic(auto, unfolding(crate::specs::Parts::kind_from, lists::specs::Lists::pick))]
 fn kind_from(stream_type: u8, found: Found) -> Kind
     ensures { result ≡ kind_from stream_type found }
 {
     if found.later {
-        return Kind::Misplaced;
+        Kind::Misplaced
+    } else if !found.first {
+        Kind::Other
+    } else if stream_type != AV1_STREAM_TYPE || found.videos.wrong {
+        Kind::Misplaced
+    } else {
+        Kind::Right(found.videos.first)
     }
-    if !found.first {
-        return Kind::Other;
-    }
-    if stream_type != AV1_STREAM_TYPE {
-        return Kind::Misplaced;
-    }
-    let videos = found.videos;
-    if videos.wrong {
-        return Kind::Misplaced;
-    }
-    let video = videos.first;
-    Kind::Right(video)
 }
 
-// The entry at the head of s, wholly for 26; the earlier ones stand in the first slots.
-fn try_entry(
-    edition: Edition,
-    s: &[u8],
-    map_pid: u16,
-    entries: [Entry; 12],
-    count: usize,
-) -> TriedEntry
-    requires { count ≤ 12 }
-    ensures { tried_says result
-        ≡ tried_entry (edition_says edition) map_pid (pids_in entries count) s.now }
+// Returns the entry at the head of s, or refusal 26, which is tried wholly.
+fn try_entry(edition: Edition, s: &[u8], map_pid: u16, earlier: &Entries) -> Result<Tried, Refused>
+    ensures { says result ≡ tried_entry (edition_says edition) map_pid (pids_in earlier.now) s.now }
 {
     if s.len() < 5 {
-        return TriedEntry::Wrong;
+        return Err(Refusal::Pmt.at(0));
     }
     let size = 5 + length_field(s[3], s[4]);
     if s.len() < size {
-        return TriedEntry::Wrong;
+        return Err(Refusal::Pmt.at(0));
     }
-    let read = read_loop(edition, &s[5..size]);
-    let Loop::Filled(found) = read else {
-        return TriedEntry::Wrong;
-    };
+    let found = read_loop(edition, &s[5..size])?;
     let pid = pid_field(s[1], s[2]);
-    if pid_wrong(map_pid, entries, count, pid) {
-        return TriedEntry::Wrong;
+    if pid_wrong(map_pid, earlier, pid) {
+        return Err(Refusal::Pmt.at(0));
     }
     let stream_type = s[0];
-    let kind = kind_from(stream_type, found);
-    let entry = Entry { pid, stream_type };
-    TriedEntry::Passed(Tried { entry, size, kind })
+    Ok(Tried {
+        entry: Entry { pid, stream_type },
+        size,
+        kind: kind_from(stream_type, found),
+    })
 }
 
-// What is known of the AV1 entry, with one more entry of this kind in this slot.
-fn with_kind(kind: Kind, slot: usize, av1: Av1) -> Av1
-    ensures { result ≡ with_kind kind slot av1 }
+// Returns the entries that fill s, each tried wholly for refusal 26; refusal 27 if bytes remain after a twelfth.
+pub(crate) fn list_entries(edition: Edition, s: &[u8], map_pid: u16) -> Result<Listed, Refused>
+    ensures { says result ≡ list_read (edition_says edition) map_pid s.now }
 {
-    match kind {
-        Kind::Other => av1,
-        Kind::Misplaced => Av1::Wrong,
-        Kind::Right(video) => match av1 {
-            Av1::Missing => Av1::One(slot, video),
-            Av1::One(_, _) => Av1::Wrong,
-            Av1::Wrong => Av1::Wrong,
-        },
-    }
-}
-
-// The entries that fill s, each wholly for 26; 27 where bytes remain after a twelfth.
-pub(crate) fn list_entries(edition: Edition, s: &[u8], map_pid: u16) -> Listed
-    ensures { list_says result ≡ list_read (edition_says edition) map_pid s.now }
-{
-    let mut entries = no_entries();
+    let mut entries = Entries::none();
     let mut av1 = Av1::Missing;
-    let mut count: usize = 0;
     let mut at: usize = 0;
+    // Stays: the length of each step stands in the entry, which is tried with the PIDs of those before it.
     while at < s.len() {
-        if MOST_ENTRIES <= count {
-            return Listed {
-                answer: ListAnswer::Refused(Refusal::ENTRY_COUNT),
-                count,
-                entries,
-                av1,
-            };
+        if MOST_ENTRIES <= entries.count {
+            return Err(Refusal::EntryCount.at(0));
         }
-        let read = try_entry(edition, &s[at..], map_pid, entries, count);
-        match read {
-            TriedEntry::Wrong => {
-                return Listed {
-                    answer: ListAnswer::Refused(Refusal::PMT),
-                    count,
-                    entries,
-                    av1,
-                };
-            }
-            TriedEntry::Passed(tried) => {
-                let entry = tried.entry;
-                let kind = tried.kind;
-                entries[count] = entry;
-                av1 = with_kind(kind, count, av1);
-                at += tried.size;
-                count += 1;
-            }
-        }
+        let tried = try_entry(edition, &s[at..], map_pid, &entries)?;
+        av1 = av1.with(tried.kind, entries.count);
+        entries.push(tried.entry);
+        at += tried.size;
     }
-    Listed {
-        answer: ListAnswer::Passed,
-        count,
-        entries,
-        av1,
-    }
+    Ok(Listed { entries, av1 })
 }

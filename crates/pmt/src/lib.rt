@@ -4,7 +4,7 @@
 mod entries;
 mod loops;
 mod section;
+mod slots;
 
 pub use entries::Entry;
-pub use loops::Video;
-pub use section::{PmtAnswer, PmtRead, ProgramMap, read_pmt};
+pub use section::{ProgramMap, read_pmt};

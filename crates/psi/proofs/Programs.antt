@@ -1,111 +1,112 @@
--- The programs of a PAT, entry by entry. `Seen s found i` says: of the programs not 0, those before place i are `found`, or none where its
--- number is 0.
---     start      nothing is looked at
+-- The programs of a PAT, chunk by chunk of four bytes. `Seen cs found i` says: of the programs not 0, those before chunk i are `found`.
 --     skip       the next entry is of program 0
 --     keep       the next entry is the first that is not
 --     second     it is one more: 25
---     none, one  the entries are at their end
+--     nobody, one  the entries are at their end
 -- Assumes nothing.
-use Prim.Native.Nat.{ℕ, ◌+◌, ◌-◌, ◌≤◌, ◌<◌}
-use mathlib.Core.Bool.{not}
-use mathlib.Core.Path.{◌≡◌, refl, sym, ap, ◌∙◌}
-use mathlib.Core.List.{List, [], ◌∷◌, ◌++◌}
+use Prim.Native.Nat.{ℕ, suc, ◌+◌, ◌/◌, ◌≤◌, ◌<◌}
+use mathlib.Core.Bool.{true, false, not}
+use Rattle.std.proofs.Common.{Option, None, Some, is_some}
+use Rattle.std.proofs.lemmas.Bool.{false≢true}
+use mathlib.Core.Path.{◌≡◌, refl, sym, ap, ap₂, ◌∙◌}
+use mathlib.Core.List.{List, [], ◌∷◌, ◌++◌, map}
 use native.Mathlib.Omega.{arith}
 use borrow.Author.Tests.{eq-eqb, ne_eqb}
-use lib.ListN.{length, drop, length-drop}
+use lib.ListN.{length, drop, get_or, drop_of_length-le}
+use lib.Seq.{drop-cons}
+use Rattle.std.specs.Simd.{first_chunks}
 use Rattle.lists.specs.Lists.{Bytes, those}
 use Rattle.lists.specs.Bytes.{byte}
-use Rattle.lists.proofs.Parts.{next, next3}
 use Rattle.refusal.specs.Verdict.{refused}
 use Rattle.psi.specs.declared.pat.Program.{Program}
 use Rattle.psi.specs.Pat.{entry_of, programs, not_zero, map_pid_in_range, one_program}
 use Rattle.lists.proofs.Elements.{those_first, those_others}
 
--- the entry at place i
-abbrev pub entry_at : Bytes → ℕ → Program
-entry_at s i = entry_of (byte s i) (byte s (i + 1)) (byte s (i + 2)) (byte s (i + 3))
+-- the entry of four bytes
+abbrev pub entry_in : Bytes → Program
+entry_in s = entry_of (byte s 0) (byte s 1) (byte s 2) (byte s 3)
 
-next_entry : (s : Bytes) (i : ℕ) → i + 4 ≤ length s → programs (drop i s) ≡ entry_at s i ∷ programs (drop (i + 4) s)
+-- the entries of the chunks of four bytes
+of_chunks : (s : Bytes) → programs s ≡ map entry_in (first_chunks 4 (length s / 4) s)
 unfolding programs
-next_entry s i h =
-    let e : i + 3 + 1 ≡ i + 4 = omega arith in
-    rw (next3 s i (omega arith), next s (i + 3) (omega arith), e)
+of_chunks [] = refl
+of_chunks (a ∷ []) = refl
+of_chunks (a ∷ b ∷ []) = refl
+of_chunks (a ∷ b ∷ c ∷ []) = refl
+of_chunks (a ∷ b ∷ c ∷ d ∷ s) =
+    let more : suc (length s / 4) ≡ length (a ∷ b ∷ c ∷ d ∷ s) / 4 = omega arith in
+    ap (λ (l : List Program). entry_of a b c d ∷ l) (of_chunks s)
+    ∙ ap (λ (n : ℕ). map entry_in (first_chunks 4 n (a ∷ b ∷ c ∷ d ∷ s))) more
 
-too_few : (s : Bytes) → length s < 4 → programs s ≡ []
-unfolding programs
-too_few [] h = refl
-too_few (a ∷ []) h = refl
-too_few (a ∷ b ∷ []) h = refl
-too_few (a ∷ b ∷ c ∷ []) h = refl
-too_few (a ∷ b ∷ c ∷ d ∷ s) h = absurd (omega arith)
+-- the programs not 0 of these chunks
+abbrev pub named : List Bytes → List Program
+named cs = those not_zero (map entry_in cs)
 
--- the first of some programs counts, or not
-counts : (p : Program) (l : List Program) → (p.number ≡ 0 → ⊥) → those not_zero (p ∷ l) ≡ p ∷ those not_zero l
-counts p l h = those_first not_zero p l (ap not (ne_eqb p.number 0 h))
+-- in a string's chunks they are the string's
+pub of_all : (s : Bytes) (cs : List Bytes) → cs ≡ first_chunks 4 (length s / 4) s
+    → one_program (named cs) ≡ one_program (those not_zero (programs s))
+of_all s cs e = ap (λ (l : List Program). one_program (those not_zero l)) (ap (map entry_in) e ∙ sym (of_chunks s))
 
-skipped : (p : Program) (l : List Program) → p.number ≡ 0 → those not_zero (p ∷ l) ≡ those not_zero l
-skipped p l h = those_others not_zero p l (ap not (eq-eqb p.number 0 h))
+abbrev pub as_list : Option Program → List Program
+as_list None = []
+as_list (Some p) = p ∷ []
 
--- it is the only one
-alone : (p : Program) → (p.number ≡ 0 → ⊥) → those not_zero (p ∷ []) ≡ p ∷ []
-unfolding those
-alone p h = counts p [] h
+nobody_yet : (o : Option Program) → is_some o ≡ false → as_list o ≡ []
+nobody_yet None e = refl
+nobody_yet (Some p) e = absurd (false≢true (sym e))
 
-nobody : (p : Program) → p.number ≡ 0 → those not_zero (p ∷ []) ≡ []
-unfolding those
-nobody p h = skipped p [] h
+two_or_more : (o : Option Program) (p : Program) (l : List Program) → is_some o ≡ true → one_program (as_list o ++ p ∷ l) ≡ refused 25 0
+unfolding one_program
+two_or_more None p l e = absurd (false≢true e)
+two_or_more (Some q) p l e = refl
 
-pub record Seen (s : Bytes) (found : Program) (i : ℕ) : Type 0 where
-  pub within : i ≤ length s
-  pub whole : those not_zero (programs s) ≡ those not_zero (found ∷ []) ++ those not_zero (programs (drop i s))
+pub record Seen (cs : List Bytes) (found : Option Program) (i : ℕ) : Type 0 where
+  pub within : i ≤ length cs
+  pub whole : named cs ≡ as_list found ++ named (drop i cs)
 
-pub start : (s : Bytes) (none : Program) → none.number ≡ 0 → Seen s none 0
-start s none e = record { within = omega arith; whole = sym (ap (λ (l : List Program). l ++ those not_zero (programs s)) (nobody none e)) }
-
-module _ {s : Bytes} {found : Program} {i : ℕ} (seen : Seen s found i) where
+module _ {cs : List Bytes} {found : Option Program} {i : ℕ} (seen : Seen cs found i) where
   -- the next entry is p
-  module _ (p : Program) (h : i + 4 ≤ length s) (e : p ≡ entry_at s i) where
-    next_is : programs (drop i s) ≡ p ∷ programs (drop (i + 4) s)
-    next_is = next_entry s i h ∙ ap (λ (q : Program). q ∷ programs (drop (i + 4) s)) (sym e)
+  module _ (p : Program) (d : Bytes) (h : i < length cs) (e : p ≡ entry_in (get_or cs i d)) where
+    next_is : map entry_in (drop i cs) ≡ p ∷ map entry_in (drop (i + 1) cs)
+    next_is =
+        let more : suc i ≡ i + 1 = omega arith in
+        ap (map entry_in) (drop-cons cs i d h)
+        ∙ ap₂ (λ (q : Program) (l : List Program). q ∷ l) (sym e) (ap (λ (n : ℕ). map entry_in (drop n cs)) more)
 
-    pub skip : p.number ≡ 0 → Seen s found (i + 4)
+    pub skip : p.number ≡ 0 → Seen cs found (i + 1)
     skip k =
         record {
-          within = h;
+          within = omega arith;
           whole =
               seen.whole
-              ∙ ap (λ (l : List Program). those not_zero (found ∷ []) ++ l)
-              (ap (those not_zero) next_is ∙ skipped p (programs (drop (i + 4) s)) k);
+              ∙ ap (λ (l : List Program). as_list found ++ l)
+              (ap (those not_zero) next_is ∙ those_others not_zero p (map entry_in (drop (i + 1) cs)) (ap not (eq-eqb p.number 0 k)));
         }
 
-    pub keep : found.number ≡ 0 → (p.number ≡ 0 → ⊥) → Seen s p (i + 4)
+    counts : (p.number ≡ 0 → ⊥) → named (drop i cs) ≡ p ∷ named (drop (i + 1) cs)
+    counts k = ap (those not_zero) next_is ∙ those_first not_zero p (map entry_in (drop (i + 1) cs)) (ap not (ne_eqb p.number 0 k))
+
+    pub keep : is_some found ≡ false → (p.number ≡ 0 → ⊥) → Seen cs (Some p) (i + 1)
     keep f k =
         record {
-          within = h;
-          whole =
-              seen.whole ∙ ap (λ (l : List Program). l ++ those not_zero (programs (drop i s))) (nobody found f)
-              ∙ ap (those not_zero) next_is ∙ counts p (programs (drop (i + 4) s)) k
-              ∙ sym (ap (λ (l : List Program). l ++ those not_zero (programs (drop (i + 4) s))) (alone p k));
+          within = omega arith;
+          whole = seen.whole ∙ ap (λ (l : List Program). l ++ named (drop i cs)) (nobody_yet found f) ∙ counts k;
         }
 
-    pub second : (found.number ≡ 0 → ⊥) → (p.number ≡ 0 → ⊥) → one_program (those not_zero (programs s)) ≡ refused 25 0
-    unfolding one_program
-    second f k =
-        ap one_program
-        (seen.whole ∙ ap (λ (l : List Program). l ++ those not_zero (programs (drop i s))) (alone found f)
-        ∙ ap (λ (l : List Program). found ∷ l) (ap (those not_zero) next_is ∙ counts p (programs (drop (i + 4) s)) k))
+    pub second : is_some found ≡ true → (p.number ≡ 0 → ⊥) → one_program (named cs) ≡ refused 25 0
+    second f k = ap one_program (seen.whole ∙ ap (λ (l : List Program). as_list found ++ l) (counts k)) ∙ two_or_more found p _ f
 
   -- all that was found
-  ended : length s - i < 4 → those not_zero (programs s) ≡ those not_zero (found ∷ []) ++ []
+  ended : length cs ≤ i → (o : Option Program) → found ≡ o → named cs ≡ as_list o ++ []
   unfolding those
-  ended h =
-      seen.whole
-      ∙ ap (λ (l : List Program). those not_zero (found ∷ []) ++ those not_zero l) (too_few (drop i s) (omega (arith, length-drop i s)))
+  ended h o f =
+      seen.whole ∙ ap (λ (q : Option Program). as_list q ++ named (drop i cs)) f
+      ∙ ap (λ (l : List Bytes). as_list o ++ named l) (drop_of_length-le cs h)
 
-  pub none : length s - i < 4 → found.number ≡ 0 → one_program (those not_zero (programs s)) ≡ refused 25 0
+  pub nobody : length cs ≤ i → found ≡ None → one_program (named cs) ≡ refused 25 0
   unfolding one_program
-  none h e = ap one_program (ended h ∙ ap (λ (l : List Program). l ++ []) (nobody found e))
+  nobody h f = ap one_program (ended h None f)
 
-  pub one : length s - i < 4 → (found.number ≡ 0 → ⊥) → one_program (those not_zero (programs s)) ≡ map_pid_in_range found
+  pub one : (q : Program) → length cs ≤ i → found ≡ Some q → one_program (named cs) ≡ map_pid_in_range q
   unfolding one_program
-  one h e = ap one_program (ended h ∙ ap (λ (l : List Program). l ++ []) (alone found e))
+  one q h f = ap one_program (ended h (Some q) f)

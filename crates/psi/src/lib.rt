@@ -7,5 +7,5 @@ mod pat;
 mod placing;
 
 pub use common::common_wrong;
-pub use pat::{PatRead, Program, read_pat};
-pub use placing::{Found, find_section, section_of};
+pub use pat::{Program, read_pat};
+pub use placing::{find_section, section_of};

@@ -1,14 +1,17 @@
 // The program association table.
+ghost use Rattle.refusal.specs.Number.{says};
 ghost use Rattle.std.specs.Prelude.{◌≡◌};
+ghost use Rattle.lists.specs.Bytes.{byte};
 ghost use Rattle.lists.specs.Lists.{those};
-ghost use Rattle.refusal.specs.Verdict.{refused};
-ghost use Rattle.psi.specs.Pat.{entry_of, programs, not_zero, map_pid_in_range, one_program, read_pat, pat_says};
+ghost use Rattle.psi.specs.Pat.{entry_of, programs, not_zero, map_pid_in_range, one_program, read_pat};
 
 use crate::common::common_wrong;
 use refusal::{Refusal, Refused};
 
 // The number of an entry that names no program.
 const NETWORK: u16 = 0;
+// The first PID that a program's map can have.
+const FIRST_MAP_PID: u16 = 0x0010;
 // The last PID that a program's map can have.
 const LAST_MAP_PID: u16 = 0x1FFE;
 
@@ -19,80 +22,61 @@ pub struct Program {
     pub map_pid: u16,
 }
 
-// The one program of a PAT, or 25.
-#[derive(Drop)]
-pub enum PatRead {
-    Program(Program),
-    Refused(Refused),
-}
-
-fn refuse() -> PatRead
-    ensures { pat_says result ≡ refused 25 0 }
+// Returns the entry of these four bytes.
+// Stays: an entry has four bytes, and `as_chunks` gives them as this type.
+fn entry(bytes: [u8; 4]) -> Program
+    ensures { result ≡ entry_of (byte bytes 0) (byte bytes 1) (byte bytes 2) (byte bytes 3) }
 {
-    PatRead::Refused(Refused {
-        why: Refusal::PAT,
-        place: 0,
-    })
-}
-
-// The entry of these four bytes.
-fn entry(a: u8, b: u8, c: u8, d: u8) -> Program
-    ensures { result ≡ entry_of a b c d }
-{
+    let [a, b, c, d] = bytes;
     Program {
-        number: a as u16 * 256 + b as u16,
-        map_pid: (c % 32) as u16 * 256 + d as u16,
+        number: u16::from_be_bytes([a, b]),
+        map_pid: u16::from_be_bytes([c % 32, d]),
     }
 }
 
-// A program whose map PID is 0x0010 to 0x1FFE, or 25.
-fn in_range(program: Program) -> PatRead
-    ensures { pat_says result ≡ map_pid_in_range program }
+// Returns the program if its map PID is 0x0010 to 0x1FFE, or refusal 25.
+fn in_range(program: Program) -> Result<Program, Refused>
+    ensures { says result ≡ map_pid_in_range program }
 {
-    if program.map_pid < 0x0010 {
-        return refuse();
+    if (FIRST_MAP_PID..=LAST_MAP_PID).contains(&program.map_pid) {
+        Ok(program)
+    } else {
+        Err(Refusal::Pat.at(0))
     }
-    if LAST_MAP_PID < program.map_pid {
-        return refuse();
-    }
-    PatRead::Program(program)
 }
 
-// The one program not 0 among these entries, or 25. Until it comes, `found` has the number 0.
-fn one_program(entries: &[u8]) -> PatRead
-    ensures { pat_says result ≡ one_program (those not_zero (programs entries.now)) }
+// Returns the one program not 0 among these entries. Returns refusal 25 if there is none, or more than one.
+fn one_program(entries: &[u8]) -> Result<Program, Refused>
+    ensures { says result ≡ one_program (those not_zero (programs entries.now)) }
 {
-    let mut found = Program {
-        number: 0,
-        map_pid: 0,
-    };
-    let mut i: usize = 0;
-    while 4 <= entries.len() - i {
-        let next = entry(entries[i], entries[i + 1], entries[i + 2], entries[i + 3]);
-        i += 4;
+    let (chunks, _) = entries.as_chunks::<4>();
+    let mut found = None;
+    for chunk in chunks {
+        let next = entry(*chunk);
         if next.number != NETWORK {
-            if found.number != 0 {
-                return refuse();
+            if found.is_some() {
+                return Err(Refusal::Pat.at(0));
             }
-            found = next;
+            found = Some(next);
         }
     }
-    if found.number == 0 {
-        return refuse();
+    match found {
+        Some(program) => in_range(program),
+        None => Err(Refusal::Pat.at(0)),
     }
-    in_range(found)
 }
 
-// The program that a PAT section names, or 25.
-pub fn read_pat(section: &[u8]) -> PatRead
-    ensures { pat_says result ≡ read_pat section.now }
+// Returns the program that a PAT section names, or refusal 25.
+#[tactic(auto, using(crate::proofs::Fields::long_enough))]
+pub fn read_pat(section: &[u8]) -> Result<Program, Refused>
+    ensures { says result ≡ read_pat section.now }
 {
     if common_wrong(section, 0, 12) {
-        return refuse();
+        return Err(Refusal::Pat.at(0));
     }
     let end = section.len() - 4;
     if (end - 8) % 4 != 0 {
-        return refuse();
+        return Err(Refusal::Pat.at(0));
     }
     one_program(&section[8..end])
 }

@@ -14,11 +14,9 @@ use Rattle.refusal.specs.Verdict.{Verdict, passed, refused, given}
 use Rattle.refusal.proofs.Verdicts.{passed_after, given_passed, passed_same}
 use Rattle.unit.specs.Unit.{sum}
 use Rattle.queue.specs.declared.records.Queue.{Queue}
-use Rattle.queue.specs.declared.adding.Added.{Added}
-use Rattle.queue.specs.declared.dropping.Dropped.{Dropped}
 use Rattle.queue.specs.Queue.{TimedUnit, most_units, queued_bytes, queue_of, unit_wrong, QueueIs, adding, dropping, units_after}
 use Rattle.queue.specs.Queue.{store_after, store_with}
-use Rattle.queue.specs.Answer.{Adds, Drops}
+use Rattle.queue.specs.Answer.{Added, Dropped, Adds, Drops}
 
 -- few units, each of which could be added, whose bytes were put at the store's front
 pub standing : (units : List TimedUnit) (store : Bytes) → length units ≤ most_units → any unit_wrong units ≡ false

@@ -1,6 +1,7 @@
 -- What add and drop leave, by the way that each takes. Assumes nothing.
+use Rattle.std.specs.Prelude.{Result, Ok, Err, is_err}
 use Prim.Native.Nat.{ℕ, ◌+◌, ◌-◌, ◌≤◌, ◌<◌}
-use mathlib.Core.Bool.{Bool, true, false, true≢false}
+use mathlib.Core.Bool.{true, false, true≢false}
 use mathlib.Core.Path.{◌≡◌, refl, sym, ap, ap₂, subst, ◌∙◌}
 use mathlib.Core.List.{List, [], ◌∷◌, ◌++◌, flatten, append_assoc}
 use native.Mathlib.Omega.{arith}
@@ -9,21 +10,20 @@ use lib.ListN.{length, take, drop, get_or, length-append}
 use lib.Seq.{drop-drop, drop-append_seam}
 use Rattle.lists.specs.Lists.{Bytes, over, placed}
 use Rattle.lists.proofs.Parts.{drop_take}
-use Rattle.lists.proofs.Tests.{or_by_true, or_by_false}
+use Rattle.refusal.specs.declared.Refusal.{Refusal}
+use Rattle.refusal.specs.declared.Refusal.TheVariants as refusals
+use Rattle.refusal.specs.Number.{number_of, says}
+use Rattle.refusal.specs.declared.Refused.{Refused}
 use Rattle.refusal.specs.Verdict.{Verdict, passed, refused, ◌>>=◌, ◌>>◌}
 use Rattle.refusal.proofs.Verdicts.{refuse, pass_on, passed_then}
-use Rattle.ticks.specs.declared.Ticks90.{Ticks90}
 use Rattle.unit.specs.Unit.{read_unit}
 use Rattle.unit.specs.Answer.{checking}
 use Rattle.unit.specs.declared.reading.Counts.{Counts}
 use Rattle.queue.specs.declared.records.Queued.{Queued}
 use Rattle.queue.specs.declared.records.Queue.{Queue}
-use Rattle.queue.specs.declared.adding.Added.{Added}
-use Rattle.queue.specs.declared.adding.AddAnswer.TheVariants as answer
-use Rattle.queue.specs.declared.dropping.DropAnswer.TheVariants as dropped
-use Rattle.queue.specs.Queue.{TimedUnit, most_units, queued_bytes, record_of, slots, queue_of, is_refused, time_past, unacceptable}
+use Rattle.queue.specs.Queue.{TimedUnit, most_units, queued_bytes, record_of, slots, queue_of, is_refused}
 use Rattle.queue.specs.Queue.{unit_wrong, QueueIs, adding, is_empty, dropping, units_after, store_after, store_with}
-use Rattle.queue.specs.Answer.{Adds, Drops}
+use Rattle.queue.specs.Answer.{Added, Adds, Drops}
 use Rattle.queue.specs.Parts.{with_record, without_first}
 use Rattle.queue.proofs.Keeping.{bytes_within}
 use Rattle.queue.proofs.Slots.{more_bytes, one_more, first_gone}
@@ -35,24 +35,14 @@ unfolding is_refused ◌>>=◌
 unread (passed a) f number place e k = absurd (true≢false (sym (ap is_refused e) ∙ k a))
 unread (refused n p) f number place e k = refl
 
-pub wrong_read : (unit : Bytes) (pts dts : Ticks90) (number place : ℕ) → checking unit ≡ refused number place
-    → true ≡ unacceptable unit pts dts
-unfolding unacceptable checking is_refused
-wrong_read unit pts dts number place e = or_by_true _ (unread (read_unit unit) _ number place e (λ l. refl)) refl
-
 is_read : (unit : Bytes) (c : Counts) → checking unit ≡ passed c → is_refused (read_unit unit) ≡ false
 unfolding checking is_refused
 is_read unit c e = let h = passed_then (read_unit unit) _ c e in ap is_refused h.1
 
-pub wrong_pts : (unit : Bytes) (pts dts : Ticks90) (c : Counts) → checking unit ≡ passed c → time_past pts ≡ true
-    → true ≡ unacceptable unit pts dts
-unfolding unacceptable
-wrong_pts unit pts dts c e h = or_by_false (is_read unit c e) (or_by_true _ h refl)
-
-pub wrong_dts : (unit : Bytes) (pts dts : Ticks90) (c : Counts) {r : Bool} → checking unit ≡ passed c → time_past pts ≡ false
-    → r ≡ time_past dts → r ≡ unacceptable unit pts dts
-unfolding unacceptable
-wrong_dts unit pts dts c e h k = or_by_false (is_read unit c e) (or_by_false h k)
+pub reading_fails : (unit : Bytes) (r : Result Counts Refused) → says r ≡ checking unit → is_err r ≡ is_refused (read_unit unit)
+unfolding checking is_refused
+reading_fails unit (Ok c) e = sym (is_read unit c (sym e))
+reading_fails unit (Err q) e = sym (unread (read_unit unit) _ (number_of q.why) q.place (sym e) (λ l. refl))
 
 -- bytes put behind those at the front
 put_behind : (w v store : Bytes) (n : ℕ) → n ≡ length w → take n store ≡ w → placed store n v ≡ over (w ++ v) store
@@ -83,37 +73,41 @@ module _ {queue : Queue} {store : Bytes} {units : List TimedUnit} (q : QueueIs q
   -- ---- add
   module _ (u : TimedUnit) where
     -- a refusal, and the queue as it was
-    abbrev refusing : ℕ → Added
-    refusing number = record { answer = answer.Refused (record { why = record { number = number }; place = 0 }); queue = queue }
+    abbrev refusing : Refused → Added
+    refusing r = record { answer = Err r; queue = queue }
 
-    refused_by_lem : (number : ℕ) (r : Added) → r ≡ refusing number → refused number 0 ≡ adding u (length store) units
-        → Adds u units store r store
+    refused_by_lem : (why : Refusal) (r : Refused) → r ≡ record { why = why; place = 0 }
+        → refused (number_of why) 0 ≡ adding u (length store) units → Adds u units store (refusing r) store
     unfolding ◌>>◌ units_after store_after
-    refused_by_lem number r e f =
+    refused_by_lem why r e f =
         rw e record {
           answers = ap (λ (v : Verdict (List TimedUnit)). v >> passed tt) f;
           queue = q.holds ∙ ap (λ (v : Verdict (List TimedUnit)). queue_of (units_after v units)) f;
           leaves = ap (λ (v : Verdict (List TimedUnit)). store_after v store) f;
         }
 
-    pub adds_full : 8 ≤ queue.count → (r : Added) → r ≡ refusing 50 → Adds u units store r store
+    pub adds_full : 8 ≤ queue.count → (r : Refused) → r ≡ record { why = refusals.QueueFull; place = 0 }
+        → Adds u units store (refusing r) store
     unfolding adding
-    adds_full h r e = refused_by_lem 50 r e (refuse 50 _ (le-leb most_units (length units) (omega (arith, counts))))
+    adds_full h r e = refused_by_lem refusals.QueueFull r e (refuse 50 _ (le-leb most_units (length units) (omega (arith, counts))))
 
     module _ (h : queue.count < 8) where
-      pub adds_unacceptable : unit_wrong u ≡ true → (r : Added) → r ≡ refusing 51 → Adds u units store r store
+      pub adds_unacceptable : unit_wrong u ≡ true → (r : Refused) → r ≡ record { why = refusals.QueuedUnit; place = 0 }
+          → Adds u units store (refusing r) store
       unfolding adding
-      adds_unacceptable w r e = refused_by_lem 51 r e (pass_on 50 (lt-leb most_units (length units) (omega (arith, counts)))
-          (refuse 51 _ w))
+      adds_unacceptable w r e =
+          refused_by_lem refusals.QueuedUnit r e
+          (pass_on 50 (lt-leb most_units (length units) (omega (arith, counts))) (refuse 51 _ w))
 
       module _ (w : unit_wrong u ≡ false) (used : ℕ) (is : used ≡ queue.total) where
         longer_length : length (queued_bytes (units ++ (u ∷ []))) ≡ used + length u.carried
         longer_length = ap length (more_bytes units u) ∙ omega (arith, length-append (queued_bytes units) u.carried, totals)
 
-        pub adds_no_room : length store - used < length u.carried → (r : Added) → r ≡ refusing 8 → Adds u units store r store
+        pub adds_no_room : length store - used < length u.carried → (r : Refused) → r ≡ record { why = refusals.NoRoom; place = 0 }
+            → Adds u units store (refusing r) store
         unfolding adding
         adds_no_room h₁ r e =
-            refused_by_lem 8 r e
+            refused_by_lem refusals.NoRoom r e
             (pass_on 50 (lt-leb most_units (length units) (omega (arith, counts)))
             (pass_on 51 w
             (refuse 8 _ (lt-ltb (length store) (length (queued_bytes (units ++ (u ∷ [])))) (omega (arith, longer_length, total_within))))))
@@ -128,7 +122,7 @@ module _ {queue : Queue} {store : Bytes} {units : List TimedUnit} (q : QueueIs q
 
         pub adds_added : length u.carried ≤ length store - used → (after : Bytes) (longer : Queue)
             → after ≡ placed store used u.carried → longer ≡ with_record queue (record_of u)
-            → Adds u units store (record { answer = answer.Added; queue = longer }) after
+            → Adds u units store (record { answer = (Ok tt); queue = longer }) after
         unfolding ◌>>◌ units_after store_after
         adds_added r after longer ea el =
             let f : adding u (length store) units ≡ passed (units ++ (u ∷ [])) = passes r in
@@ -147,7 +141,7 @@ module _ {queue : Queue} {store : Bytes} {units : List TimedUnit} (q : QueueIs q
 -- ---- drop
 module _ {queue : Queue} {store : Bytes} where
   pub drops_empty : (units : List TimedUnit) → QueueIs queue store units → queue.count ≡ 0
-      → Drops units store (record { answer = dropped.Empty; queue = queue }) store
+      → Drops units store (record { dropped = false; queue = queue }) store
   unfolding is_empty dropping flatten
   drops_empty [] q e = record { answers = refl; queue = q.holds; leaves = refl }
   drops_empty (u ∷ us) q e = absurd (omega (arith, counts q))
@@ -176,7 +170,7 @@ module _ {queue : Queue} {store : Bytes} where
   pub drops_dropped : {units : List TimedUnit} (u : TimedUnit) (us : List TimedUnit) (q : QueueIs queue store units) → units ≡ u ∷ us
       → (used first : ℕ) → used ≡ queue.total → first ≡ length u.carried
       → (after : Bytes) (shorter : Queue) → after ≡ over (take (used - first) (drop first store)) store → shorter ≡ without_first queue
-      → Drops units store (record { answer = dropped.Dropped; queue = shorter }) after
+      → Drops units store (record { dropped = true; queue = shorter }) after
   unfolding is_empty dropping flatten
   drops_dropped {units} u us q e used first eu ef after shorter ea es =
       let b : queued_bytes units ≡ u.carried ++ queued_bytes us = ap queued_bytes e in

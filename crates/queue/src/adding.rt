@@ -7,87 +7,57 @@ use crate::records::{MOST_UNITS, Queue, Queued};
 use lists::copy;
 use refusal::{Refusal, Refused};
 use ticks::Ticks90;
-use unit::UnitRead;
 
-// The unit is queued; or 50, 51, 8.
-#[derive(Drop)]
-pub enum AddAnswer {
-    Added,
-    Refused(Refused),
+impl Queue {
+    // Adds a unit behind those that are queued, whose bytes stand in the store. Returns refusal 50, 51 or 8; queue and
+    // store are then left unchanged.
+    pub fn add(
+        &mut self,
+        store: &mut [u8],
+        unit: &[u8],
+        pts: Ticks90,
+        dts: Ticks90,
+        marked: bool,
+    ) -> Result<(), Refused>
+        ensures { (units : List TimedUnit) → QueueIs self.old store.old units
+            → Adds (timed unit.now pts dts marked) units store.old
+            (record { answer = result; queue = self.new }) store.new }
+    {
+        if MOST_UNITS <= self.count {
+            return Err(Refusal::QueueFull.at(0));
+        }
+        if not_acceptable(unit, pts, dts) {
+            return Err(Refusal::QueuedUnit.at(0));
+        }
+        let used = self.total;
+        if store.len() < used {
+            return Err(Refusal::NoRoom.at(0)); // no queue that the operations lead to
+        }
+        if store.len() - used < unit.len() {
+            return Err(Refusal::NoRoom.at(0));
+        }
+        copy(unit, &mut store[used..]);
+        self.push(Queued {
+            length: unit.len(),
+            pts,
+            dts,
+            marked,
+        });
+        Ok(())
+    }
 }
 
-// The answer, and the queue then.
-#[derive(Drop)]
-pub struct Added {
-    pub answer: AddAnswer,
-    pub queue: Queue,
-}
-
+// Returns whether the time has more than 33 bits.
 fn time_past(time: Ticks90) -> bool
     ensures { result ≡ time_past time }
 {
     8589934592 <= time.0
 }
 
+// Returns whether reading refuses the unit, or a time has more than 33 bits.
+#[tactic(auto, using(crate::proofs::Operations::reading_fails), unfolding(crate::specs::Queue::unacceptable))]
 fn not_acceptable(unit: &[u8], pts: Ticks90, dts: Ticks90) -> bool
     ensures { result ≡ unacceptable unit.now pts dts }
 {
-    let read = unit::check(unit);
-    match read {
-        UnitRead::Obus(_) => {
-            if time_past(pts) {
-                return true;
-            }
-            time_past(dts)
-        }
-        UnitRead::Refused(_) => true,
-    }
-}
-
-// A refusal, and the queue as it was.
-fn refuse(why: Refusal, queue: Queue) -> Added
-    ensures { result ≡ record { answer = AddAnswer.Refused (record { why = why; place = 0 }); queue = queue } }
-{
-    Added {
-        answer: AddAnswer::Refused(Refused { why, place: 0 }),
-        queue,
-    }
-}
-
-// Adds a unit behind those that are queued, whose bytes stand in the store.
-pub fn add(
-    queue: Queue,
-    store: &mut [u8],
-    unit: &[u8],
-    pts: Ticks90,
-    dts: Ticks90,
-    marked: bool,
-) -> Added
-    ensures { (units : List TimedUnit) → QueueIs queue store.old units
-        → Adds (timed unit.now pts dts marked) units store.old result store.new }
-{
-    if MOST_UNITS <= queue.count {
-        return refuse(Refusal::QUEUE_FULL, queue);
-    }
-    if not_acceptable(unit, pts, dts) {
-        return refuse(Refusal::QUEUED_UNIT, queue);
-    }
-    let used = queue.total;
-    if store.len() < used {
-        return refuse(Refusal::NO_ROOM, queue); // no queue that the operations lead to
-    }
-    if store.len() - used < unit.len() {
-        return refuse(Refusal::NO_ROOM, queue);
-    }
-    copy(unit, &mut store[used..]);
-    let longer = queue.with(Queued {
-        length: unit.len(),
-        pts,
-        dts,
-        marked,
-    });
-    Added {
-        answer: AddAnswer::Added,
-        queue: longer,
-    }
+    unit::check(unit).is_err() || time_past(pts) || time_past(dts)
 }

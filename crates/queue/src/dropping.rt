@@ -6,48 +6,23 @@ ghost use Rattle.queue.specs.Answer.{Drops};
 use crate::copying::move_down;
 use crate::records::Queue;
 
-// The oldest unit was dropped, or there was none.
-#[derive(Drop)]
-pub enum DropAnswer {
-    Dropped,
-    Empty,
-}
-
-// The answer, and the queue then.
-#[derive(Drop)]
-pub struct Dropped {
-    pub answer: DropAnswer,
-    pub queue: Queue,
-}
-
-// Drops the oldest unit; the bytes of the others move to the store's front.
-pub fn drop_oldest(queue: Queue, store: &mut [u8]) -> Dropped
-    ensures { (units : List TimedUnit) → QueueIs queue store.old units
-        → Drops units store.old result store.new }
-{
-    if queue.count == 0 {
-        return Dropped {
-            answer: DropAnswer::Empty,
-            queue,
-        };
-    }
-    let used = queue.total;
-    let first = queue.units[0].length;
-    if store.len() < used {
-        return Dropped {
-            answer: DropAnswer::Empty, // no queue that the operations lead to
-            queue,
-        };
-    }
-    if used < first {
-        return Dropped {
-            answer: DropAnswer::Empty,
-            queue,
-        };
-    }
-    move_down(store, first, used - first);
-    Dropped {
-        answer: DropAnswer::Dropped,
-        queue: queue.without_first(),
+impl Queue {
+    // Drops the oldest unit; the bytes of the others move to the store's front. Returns false if there was none; queue
+    // and store are then left unchanged.
+    pub fn drop_oldest(&mut self, store: &mut [u8]) -> bool
+        ensures { (units : List TimedUnit) → QueueIs self.old store.old units
+            → Drops units store.old (record { dropped = result; queue = self.new }) store.new }
+    {
+        if self.count == 0 {
+            return false;
+        }
+        let used = self.total;
+        let first = self.units[0].length;
+        if store.len() < used || used < first {
+            return false; // no queue that the operations lead to
+        }
+        move_down(store, first, used - first);
+        self.remove_first();
+        true
     }
 }

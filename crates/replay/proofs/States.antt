@@ -1,5 +1,6 @@
 -- The valid states: what their bounds are; the fresh one is valid, each arrival and each run keeps it, and so do all that runs
 -- lead to; their fills fit 64 bits. Assumes nothing.
+use Rattle.std.specs.Prelude.{Option, Some, None}
 use Prim.Native.Nat.{ℕ, suc, ◌+◌, ◌-◌, ◌*◌, ◌≤◌, max}
 use mathlib.Core.Bool.{true, false, not, ◌||◌}
 use mathlib.Core.Path.{◌≡◌, refl, subst}
@@ -13,10 +14,6 @@ use Rattle.lists.proofs.Tests.{case, and_both, or_neither}
 use Rattle.refusal.specs.Verdict.{Verdict, passed, refused, given}
 use Rattle.refusal.proofs.Verdicts.{passed_after, passed_same, given_passed}
 use Rattle.ticks.specs.declared.Ticks27.{Ticks27}
-use Rattle.replay.specs.declared.state.Last.{Last}
-use Rattle.replay.specs.declared.state.Last.TheVariants as last
-use Rattle.replay.specs.declared.state.Above.{Above}
-use Rattle.replay.specs.declared.state.Above.TheVariants as above
 use Rattle.replay.specs.declared.state.State.{State}
 use Rattle.replay.specs.Replay.{second, most_bytes, most_rate, most_arrivals, fill_of, buffer, Arrival, trace, rate_wrong}
 use Rattle.replay.specs.Replay.{fresh, time_wrong, arrival_wrong, elapsed, filled, first_above, after, arriving}
@@ -39,12 +36,12 @@ passes arrivals bytes e =
     let h = or_neither _ _ e in
     record { bytes_within = ltb-false most_bytes bytes h.0; arrivals_within = leb-false most_arrivals arrivals h.1 }
 
-pub elapsed_within : (l : Last) (t : Ticks27) → time_wrong l t ≡ false → elapsed l t ≤ second
-elapsed_within last.Never t e = omega arith
-elapsed_within (last.At l) t e =
+pub elapsed_within : (l : Option Ticks27) (t : Ticks27) → time_wrong l t ≡ false → elapsed l t ≤ second
+elapsed_within None t e = omega arith
+elapsed_within (Some l) t e =
     ltb-false second (t.0 - l.0) (or_neither (ltb t.0 l.0) (ltb second (t.0 - l.0)) e).1
 
-pub not_back : (l t : Ticks27) → time_wrong (last.At l) t ≡ false → l.0 ≤ t.0
+pub not_back : (l t : Ticks27) → time_wrong (Some l) t ≡ false → l.0 ≤ t.0
 not_back l t e = ltb-false t.0 l.0 (or_neither (ltb t.0 l.0) (ltb second (t.0 - l.0)) e).0
 
 -- ---- a valid state, part by part
@@ -85,15 +82,15 @@ pub filled_within : (rate : ℕ) (s : State) (a : Arrival) → filled rate s a �
 unfolding filled
 filled_within rate s a = rw at_once (omega arith)
 
-above_kept : (a : Above) (arrivals highest fill : ℕ) → above_right a arrivals highest ≡ true
+above_kept : (a : Option ℕ) (arrivals highest fill : ℕ) → above_right a arrivals highest ≡ true
     → above_right (first_above a arrivals fill) (arrivals + 1) (max highest fill) ≡ true
 unfolding pick
-above_kept (above.At i) arrivals highest fill e =
+above_kept (Some i) arrivals highest fill e =
     let h = and_both (ltb i arrivals) (ltb buffer highest) e in
     let index = ltb-true i arrivals h.0 in
     let high = ltb-true buffer highest h.1 in
     rw (lt-ltb i (arrivals + 1) (omega arith), lt-ltb buffer (max highest fill) (omega arith))
-above_kept above.Never arrivals highest fill e =
+above_kept None arrivals highest fill e =
     let low = leb-true highest buffer e in
     case (ltb buffer fill)
     (λ t.

@@ -1,21 +1,14 @@
 -- The replay of a trace through the transport buffer of 000, 3.6.2. The words of document 02, request 2026-11, stand
 -- over each definition. Assumes nothing.
+use Rattle.refusal.specs.declared.Refused.{Refused}
 use Rattle.std.specs.Prelude.{ℕ, zero, suc, ◌+◌, ◌-◌, ◌*◌, max, Bool, false, not, ◌&&◌, ◌||◌, List, [], ◌∷◌, eqb, leb}
-use Rattle.std.specs.Prelude.{ltb, length}
+use Rattle.std.specs.Prelude.{ltb}
+use Rattle.std.specs.Prelude.{length, Result, Ok, Err, Option, Some, None}
 use Rattle.lists.specs.Lists.{pick}
 use Rattle.refusal.specs.Verdict.{Verdict, passed, refused, ◌>>◌, NoValue, given}
-use Rattle.refusal.specs.Number.{refused_by}
+use Rattle.refusal.specs.Number.{refused_by, says}
 use Rattle.ticks.specs.declared.Ticks27.{Ticks27}
-use Rattle.replay.specs.declared.state.Last.{Last}
-use Rattle.replay.specs.declared.state.Last.TheVariants as last
-use Rattle.replay.specs.declared.state.Above.{Above}
-use Rattle.replay.specs.declared.state.Above.TheVariants as above
 use Rattle.replay.specs.declared.state.State.{State}
-use Rattle.replay.specs.declared.arrival.Arrived.{Arrived}
-use Rattle.replay.specs.declared.arrival.Arrived.TheVariants as arrived
-use Rattle.replay.specs.declared.running.Answer.{Answer}
-use Rattle.replay.specs.declared.running.Answer.TheVariants as answer
-use Rattle.replay.specs.declared.running.RunResult.{RunResult}
 
 -- ---- the figures
 -- "27,000,000": the ticks of 27 MHz in a second
@@ -64,21 +57,21 @@ rate_wrong rate = ltb rate 1 || ltb most_rate rate
 -- ---- one arrival
 -- "A fresh state has fill and highest fill 0, no last time and no arrivals." None was above.
 abbrev pub fresh : State
-fresh = record { fill = 0; highest = 0; last = last.Never; arrivals = 0; above = above.Never }
+fresh = record { fill = 0; highest = 0; last = None; arrivals = 0; above = None }
 
 -- 46: "for a time that goes back or over 27,000,000 ticks since the last"
-abbrev pub time_wrong : Last → Ticks27 → Bool
-time_wrong last.Never t = false
-time_wrong (last.At l) t = ltb t.0 l.0 || ltb second (t.0 - l.0)
+abbrev pub time_wrong : (Option Ticks27) → Ticks27 → Bool
+time_wrong None t = false
+time_wrong (Some l) t = ltb t.0 l.0 || ltb second (t.0 - l.0)
 
 -- 47: "for a byte count outside these bounds or an arrival past the 1,000,000th since the fresh state"
 unfoldable pub arrival_wrong : ℕ → ℕ → Bool
 arrival_wrong arrivals bytes = ltb most_bytes bytes || leb most_arrivals arrivals
 
 -- the ticks since the last time; none where there is no last time
-abbrev pub elapsed : Last → Ticks27 → ℕ
-elapsed last.Never t = 0
-elapsed (last.At l) t = t.0 - l.0
+abbrev pub elapsed : (Option Ticks27) → Ticks27 → ℕ
+elapsed None t = 0
+elapsed (Some l) t = t.0 - l.0
 
 -- "each elapsed tick takes off the rate, never below zero": the difference of natural numbers is never below zero
 unfoldable pub drained : ℕ → ℕ → ℕ → ℕ
@@ -90,9 +83,9 @@ unfoldable pub filled : ℕ → State → Arrival → ℕ
 filled rate s a = drained rate (elapsed s.last a.time) s.fill + fill_of a.bytes
 
 -- "the index of the first arrival above 4,096 times 27,000,000, or none": after an arrival of this index with this fill
-abbrev pub first_above : Above → ℕ → ℕ → Above
-first_above (above.At i) index fill = above.At i
-first_above above.Never index fill = pick (ltb buffer fill) (above.At index) above.Never
+abbrev pub first_above : (Option ℕ) → ℕ → ℕ → (Option ℕ)
+first_above (Some i) index fill = Some i
+first_above None index fill = pick (ltb buffer fill) (Some index) None
 
 -- the state after an arrival. "As counted since the fresh state": the first arrival since then has index 0
 unfoldable pub after : ℕ → State → Arrival → State
@@ -100,7 +93,7 @@ after rate s a =
     record {
       fill = filled rate s a;
       highest = max s.highest (filled rate s a);
-      last = last.At a.time;
+      last = Some a.time;
       arrivals = s.arrivals + 1;
       above = first_above s.above s.arrivals (filled rate s a);
     }
@@ -111,6 +104,11 @@ arriving rate s a = do
   given 46 (time_wrong s.last a.time)
   given 47 (arrival_wrong s.arrivals a.bytes)
   passed (after rate s a)
+
+-- what an arrival returned, and the state that it left
+abbrev pub arrived_says : Result NoValue Refused → State → Verdict State
+arrived_says (Ok tt) t = passed t
+arrived_says (Err r) t = refused_by r
 
 -- ---- a run
 -- what a run says, and the state that it hands back: its highest fill and first arrival above are the report
@@ -139,14 +137,14 @@ replay s rate times counts =
 
 -- ---- the states that runs speak of
 -- there is a last time exactly where there were arrivals
-abbrev pub last_right : Last → ℕ → Bool
-last_right last.Never arrivals = eqb arrivals 0
-last_right (last.At t) arrivals = ltb 0 arrivals
+abbrev pub last_right : (Option Ticks27) → ℕ → Bool
+last_right None arrivals = eqb arrivals 0
+last_right (Some t) arrivals = ltb 0 arrivals
 
 -- there is a first arrival above exactly where the highest fill is above, and it is one of the arrivals
-abbrev pub above_right : Above → ℕ → ℕ → Bool
-above_right above.Never arrivals highest = leb highest buffer
-above_right (above.At i) arrivals highest = ltb i arrivals && ltb buffer highest
+abbrev pub above_right : (Option ℕ) → ℕ → ℕ → Bool
+above_right None arrivals highest = leb highest buffer
+above_right (Some i) arrivals highest = ltb i arrivals && ltb buffer highest
 
 -- No more arrivals than are allowed, no more fill than the highest, no higher fill than the arrivals can have brought,
 -- and a last time and a first arrival above that go with them. The fresh state is valid, and every run keeps it:
@@ -163,14 +161,10 @@ valid s =
 unfoldable pub running : State → ℕ → List ℕ → List ℕ → Replayed
 running s rate times counts = pick (valid s) (replay s rate times counts) (refused_at 47 0 s)
 
--- ---- what the answers of the code say
-abbrev pub arrived_says : Arrived → Verdict State
-arrived_says (arrived.State s) = passed s
-arrived_says (arrived.Refused r) = refused_by r
-
-abbrev pub answer_says : Answer → Verdict NoValue
-answer_says answer.Done = passed tt
-answer_says (answer.Refused r) = refused_by r
+-- what a run returned, and the state that it left
+pub record RunResult : Type 0 where
+  pub answer : Result NoValue Refused
+  pub state : State
 
 abbrev pub ran_says : RunResult → Replayed
-ran_says r = record { verdict = answer_says r.answer; state = r.state }
+ran_says r = record { verdict = says r.answer; state = r.state }

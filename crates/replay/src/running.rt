@@ -1,75 +1,42 @@
 // A run over a trace.
-ghost use Rattle.std.specs.Prelude.{◌≡◌, true, false, length};
-ghost use Rattle.refusal.specs.Number.{number_of};
-ghost use Rattle.replay.specs.Replay.{trace, replay_from, running, refused_at, rate_wrong, valid, ran_says};
+ghost use Rattle.std.specs.Prelude.{◌≡◌, length};
+ghost use Rattle.replay.specs.Replay.{trace, replay_from, running, ran_says};
 
-use crate::arrival::{Arrived, arrive, rate_wrong};
-use crate::state::{State, is_valid};
+use crate::arrival::{Replay, rate_wrong};
+use crate::state::State;
 use refusal::{Refusal, Refused};
 use ticks::Ticks27;
 
-// Nothing was refused, or the refusal.
-#[derive(Drop)]
-pub enum Answer {
-    Done,
-    Refused(Refused),
-}
-
-// The answer, and the state that the run left.
-#[derive(Drop)]
-pub struct RunResult {
-    pub answer: Answer,
-    pub state: State,
-}
-
-// A refusal, and the state that it leaves.
-fn refuse(why: Refusal, place: usize, state: State) -> RunResult
-    ensures { ran_says result ≡ refused_at (number_of why) place state }
-{
-    RunResult {
-        answer: Answer::Refused(Refused { why, place }),
-        state,
-    }
-}
-
-// The arrivals in turn.
-fn replay_all(state: State, rate: u64, times: &[u64], counts: &[u64]) -> RunResult
-    requires { (rate_wrong rate ≡ false) × (valid state ≡ true) × (length times.now ≡ length counts.now) }
-    ensures { ran_says result ≡ replay_from 0 rate state (trace times.now counts.now) }
-{
-    let mut at = state;
-    let mut i: usize = 0;
-    while i < times.len() {
-        let arrived = arrive(at, rate, Ticks27(times[i]), counts[i]);
-        match arrived {
-            Arrived::Refused(refused) => {
-                let why = refused.why;
-                return refuse(why, i, at);
-            }
-            Arrived::State(next) => {
-                at = next;
-                i += 1;
-            }
+impl State {
+    // Runs over a trace from this state: the times and the byte counts of its arrivals. Returns refusal 47 at place 0
+    // if the state is not one that runs lead to, if the rate is outside its bounds, or if the two lists differ in
+    // length; then 46 or 47 at the index of the first arrival that is refused. The state is then that before this
+    // arrival.
+    pub fn run(&mut self, rate: u64, times: &[u64], counts: &[u64]) -> Result<(), Refused>
+        ensures { ran_says (record { answer = result; state = self.new })
+            ≡ running self.old rate times.now counts.now }
+    {
+        if !self.is_valid() || rate_wrong(rate) || times.len() != counts.len() {
+            return Err(Refusal::ReplayBounds.at(0));
         }
-    }
-    RunResult {
-        answer: Answer::Done,
-        state: at,
+        let mut replay = Replay { state: *self, rate };
+        let ran = replay.run(times, counts);
+        *self = replay.state;
+        ran
     }
 }
 
-// A run over a trace from a state: the times and the byte counts of its arrivals; 47, and at each arrival 46, 47.
-pub fn run(state: State, rate: u64, times: &[u64], counts: &[u64]) -> RunResult
-    ensures { ran_says result ≡ running state rate times.now counts.now }
-{
-    if !is_valid(state) {
-        return refuse(Refusal::REPLAY_BOUNDS, 0, state);
+impl Replay {
+    // Takes the arrivals in turn, up to the first that is refused; the place of the refusal is its index.
+    fn run(&mut self, times: &[u64], counts: &[u64]) -> Result<(), Refused>
+        requires { length times.now ≡ length counts.now }
+        ensures { ran_says (record { answer = result; state = self.new.state })
+            ≡ replay_from 0 self.old.rate self.old.state (trace times.now counts.now) }
+    {
+        for (i, (time, count)) in times.iter().zip(counts).enumerate() {
+            self.arrive(Ticks27(*time), *count)
+                .map_err(|refused| refused.why.at(i))?;
+        }
+        Ok(())
     }
-    if rate_wrong(rate) {
-        return refuse(Refusal::REPLAY_BOUNDS, 0, state);
-    }
-    if times.len() != counts.len() {
-        return refuse(Refusal::REPLAY_BOUNDS, 0, state);
-    }
-    replay_all(state, rate, times, counts)
 }

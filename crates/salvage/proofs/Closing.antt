@@ -1,13 +1,15 @@
 -- The writer's form of a legal payload is the payload, but for a closing 03 (`rewritten`). Assumes nothing.
-use Prim.Native.Nat.{ℕ, suc, ◌-◌, ◌≤◌, ◌<◌}
-use mathlib.Core.Bool.{true, false, and-false}
+use Prim.Native.Nat.{ℕ, suc, ◌-◌}
+use Rattle.std.specs.List.{ends_with}
+use Rattle.std.specs.Cmp.Lexicographic.{pointwise}
+use mathlib.Core.Bool.{Bool, true, false, ◌&&◌, and-false}
 use mathlib.Core.Path.{◌≡◌, refl, sym, ap, ◌∙◌}
 use mathlib.Core.Logic.{◌⊎◌, inl, inr}
 use mathlib.Core.List.{[], ◌∷◌, ◌++◌}
 use native.Mathlib.Omega.{arith}
-use borrow.Author.Tests.{eq-eqb, ne_eqb}
+use borrow.Author.Tests.{eq-eqb, ne_eqb, eqb-true, eqb-false}
 use lib.Dec.{eqb}
-use lib.ListN.{length, take, get_or, length-append}
+use lib.ListN.{length, take, drop, length-append}
 use lib.Seq.{take_at}
 use Rattle.lists.specs.Lists.{Bytes, pick}
 use Rattle.lists.proofs.Tests.{case}
@@ -76,40 +78,27 @@ pub rewritten : (p : Bytes) → legal p ≡ true → escape (unescape p) ≡ pic
 rewritten p l = by_form p (legal_unescape p (unescape p) l refl)
 
 -- ---- by the last three bytes
-pub closes_short : (p : Bytes) → length p < 3 → false ≡ closes p
+swap : (m n : ℕ) → eqb m n ≡ eqb n m
+swap m n =
+    case (eqb m n)
+    (λ e. e ∙ sym (eq-eqb n m (sym (eqb-true m n e))))
+    (λ e. e ∙ sym (ne_eqb n m (λ h. eqb-false m n e (sym h))))
+
+joined : (x y z : Bool) → (x && (y && (z && true))) ≡ (x && y && z)
+joined false y z = refl
+joined true false z = refl
+joined true true false = refl
+joined true true true = refl
+
+last_three : (a b c : ℕ) → ends_with eqb (a ∷ b ∷ c ∷ []) (0 ∷ 0 ∷ 3 ∷ []) ≡ marked3 a b c
+last_three a b c = rw (swap a 0, swap b 0, swap c 3) (joined (eqb 0 a) (eqb 0 b) (eqb 3 c))
+
+pub closes_ends : (p : Bytes) → ends_with eqb p (0 ∷ 0 ∷ 3 ∷ []) ≡ closes p
 unfolding closes
-closes_short [] h = refl
-closes_short (a ∷ []) h = refl
-closes_short (a ∷ b ∷ []) h = refl
-closes_short (a ∷ b ∷ c ∷ s) h = absurd (omega arith)
-
-pub closes_last : (p : Bytes) → 3 ≤ length p
-    → marked3 (get_or p (length p - 3) 0) (get_or p (length p - 2) 0) (get_or p (length p - 1) 0) ≡ closes p
-unfolding closes
-closes_last [] h = absurd (omega arith)
-closes_last (a ∷ []) h = absurd (omega arith)
-closes_last (a ∷ b ∷ []) h = absurd (omega arith)
-closes_last (a ∷ b ∷ c ∷ []) h = refl
-closes_last (a ∷ b ∷ c ∷ d ∷ s) h =
-    let t : Bytes = b ∷ c ∷ d ∷ s in
-    let e3 : length (a ∷ t) - 3 ≡ suc (length t - 3) = omega arith in
-    let e2 : length (a ∷ t) - 2 ≡ suc (length t - 2) = omega arith in
-    let e1 : length (a ∷ t) - 1 ≡ suc (length t - 1) = omega arith in
-    (λ i. marked3 (get_or (a ∷ t) (e3 i) 0) (get_or (a ∷ t) (e2 i) 0) (get_or (a ∷ t) (e1 i) 0)) ∙ closes_last (b ∷ c ∷ d ∷ s) (omega arith)
-
-module _ (p : Bytes) (h : 3 ≤ length p) where
-  pub not_first : (get_or p (length p - 3) 0 ≡ 0 → ⊥) → false ≡ closes p
-  not_first n = rw (ne_eqb (get_or p (length p - 3) 0) 0 n) at (closes_last p h)
-
-  pub not_second : (get_or p (length p - 2) 0 ≡ 0 → ⊥) → false ≡ closes p
-  not_second n =
-      let f : marked3 (get_or p (length p - 3) 0) (get_or p (length p - 2) 0) (get_or p (length p - 1) 0) ≡ false =
-      rw (ne_eqb (get_or p (length p - 2) 0) 0 n, and-false (eqb (get_or p (length p - 3) 0) 0)) in
-      sym f ∙ closes_last p h
-
-  pub by_third : get_or p (length p - 3) 0 ≡ 0 → get_or p (length p - 2) 0 ≡ 0 → eqb (get_or p (length p - 1) 0) 3 ≡ closes p
-  by_third a b =
-      let f : marked3 (get_or p (length p - 3) 0) (get_or p (length p - 2) 0) (get_or p (length p - 1) 0) ≡ eqb (get_or p (length p - 1) 0)
-      3 =
-      rw (eq-eqb (get_or p (length p - 3) 0) 0 a, eq-eqb (get_or p (length p - 2) 0) 0 b) in
-      sym f ∙ closes_last p h
+closes_ends [] = refl
+closes_ends (a ∷ []) = and-false (eqb 0 a)
+closes_ends (a ∷ b ∷ []) = ap (λ (t : Bool). eqb 0 a && t) (and-false (eqb 0 b)) ∙ and-false (eqb 0 a)
+closes_ends (a ∷ b ∷ c ∷ []) = last_three a b c
+closes_ends (a ∷ b ∷ c ∷ d ∷ s) =
+    let one : length (a ∷ b ∷ c ∷ d ∷ s) - 3 ≡ suc (length (b ∷ c ∷ d ∷ s) - 3) = omega arith in
+    ap (λ (n : ℕ). pointwise eqb (0 ∷ 0 ∷ 3 ∷ []) (drop n (a ∷ b ∷ c ∷ d ∷ s))) one ∙ closes_ends (b ∷ c ∷ d ∷ s)

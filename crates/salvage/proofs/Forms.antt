@@ -1,4 +1,5 @@
 -- What one tsOBU gives to the result, and its mark; the result is what each gives, in turn. Assumes nothing.
+use Rattle.std.specs.Prelude.{Result, Ok, Err}
 use Prim.Native.Nat.{ℕ, ◌+◌, ◌-◌, ◌≤◌, ◌<◌}
 use mathlib.Core.Bool.{Bool, true, false}
 use mathlib.Core.Path.{◌≡◌, refl, sym, ap, subst, ◌∙◌}
@@ -15,19 +16,21 @@ use Rattle.lists.proofs.Picks.{by_true, by_false}
 use Rattle.lists.proofs.Tests.{case, clash}
 use Rattle.refusal.specs.Verdict.{Verdict, passed, refused, NoValue, given, passes}
 use Rattle.refusal.proofs.Verdicts.{follows, stops, not_given, passed_after, given_passed, All}
-use Rattle.refusal.specs.Number.{number_of}
+use Rattle.refusal.specs.Number.{number_of, says}
 use Rattle.refusal.specs.declared.Refused.{Refused}
 use Rattle.emulation.specs.Payload.{unescape, escape}
 use Rattle.emulation.proofs.Steps.{given_or_dropped}
-use Rattle.obu.specs.Header.{header_of, obu_refusal}
-use Rattle.obu.specs.Order.{kind_number, number_said}
+use Rattle.std.specs.Prelude.{Some}
+use Rattle.obu.specs.Header.{obu_refusal}
+use Rattle.obu.specs.Order.{Kind, kind_of, kind_of_number, kind_number}
+use Rattle.obu.specs.Table.{kind_meant}
+use Rattle.obu.specs.declared.ordering.Kind as code_kind
+use Rattle.obu.proofs.Headers.{header_kind}
 use Rattle.unit.specs.Unit.{most_obu_bytes, sum, carried}
 use Rattle.tsobu.specs.StartCodes.{payloads}
 use Rattle.tsobu.specs.TsObu.{tsobu_refusal}
-use Rattle.tsobu.specs.TsObu.{tsobu_figures, tsobu_says}
+use Rattle.tsobu.specs.TsObu.{tsobu_figures}
 use Rattle.tsobu.specs.declared.judging.Figures.{Figures}
-use Rattle.tsobu.specs.declared.judging.TsObu.{TsObu}
-use Rattle.tsobu.specs.declared.judging.TsObu.TheVariants as tsobu
 use Rattle.unit.proofs.Writings.{code_over}
 use Rattle.unit.proofs.Theorem.{tsobu_legal}
 use Rattle.unit.proofs.Accepted.{tsobu_obu}
@@ -133,10 +136,10 @@ closes_some (a ∷ []) e = clash e refl
 closes_some (a ∷ b ∷ []) e = clash e refl
 closes_some (a ∷ b ∷ c ∷ s) e = omega arith
 
-module _ (p : Bytes) (e : salvage_refusal p ≡ passed tt) (kind size : ℕ) (k : kind ≡ number_said (header_of (unescape p)))
+module _ (p : Bytes) (e : salvage_refusal p ≡ passed tt) (kind : code_kind.Kind) (size : ℕ) (k : kind_meant kind ≡ kind_of (unescape p))
     (z : size ≡ length (unescape p)) where
-  kind_is : kind ∷ [] ≡ kinds_of (kept_of (p ∷ []))
-  kind_is = ap (λ (n : ℕ). n ∷ []) k ∙ sym (ap kinds_of (kept_one_lem p (ap passes e)))
+  kind_is : kind_meant kind ∷ [] ≡ kinds_of (kept_of (p ∷ []))
+  kind_is = ap (λ (n : Kind). n ∷ []) k ∙ sym (ap kinds_of (kept_one_lem p (ap passes e)))
 
   size_is : size ≡ bytes_of (kept_of (p ∷ []))
   unfolding sum
@@ -145,7 +148,7 @@ module _ (p : Bytes) (e : salvage_refusal p ≡ passed tt) (kind size : ℕ) (k 
   size_within : size ≤ length p
   size_within = omega (arith, z, given_or_dropped p)
 
-  given_closed : closes p ≡ true → OneOf p (record { mark = 1; bytes = length p + 2; kept = 1; kind = kind; size = size })
+  given_closed : closes p ≡ true → OneOf p (record { mark = 1; bytes = length p + 2; kept = Some (record { kind = kind; size = size }) })
   given_closed c =
       let f = closed_form p e c in
       let some = closes_some p c in
@@ -161,7 +164,7 @@ module _ (p : Bytes) (e : salvage_refusal p ≡ passed tt) (kind size : ℕ) (k 
         within = size_within;
       }
 
-  given_plain : closes p ≡ false → OneOf p (record { mark = 0; bytes = length p + 3; kept = 1; kind = kind; size = size })
+  given_plain : closes p ≡ false → OneOf p (record { mark = 0; bytes = length p + 3; kept = Some (record { kind = kind; size = size }) })
   given_plain c =
       let f = plain_form p e c in
       let n : length p ≤ length p + 3 - 3 = omega arith in
@@ -223,6 +226,13 @@ kept_few p =
     (λ e. omega (arith, ap length (kept_one_lem p e)))
     (λ e. omega (arith, ap length (kept_none p e)))
 
+pub kept_within : (p : Bytes) → bytes_of (kept_of (p ∷ [])) ≤ length p
+unfolding sum
+kept_within p =
+    case (keeps p)
+    (λ e. omega (arith, given_or_dropped p, ap bytes_of (kept_one_lem p e)))
+    (λ e. omega (arith, ap bytes_of (kept_none p e)))
+
 -- each passes by itself
 pub keeps_passed : (p : Bytes) → keeps p ≡ true → salvage_refusal p ≡ passed tt
 keeps_passed p = passes_passed (salvage_refusal p)
@@ -242,13 +252,11 @@ kept_fine (p ∷ ps) =
     (all_append (λ b. obu_refusal b ≡ passed tt) (kept_of (p ∷ [])) (kept_of ps) (one_fine p) (kept_fine ps))
 
 -- ---- one tsOBU, by the answer on its payload
-module _ (p : Bytes) (q : TsObu) (e : tsobu_says q ≡ tsobu_figures p) where
-  pub judged_refused : (r : Refused) → q ≡ tsobu.Refused r → (n : ℕ) → n ≡ number_of r.why → OneOf p (dropped_one n)
-  judged_refused r k n f =
-      subst (λ (m : ℕ). OneOf p (dropped_one m)) (sym f)
-      (given_dropped p (number_of r.why) r.place (refused_here p (number_of r.why) r.place (tsobu_refused p q r e k)))
+module _ (p : Bytes) (q : Result Figures Refused) (e : says q ≡ tsobu_figures p) where
+  pub judged_refused : (r : Refused) → q ≡ Err r → OneOf p (dropped_one (number_of r.why))
+  judged_refused r k = given_dropped p (number_of r.why) r.place (refused_here p (number_of r.why) r.place (tsobu_refused p q r e k))
 
-  module _ (f : Figures) (k : q ≡ tsobu.Passed f) where
+  module _ (f : Figures) (k : q ≡ Ok f) where
     judged_as : Passes p f
     judged_as = tsobu_passed p q f e k
 
@@ -258,8 +266,9 @@ module _ (p : Bytes) (q : TsObu) (e : tsobu_says q ≡ tsobu_figures p) where
     pub judged_size : length p - f.dropped ≡ length (unescape p)
     judged_size = omega (arith, given_or_dropped p, judged_as.dropped_is)
 
-    pub judged_kind : (n : ℕ) → n ≡ kind_number f.header → n ≡ number_said (header_of (unescape p))
-    judged_kind n g = g ∙ sym (ap number_said judged_as.header)
+    pub judged_kind : (n : code_kind.Kind) → kind_meant n ≡ kind_of_number (kind_number f.header)
+        → kind_meant n ≡ kind_of (unescape p)
+    judged_kind n g = header_kind (unescape p) f.header n g judged_as.header
 
     pub judged_large : most_obu_bytes < length p - f.dropped → OneOf p (dropped_one 2)
     judged_large h = given_dropped p 2 0 (too_large p judged_as.tries (omega (arith, judged_size)))

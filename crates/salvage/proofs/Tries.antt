@@ -1,24 +1,26 @@
 -- Salvaging, try by try; and a unit from its first start code on. Assumes nothing.
 use Prim.Native.Nat.{ℕ, ◌+◌, ◌≤◌, ◌<◌}
 use mathlib.Core.Bool.{Bool, true, false, ◌||◌, or-true}
-use mathlib.Core.Path.{◌≡◌, sym, ap, ap₂, subst, ◌∙◌}
-use mathlib.Core.Logic.{◌⊎◌, inl, inr}
+use mathlib.Core.Path.{◌≡◌, sym, ap, ap₂, ◌∙◌}
 use mathlib.Core.List.{List, [], ◌∷◌, map}
 use native.Mathlib.Omega.{arith}
 use borrow.Author.Tests.{lt-ltb, le-ltb, ltb-false}
 use lib.Dec.{ltb}
 use lib.ListN.{length, take, drop, length-append}
+use lib.Seq.{length-take-le}
+use Rattle.obu.specs.Order.{Kind}
+use Rattle.obu.specs.Table.{kind_meant}
 use Rattle.lists.specs.Lists.{Bytes, those, over}
 use Rattle.refusal.specs.Verdict.{Verdict, passed, refused, leaves}
 use Rattle.refusal.proofs.Verdicts.{refuse, pass_on, refused_leaves}
 use Rattle.unit.specs.Unit.{most_obus, most_carried, read_unit, carried}
-use Rattle.tsobu.specs.StartCodes.{at_start_code, payloads}
-use Rattle.tsobu.proofs.Places.{before, before_ends, before_rest}
+use Rattle.tsobu.specs.StartCodes.{payloads}
+use Rattle.tsobu.proofs.Places.{before, before_rest}
 use Rattle.refusal.specs.Verdict.{passes}
 use Rattle.salvage.specs.Salvage.{kept, salvaged, mark, marks, leading, accepted, figures, salvaging}
 use Rattle.salvage.specs.declared.Figures.{Figures}
 use Rattle.salvage.specs.declared.Measured.{Measured}
-use Rattle.salvage.specs.Parts.{Begins, forms, kept_of, MeasuredOf, acceptable, Ready}
+use Rattle.salvage.specs.Parts.{forms, kept_of, MeasuredOf, acceptable, Ready}
 use Rattle.salvage.proofs.Forms.{salvaged_is, kept_next, kept_few, kept_fine}
 use Rattle.salvage.proofs.Accepting.{accepted_is}
 
@@ -33,13 +35,6 @@ module _ (u body : Bytes) (at : ℕ) (e : at ≡ 0 + before u) (f : body ≡ dro
   pub body_payloads : payloads body ≡ payloads u
   body_payloads = ap payloads body_is ∙ before_rest u
 
-  place_by : (drop (before u) u ≡ []) ⊎ (at_start_code (drop (before u) u) ≡ true) → Begins (drop (before u) u)
-  place_by (inl z) = inl (sym (ap length z))
-  place_by (inr z) = inr z
-
-  pub body_place : Begins body
-  body_place = subst Begins (sym body_is) (place_by (before_ends u))
-
   pub body_forms : forms (payloads body) ≡ salvaged u
   body_forms = ap forms body_payloads ∙ sym (salvaged_is u)
 
@@ -49,24 +44,31 @@ unfolding those
 kept_most [] = omega arith
 kept_most (p ∷ ps) = omega (arith, kept_most ps, kept_few p, ap length (kept_next p ps), length-append (kept_of (p ∷ [])) (kept_of ps))
 
-module _ (body : Bytes) (m : Measured) (o : MeasuredOf body m) (n : m.more ≡ false) where
+module _ (body : Bytes) (m : Measured) (o : MeasuredOf body m) where
   pub few_payloads : m.count ≤ 64
-  few_payloads = omega (arith, o.count n, ltb-false most_obus (length (payloads body)) (sym o.more ∙ n))
+  few_payloads = omega (arith, o.count, ltb-false most_obus (length (payloads body)) (sym o.few))
 
   pub forms_fit : (room : ℕ) → m.bytes ≤ room → length (forms (payloads body)) ≤ room
-  forms_fit room h = omega (arith, o.bytes n)
+  forms_fit room h = omega (arith, o.bytes)
 
   -- what is kept
   pub few_kept : m.kept ≤ 64
-  few_kept = omega (arith, o.kept n, kept_most (payloads body), few_payloads, o.count n)
+  few_kept = omega (arith, o.kept, kept_most (payloads body), few_payloads, o.count)
 
   -- what the code tries of it is reading's verdict on the result
-  pub accepted_measured : acceptable m.kept m.size (take m.kept m.kinds) ≡ passes (read_unit (carried (kept_of (payloads body))))
+  pub accepted_measured : acceptable (length (take m.kept m.kinds)) m.size (map kind_meant (take m.kept m.kinds))
+      ≡ passes (read_unit (carried (kept_of (payloads body))))
   accepted_measured =
       let l = kept_of (payloads body) in
-      ap (λ (k : ℕ). acceptable k m.size (take m.kept m.kinds)) (o.kept n)
-      ∙ ap₂ (λ (b : ℕ) (k : List ℕ). acceptable (length l) b k) (o.size n) (o.kinds n)
-      ∙ accepted_is l (omega (arith, few_kept, o.kept n)) (kept_fine (payloads body))
+      let count : length (take m.kept m.kinds) ≡ length l = omega (
+        arith,
+        length-take-le m.kept m.kinds (omega
+            (arith, few_kept, o.long_kinds)),
+        o.kept,
+      ) in
+      ap (λ (k : ℕ). acceptable k m.size (map kind_meant (take m.kept m.kinds))) count
+      ∙ ap₂ (λ (b : ℕ) (k : List Kind). acceptable (length l) b k) o.size o.kinds
+      ∙ accepted_is l (omega (arith, few_kept, o.kept)) (kept_fine (payloads body))
 
 -- ---- the tries
 module _ (u : Bytes) (bytes room : ℕ) where
@@ -112,59 +114,58 @@ pub refused_all : {number : ℕ} {v : Verdict Figures} (u out : Bytes) (room : L
     → refused number 0 ≡ salvaging u (length out) (length room) → Salvages u out room v out room
 refused_all u out room e f = (e ∙ f, (refused_leaves _ out e, refused_leaves _ room e))
 
--- a unit, what stands from its first start code on, and what was measured of that
-pub record Found (u body : Bytes) (at : ℕ) (m : Measured) : Type 0 where
+-- a unit, and what stands from its first start code on
+pub record Found (u body : Bytes) (at : ℕ) : Type 0 where
   pub first : at ≡ 0 + before u
   pub rest : body ≡ drop at u
-  pub measured : MeasuredOf body m
   pub within : length u ≤ most_carried
 
-module _ {u body : Bytes} {at : ℕ} {m : Measured} (f : Found u body at m) (out : Bytes) (room : List ℕ) where
+module _ {u body : Bytes} {at : ℕ} (f : Found u body at) (out : Bytes) (room : List ℕ) where
   same_payloads : payloads body ≡ payloads u
   same_payloads = body_payloads u body at f.first f.rest
 
   same_forms : forms (payloads body) ≡ salvaged u
   same_forms = body_forms u body at f.first f.rest
 
-  many_is : (b : Bool) → m.more ≡ b → ltb most_obus (length (payloads u)) ≡ b
-  many_is b k = ap (λ (ps : List Bytes). ltb most_obus (length ps)) (sym same_payloads) ∙ sym f.measured.more ∙ k
+  many_is : (b : Bool) → b ≡ ltb most_obus (length (payloads body)) → ltb most_obus (length (payloads u)) ≡ b
+  many_is b k = ap (λ (ps : List Bytes). ltb most_obus (length ps)) (sym same_payloads) ∙ sym k
 
-  pub many_all : {v : Verdict Figures} → v ≡ refused 1 0 → m.more ≡ true → Salvages u out room v out room
+  pub many_all : {v : Verdict Figures} → v ≡ refused 1 0 → true ≡ ltb most_obus (length (payloads body)) → Salvages u out room v out room
   many_all r k = refused_all u out room r (too_many u (length out) (length room) f.within (many_is true k))
 
-  module _ (k : m.more ≡ false) where
+  -- what was measured of it
+  module _ {m : Measured} (o : MeasuredOf body m) where
     bytes_is : m.bytes ≡ length (salvaged u)
-    bytes_is = f.measured.bytes k ∙ ap length same_forms
+    bytes_is = o.bytes ∙ ap length same_forms
 
     count_is : m.count ≡ length (payloads u)
-    count_is = f.measured.count k ∙ ap length same_payloads
+    count_is = o.count ∙ ap length same_payloads
 
     kept_is : m.kept ≡ length (kept u)
-    kept_is = f.measured.kept k ∙ ap (λ (ps : List Bytes). length (kept_of ps)) same_payloads
+    kept_is = o.kept ∙ ap (λ (ps : List Bytes). length (kept_of ps)) same_payloads
 
     pub bytes_all : {v : Verdict Figures} → v ≡ refused 8 0 → length out < m.bytes → Salvages u out room v out room
     bytes_all r j =
-        refused_all u out room r (short_bytes u (length out) (length room) f.within (many_is false k) (omega (arith, bytes_is)))
+        refused_all u out room r (short_bytes u (length out) (length room) f.within (many_is false o.few) (omega (arith, bytes_is)))
 
     pub marks_all : {v : Verdict Figures} → v ≡ refused 8 0 → length room < m.count → Salvages u out room v out room
     marks_all r j =
-        refused_all u out room r (short_marks u (length out) (length room) f.within (many_is false k) (omega (arith, count_is)))
+        refused_all u out room r (short_marks u (length out) (length room) f.within (many_is false o.few) (omega (arith, count_is)))
 
     pub put_asked : m.bytes ≤ length out → m.count ≤ length room → Ready body m out room
-    put_asked i j =
-        record { begins = body_place u body at f.first f.rest; measured = f.measured; all = k; bytes = i; count = j }
+    put_asked i j = record { measured = o; bytes = i; count = j }
 
     pub put_all : m.bytes ≤ length out → m.count ≤ length room → (ok : Bool) (after : Bytes) (marked : List ℕ)
-        → ok ≡ acceptable m.kept m.size (take m.kept m.kinds) → after ≡ over (forms (payloads body)) out
-        → marked ≡ over (map mark (payloads body)) room
+        → ok ≡ acceptable (length (take m.kept m.kinds)) m.size (map kind_meant (take m.kept m.kinds))
+        → after ≡ over (forms (payloads body)) out → marked ≡ over (map mark (payloads body)) room
         → Salvages u out room (passed (record { bytes = m.bytes; tsobus = m.count; kept = m.kept; leading = at; accepted = ok }))
         after marked
     unfolding leaves
     put_all i j ok after marked a p q =
         let lead : at ≡ leading u = at_is u body at f.first f.rest in
         let yes : ok ≡ accepted u =
-        a ∙ accepted_measured body m f.measured k ∙ ap (λ (ps : List Bytes). passes (read_unit (carried (kept_of ps)))) same_payloads in (
-          all_fits u (length out) (length room) f.within (many_is false k) (omega (arith, bytes_is)) (omega (arith, count_is)) _
+        a ∙ accepted_measured body m o ∙ ap (λ (ps : List Bytes). passes (read_unit (carried (kept_of ps)))) same_payloads in (
+          all_fits u (length out) (length room) f.within (many_is false o.few) (omega (arith, bytes_is)) (omega (arith, count_is)) _
               (λ x. record { bytes = bytes_is x; tsobus = count_is x; kept = kept_is x; leading = lead x; accepted = yes x }),
           (p ∙ ap (λ (w : Bytes). over w out) same_forms, q ∙ ap (λ (ps : List Bytes). over (map mark ps) room) same_payloads),
         )

@@ -3,14 +3,11 @@
 use Rattle.std.specs.Prelude.{ℕ, Bool, false, ◌||◌, List, [], ◌∷◌, map, ltb, length}
 use Rattle.lists.specs.Lists.{Bytes, pick, those}
 use Rattle.refusal.specs.Verdict.{Verdict, passed, refused, ◌>>◌, NoValue, given, passes}
-use Rattle.refusal.specs.Number.{refused_by}
 use Rattle.emulation.specs.Payload.{unescape, marked3}
 use Rattle.unit.specs.Unit.{most_obus, most_obu_bytes, most_carried, read_unit, carried}
 use Rattle.tsobu.specs.StartCodes.{split, payloads}
 use Rattle.tsobu.specs.TsObu.{tsobu_refusal}
 use Rattle.salvage.specs.declared.Figures.{Figures}
-use Rattle.salvage.specs.declared.Salvaged.{Salvaged}
-use Rattle.salvage.specs.declared.Salvaged.TheVariants as answer
 
 -- ---- one tsOBU, by its payload
 -- "pass 3, 10, 4, 5, 6, 42 and then 2 for an OBU above 1,048,576 bytes"
@@ -84,8 +81,3 @@ salvaging s bytes room = do
   given 1 (ltb most_obus (length (payloads s)))
   given 8 (ltb bytes (length (salvaged s)) || ltb room (length (payloads s)))
   passed (figures s)
-
--- ---- what the code's answer says
-abbrev pub salvage_says : Salvaged → Verdict Figures
-salvage_says (answer.Result f) = passed f
-salvage_says (answer.Refused r) = refused_by r

@@ -2,20 +2,21 @@
 // its closing 03, so that what is kept is only copied.
 #![tactic(auto)]
 
-ghost use Rattle.std.specs.Prelude.{◌≡◌, map, ◌≤◌, length, take};
+ghost use Rattle.std.specs.Prelude.{◌≡◌, map, ◌≤◌, length};
 ghost use Rattle.lists.specs.Lists.{over};
-ghost use Rattle.refusal.specs.Verdict.{refused, leaves};
-ghost use Rattle.refusal.specs.Number.{number_of};
+ghost use Rattle.refusal.specs.Verdict.{leaves};
+ghost use Rattle.refusal.specs.Number.{number_of, says};
+ghost use Rattle.obu.specs.Table.{kind_meant};
 ghost use Rattle.tsobu.specs.StartCodes.{payloads};
 ghost use Rattle.salvage.specs.Salvage.{closes as salvage_closes, mark as salvage_mark};
-ghost use Rattle.salvage.specs.Salvage.{marks as salvage_marks, salvaged, salvaging, salvage_says};
-ghost use Rattle.salvage.specs.Parts.{Begins, form, forms, dropped_one, kept_one, OneOf, MeasuredOf, Ready};
-ghost use Rattle.salvage.specs.Parts.{acceptable};
+ghost use Rattle.salvage.specs.Salvage.{marks as salvage_marks, salvaged, salvaging};
+ghost use Rattle.salvage.specs.Parts.{form, forms, dropped_one, kept_one, OneOf, added, HasRoom};
+ghost use Rattle.salvage.specs.Parts.{Measures, Ready, acceptable};
 
 use lists::copy;
-use obu::Ordered;
+use obu::Kind;
 use refusal::{Refusal, Refused};
-use tsobu::TsObu;
+use tsobu::Payloads;
 use unit::{MOST_CARRIED, MOST_OBU_BYTES, MOST_OBUS};
 
 // The bytes of the result, the tsOBUs of the input, how many of them were kept, the leading bytes dropped, and whether
@@ -29,111 +30,105 @@ pub struct Figures {
     pub accepted: bool,
 }
 
-#[derive(Drop)]
-pub enum Salvaged {
-    Result(Figures),
-    Refused(Refused),
+// The kind and the bytes of an OBU that is kept.
+#[derive(Clone, Copy, Drop)]
+struct Kept {
+    kind: Kind,
+    size: usize,
 }
 
-// A tsOBU's mark and how many bytes it gives to the result; kept is 1 where it is kept, with the number of its OBU's
-// kind and the OBU's bytes, otherwise 0.
+// A tsOBU's mark, how many bytes it gives to the result, and its OBU if it is kept.
 #[derive(Drop)]
 struct One {
     mark: u8,
     bytes: usize,
-    kept: usize,
-    kind: u8,
-    size: usize,
+    kept: Option<Kept>,
 }
 
-// The tsOBUs of a string that begins with a start code: their count and marks, of at most 64, the bytes of the result;
-// and of what is kept the count, the numbers of the OBUs' kinds and their bytes. more says that there are more tsOBUs.
+// The tsOBUs of a string: their count and marks, and the bytes of the result; and of what is kept the count, the kinds
+// of the OBUs and their bytes.
 #[derive(Clone, Copy)]
 struct Measured {
-    more: bool,
     count: usize,
     bytes: usize,
+    // Stays: the marks and the kinds are arrays, since there is no heap, and a unit has at most 64 OBUs.
     marks: [u8; MOST_OBUS],
     kept: usize,
-    kinds: [u8; MOST_OBUS],
+    kinds: [Kind; MOST_OBUS],
     size: usize,
 }
 
-// Whether a payload ends in 00 00 03.
+impl Measured {
+    // Adds a tsOBU, for which there is room.
+    fn add(&mut self, one: One)
+        requires { HasRoom self.old one }
+        ensures { self.new ≡ added self.old one }
+    {
+        self.marks[self.count] = one.mark;
+        self.count += 1;
+        self.bytes += one.bytes;
+        if let Some(obu) = one.kept {
+            self.kinds[self.kept] = obu.kind;
+            self.kept += 1;
+            self.size += obu.size;
+        }
+    }
+}
+
+// Returns whether a payload ends in 00 00 03.
 fn closes(payload: &[u8]) -> bool
     ensures { result ≡ salvage_closes payload.now }
 {
-    let n = payload.len();
-    if n < 3 {
-        return false;
-    }
-    if payload[n - 3] != 0 {
-        return false;
-    }
-    if payload[n - 2] != 0 {
-        return false;
-    }
-    payload[n - 1] == 3
+    payload.ends_with(&[0, 0, 3])
 }
 
-// A tsOBU that is dropped with this number.
-fn drop_one(number: u8) -> One
-    ensures { result ≡ dropped_one number }
+// Returns a tsOBU that is dropped with the number of this refusal.
+fn drop_one(why: Refusal) -> One
+    ensures { result ≡ dropped_one (number_of why) }
 {
     One {
-        mark: number,
+        mark: why.number(),
         bytes: 0,
-        kept: 0,
-        kind: 0,
-        size: 0,
+        kept: None,
     }
 }
 
-// A tsOBU that is kept, with the number of its OBU's kind and the OBU's bytes.
-fn keep_one(payload: &[u8], kind: u8, size: usize) -> One
+// Returns a tsOBU that is kept, with this payload, whose OBU has this kind and `size` bytes.
+fn keep_one(payload: &[u8], kind: Kind, size: usize) -> One
     ensures { result ≡ kept_one payload.now kind size }
 {
+    let kept = Some(Kept { kind, size });
     if closes(payload) {
         return One {
             mark: 1,
             bytes: payload.len() + 2,
-            kept: 1,
-            kind,
-            size,
+            kept,
         };
     }
     One {
         mark: 0,
         bytes: payload.len() + 3,
-        kept: 1,
-        kind,
-        size,
+        kept,
     }
 }
 
-// One tsOBU, by its payload: 3, 10, 4, 5, 6, 42, and then 2.
+// Judges one tsOBU by its payload: it is dropped with 3, 10, 4, 5, 6 or 42, then with 2, or kept.
 fn judge_one(payload: &[u8]) -> One
     ensures { OneOf payload.now result }
 {
-    let judged = tsobu::judge_payload(payload);
-    match judged {
-        TsObu::Refused(refused) => {
-            let why = refused.why;
-            drop_one(why.number())
-        }
-        TsObu::Passed(figures) => {
-            let header = figures.header;
+    match tsobu::judge_payload(payload) {
+        Err(refused) => drop_one(refused.why),
+        Ok(figures) => {
             let size = payload.len() - figures.dropped;
             if MOST_OBU_BYTES < size {
-                return drop_one(2);
+                return drop_one(Refusal::Length);
             }
-            let kind = obu::kind_number(header);
-            keep_one(payload, kind, size)
+            keep_one(payload, obu::kind_of(figures.header), size)
         }
     }
 }
 
-// What a tsOBU gives, over the front of an output; answers how many bytes that is.
+// Writes what a tsOBU gives over the front of an output, and returns how many bytes that is.
 fn write_one(payload: &[u8], out: &mut [u8]) -> usize
     requires { length (form payload.now) ≤ length out.old }
     ensures value { result ≡ length (form payload.now) }
@@ -152,87 +147,49 @@ fn write_one(payload: &[u8], out: &mut [u8]) -> usize
     bytes
 }
 
-// The tsOBUs of a string that begins with a start code, or is empty.
-fn measure(body: &[u8]) -> Measured
-    requires { Begins body.now }
-    ensures { MeasuredOf body.now result }
+// Measures the tsOBUs of any string. Returns `None` if there are more than 64.
+fn measure(s: &[u8]) -> Option<Measured>
+    ensures { Measures s.now result }
 {
-    let mut marks = [0u8; MOST_OBUS];
-    let mut kinds = [0u8; MOST_OBUS];
-    let mut count: usize = 0;
-    let mut bytes: usize = 0;
-    let mut kept: usize = 0;
-    let mut size: usize = 0;
-    let mut code: usize = 0;
-    while code < body.len() {
-        if MOST_OBUS <= count {
-            return Measured {
-                more: true,
-                count,
-                bytes,
-                marks,
-                kept,
-                kinds,
-                size,
-            };
+    let mut measured = Measured {
+        count: 0,
+        bytes: 0,
+        marks: [0; MOST_OBUS],
+        kept: 0,
+        kinds: [Kind::Reserved; MOST_OBUS],
+        size: 0,
+    };
+    for payload in Payloads::of(s) {
+        if MOST_OBUS <= measured.count {
+            return None;
         }
-        let start = code + 3;
-        let end = tsobu::find(body, start);
-        let one = judge_one(&body[start..end]);
-        marks[count] = one.mark;
-        count += 1;
-        bytes += one.bytes;
-        kinds[kept] = one.kind;
-        kept += one.kept;
-        size += one.size;
-        code = end;
+        measured.add(judge_one(payload));
     }
-    Measured {
-        more: false,
-        count,
-        bytes,
-        marks,
-        kept,
-        kinds,
-        size,
-    }
+    Some(measured)
 }
 
-// The result, over the front of out.
+// Writes the result over the front of `out`.
 fn write_kept(body: &[u8], out: &mut [u8])
-    requires { Begins body.now × (length (forms (payloads body.now)) ≤ length out.old) }
+    requires { length (forms (payloads body.now)) ≤ length out.old }
     ensures { out.new ≡ over (forms (payloads body.now)) out.old }
 {
     let mut n: usize = 0;
-    let mut code: usize = 0;
-    while code < body.len() {
-        let start = code + 3;
-        let end = tsobu::find(body, start);
-        n += write_one(&body[start..end], &mut out[n..]);
-        code = end; // written
+    for payload in Payloads::of(body) {
+        n += write_one(payload, &mut out[n..]);
     }
 }
 
-// Whether reading accepts the writer's string of so many OBUs that pass, of so many bytes together and with these
-// numbers of their kinds.
-fn is_accepted(count: usize, bytes: usize, kinds: [u8; MOST_OBUS]) -> bool
-    requires { count ≤ 64 }
-    ensures { result ≡ acceptable count bytes (take count kinds) }
+// Returns whether reading accepts the writer's string of OBUs that pass, of `bytes` bytes together and of these kinds.
+fn is_accepted(bytes: usize, kinds: &[Kind]) -> bool
+    ensures { result ≡ acceptable (length kinds.now) bytes (map kind_meant kinds.now) }
 {
-    if count == 0 {
+    if kinds.len() == 0 {
         return false;
     }
-    if MOST_OBU_BYTES < bytes {
-        return false;
-    }
-    let ordered = obu::order(&kinds[..count]);
-    match ordered {
-        Ordered::Refused(_) => false,
-        Ordered::Legal => true,
-    }
+    bytes <= MOST_OBU_BYTES && obu::order_kinds(kinds).is_ok()
 }
 
-// The result over the front of out and the marks over the front of marks, which have room.
+// Writes the result over the front of `out` and the marks over the front of `marks`, which have room.
 fn put(body: &[u8], measured: Measured, out: &mut [u8], marks: &mut [u8])
     requires { Ready body.now measured out.old marks.old }
     ensures out_after { out.new ≡ over (forms (payloads body.now)) out.old }
@@ -240,46 +197,37 @@ fn put(body: &[u8], measured: Measured, out: &mut [u8], marks: &mut [u8])
         ≡ over (map salvage_mark (payloads body.now)) marks.old }
 {
     write_kept(body, out);
-    let count = measured.count;
-    let found = measured.marks;
-    copy(&found[..count], marks);
+    copy(&measured.marks[..measured.count], marks);
 }
 
-fn refuse(why: Refusal) -> Salvaged
-    ensures { salvage_says result ≡ refused (number_of why) 0 }
-{
-    Salvaged::Refused(Refused { why, place: 0 })
-}
-
-// The good tsOBUs of a unit, each in the writer's form, over the front of out, and a mark for each original one over
-// the front of marks: 0 kept, 1 kept with a closing 03 removed, or the number that it was dropped with; 2 for the
-// carried length, 1 for more than 64 tsOBUs, 8 last.
-pub fn salvage(unit: &[u8], out: &mut [u8], marks: &mut [u8]) -> Salvaged
-    ensures result_value { salvage_says result
+// Writes the good tsOBUs of a unit, each in the writer's form, over the front of `out`, and a mark for each original
+// one over the front of `marks`: 0 kept, 1 kept with a closing 03 removed, or the number that it was dropped with.
+// Returns the figures, or refusal 2 for the carried length, 1 for more than 64 tsOBUs, or 8; both outputs are then left
+// unchanged.
+pub fn salvage(unit: &[u8], out: &mut [u8], marks: &mut [u8]) -> Result<Figures, Refused>
+    ensures result_value { says result
         ≡ salvaging unit.now (length out.old) (length marks.old) }
-    ensures out_after { out.new ≡ leaves (salvage_says result) (salvaged unit.now) out.old }
+    ensures out_after { out.new ≡ leaves (says result) (salvaged unit.now) out.old }
     ensures marks_after { marks.new
-        ≡ leaves (salvage_says result) (salvage_marks unit.now) marks.old }
+        ≡ leaves (says result) (salvage_marks unit.now) marks.old }
 {
     if MOST_CARRIED < unit.len() {
-        return refuse(Refusal::LENGTH);
+        return Err(Refusal::Length.at(0));
     }
     let leading = tsobu::find(unit, 0);
     let body = lists::rest(unit, leading);
-    let measured = measure(body);
-    if measured.more {
-        return refuse(Refusal::OBU_COUNT);
-    }
+    let Some(measured) = measure(body) else {
+        return Err(Refusal::ObuCount.at(0));
+    };
     if out.len() < measured.bytes {
-        return refuse(Refusal::NO_ROOM);
+        return Err(Refusal::NoRoom.at(0));
     }
     if marks.len() < measured.count {
-        return refuse(Refusal::NO_ROOM);
+        return Err(Refusal::NoRoom.at(0));
     }
     put(body, measured, out, marks);
-    let kinds = measured.kinds;
-    let accepted = is_accepted(measured.kept, measured.size, kinds);
-    Salvaged::Result(Figures {
+    let accepted = is_accepted(measured.size, &measured.kinds[..measured.kept]);
+    Ok(Figures {
         bytes: measured.bytes,
         tsobus: measured.count,
         kept: measured.kept,

@@ -1,10 +1,10 @@
 -- 2026-04: what the check's outputs hold, cut by the lengths, are the accepted units, and the four bytes of the map are those of the video
 -- descriptor; the sequence headers before the frames are all of them; so the comparison of these is the one of the definition. Assumes
 -- nothing.
+use Rattle.std.specs.Prelude.{Option, None}
 use Prim.Native.Nat.{ℕ}
 use mathlib.Core.Path.{◌≡◌, refl, sym, ap, ap₂, ◌∙◌}
 use mathlib.Core.List.{List, [], ◌∷◌, ◌++◌, map, flatten, append_assoc}
-use mathlib.Core.Option.{Option, none}
 use lib.ListN.{length, take, drop, length-map}
 use lib.Seq.{take_at, drop_at}
 use Rattle.lists.specs.Lists.{Bytes, over}
@@ -20,7 +20,6 @@ use Rattle.comparison.specs.Comparison.{sequence_headers, headers_before_frame, 
 use Rattle.comparison.proofs.Frames.{all_before_frame}
 use Rattle.pmt.specs.Pmt.{video_descriptors}
 use Rattle.pmt.specs.Answer.{video_of}
-use Rattle.pmt.specs.declared.loops.Video.{Video}
 use Rattle.pmt.specs.declared.section.ProgramMap.{ProgramMap}
 use Rattle.segment_rules.specs.State.{AccessUnit}
 use Rattle.segment_rules.specs.Rules.{Rooms, carried_units}
@@ -28,10 +27,8 @@ use Rattle.segment_rules.specs.Check.{Accepted, Outputs, check_segment, check_in
 use Rattle.segment_rules.proofs.Accepting.{units_accepted}
 use Rattle.segment_rules.specs.Comparison.{Answered, compared_with, compared, check_compared}
 use Rattle.segment.specs.declared.checking.Summary.{Summary}
-use Rattle.segment.specs.declared.checking.SegmentCheck.{SegmentCheck}
-use Rattle.segment.specs.declared.checking.SegmentCheck.TheVariants as checked
-use Rattle.segment.specs.Answer.{summary_of, summarised, checking, map_after, map_in, map_checked, disagreement_of, check_says}
-use Rattle.segment.specs.Parts.{disagreeing, disagreement_in}
+use Rattle.segment.specs.Answer.{summary_of, summarised, checking, map_after, map_in, map_checked, disagreement_of}
+use Rattle.segment.specs.Parts.{disagreeing}
 
 -- ---- strings back to back, cut by their lengths
 cut : (l : List Bytes) (rest : Bytes) → obus_of (map length l) (flatten l ++ rest) ≡ l
@@ -87,17 +84,17 @@ module _ (rooms : Rooms) (s : Bytes) where
 
   -- a refused segment
   refused_beside : (edition : Edition) (number place : ℕ) (w : Verdict Accepted) → refused number place ≡ summarised w
-      → none ≡ disagreement_of (beside edition w)
+      → None ≡ disagreement_of (beside edition w)
   unfolding summarised ◌>>=◌
   refused_beside edition number place (passed a) e = never e
   refused_beside edition number place (refused m i) e = refl
 
-  refused_in : (number place : ℕ) (v : Verdict Edition) → refused number place ≡ summarised (checks v) → none ≡ disagreement_of (answers v)
+  refused_in : (number place : ℕ) (v : Verdict Edition) → refused number place ≡ summarised (checks v) → None ≡ disagreement_of (answers v)
   unfolding ◌>>=◌
   refused_in number place (passed edition) e = refused_beside edition number place (check_segment edition rooms s) e
   refused_in number place (refused m i) e = refl
 
-  none_refused : (n : ℕ) (r : Refused) → refused_by r ≡ checking n rooms s → none ≡ disagreement_of (check_compared n rooms s)
+  pub none_refused : (n : ℕ) (r : Refused) → refused_by r ≡ checking n rooms s → None ≡ disagreement_of (check_compared n rooms s)
   unfolding check_in check_compared
   none_refused n r e = refused_in _ _ (edition_of n) e
 
@@ -113,7 +110,7 @@ module _ (rooms : Rooms) (s : Bytes) where
     unfolding summarised ◌>>=◌ map_after outputs_after
     accepted_beside edition (passed a) k e f g =
         let count : summary.units ≡ length a.units = ap (λ (x : Summary). x.units) (passed_same summary (summary_of a) e) in
-        ap₂ (λ (x : Video) (o : Outputs). disagreeing x (obus_of (take summary.units o.lens) o.bytes))
+        ap₂ (λ (x : Option Bytes) (o : Outputs). disagreeing x (obus_of (take summary.units o.lens) o.bytes))
         (ap (λ (x : ProgramMap). x.video) f) g
         ∙ ap (disagreeing (video_of (video_descriptors edition a.map.av1.descriptors)))
         (from_outputs a.units before.bytes before.lens summary.units count)
@@ -127,15 +124,8 @@ module _ (rooms : Rooms) (s : Bytes) where
     accepted_in (passed edition) e f g = accepted_beside edition (check_segment edition rooms s) refl e f g
     accepted_in (refused number place) e f g = never (sym e)
 
-    found_accepted : (n : ℕ) → passed summary ≡ checking n rooms s → m ≡ map_checked n rooms s
+    pub found_accepted : (n : ℕ) → passed summary ≡ checking n rooms s → m ≡ map_checked n rooms s
         → now ≡ outputs_after (check_in n rooms s) before
         → found ≡ disagreement_of (check_compared n rooms s)
     unfolding check_in check_compared
     found_accepted n e f g = accepted_in (edition_of n) e f g
-
-  -- either
-  pub found_beside : (a : SegmentCheck) (m : ProgramMap) (before now : Outputs) (n : ℕ) → check_says a ≡ checking n rooms s
-      → m ≡ map_checked n rooms s → now ≡ outputs_after (check_in n rooms s) before
-      → disagreement_in a m.video now.bytes now.lens ≡ disagreement_of (check_compared n rooms s)
-  found_beside (checked.Accepted summary) m before now n e f g = found_accepted summary m before now n e f g
-  found_beside (checked.Refused r) m before now n e f g = none_refused n r e

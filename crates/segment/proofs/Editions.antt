@@ -1,23 +1,23 @@
 -- The check in the edition of a number: 44, then 20, then the packets of the segment in the known edition. Assumes nothing.
+use Rattle.descriptor.specs.declared.edition.Edition.{Edition as EditionName}
+use Rattle.std.specs.Prelude.{Result, Err}
 use Prim.Native.Nat.{ℕ}
 use mathlib.Core.Bool.{Bool, true, false}
 use mathlib.Core.Path.{◌≡◌, refl, sym, ap, ◌∙◌}
 use mathlib.Core.List.{List}
 use Rattle.lists.specs.Lists.{Bytes, zeros, pick}
+use Rattle.refusal.specs.declared.Refusal.TheVariants as refusals
 use Rattle.refusal.specs.Verdict.{Verdict, passed, refused, ◌>>=◌, ◌>>◌, given}
-use Rattle.refusal.specs.Number.{refused_by}
+use Rattle.refusal.specs.Number.{refused_by, says}
 use Rattle.refusal.specs.declared.Refused.{Refused}
 use Rattle.refusal.proofs.Verdicts.{never, passed_same, refuse, pass_on, same_refusal}
 use Rattle.descriptor.specs.Edition.{Edition, edition_of}
 use Rattle.descriptor.specs.Naming.{named_says}
-use Rattle.descriptor.specs.declared.edition.Named.{Named}
-use Rattle.descriptor.specs.declared.edition.Named.TheVariants as named
 use Rattle.pmt.specs.Answer.{no_map}
 use Rattle.segment_rules.specs.Rules.{Rooms}
 use Rattle.segment_rules.specs.Check.{Accepted, Outputs, segment_length_wrong, rule20, check_segment, check_in, rooms_of, cleared}
 use Rattle.segment_rules.specs.Check.{outputs_after, firsts_after}
-use Rattle.segment.specs.declared.checking.Checked.{Checked}
-use Rattle.segment.specs.Answer.{ChecksIn, summarised, map_after, map_in, check_says}
+use Rattle.segment.specs.Answer.{Checked, ChecksIn, summarised, map_after, map_in}
 use Rattle.segment.specs.Parts.{asked_in, in_order, ChecksInOrder}
 use Rattle.segment.proofs.Ending.{refused_beside}
 
@@ -26,16 +26,18 @@ module _ (n : ℕ) (s : Bytes) where
   abbrev measured : Verdict Edition → Verdict Edition
   measured v = v >>= λ edition. rule20 s >> passed edition
 
-  pub asked_unknown : (a : Named) (q : Refused) → a ≡ named.Refused q → named_says a ≡ edition_of n → named_says a ≡ asked_in n s
+  pub asked_unknown : (a : Result EditionName Refused) (q : Refused) → a ≡ Err q → named_says a ≡ edition_of n → named_says a ≡ asked_in n s
   unfolding asked_in ◌>>=◌
   asked_unknown a q e h = ap named_says e ∙ ap measured (sym (ap named_says e) ∙ h)
 
-  pub asked_wrong : (a : Named) (e : Edition) → named_says a ≡ passed e → named_says a ≡ edition_of n → segment_length_wrong s ≡ true
-      → (q : Refused) → q ≡ record { why = record { number = 20 }; place = 0 } → refused_by q ≡ asked_in n s
+  pub asked_wrong : (a : Result EditionName Refused) (e : Edition) → named_says a ≡ passed e → named_says a ≡ edition_of n
+      → segment_length_wrong s ≡ true
+      → (q : Refused) → q ≡ record { why = refusals.SegmentLength; place = 0 } → refused_by q ≡ asked_in n s
   unfolding asked_in ◌>>=◌
   asked_wrong a e k h wrong q f = ap (λ (x : Refused). refused_by x) f ∙ refuse 20 (passed e) wrong ∙ ap measured (sym k ∙ h)
 
-  pub asked_right : (a : Named) (e : Edition) → named_says a ≡ passed e → named_says a ≡ edition_of n → segment_length_wrong s ≡ false
+  pub asked_right : (a : Result EditionName Refused) (e : Edition) → named_says a ≡ passed e → named_says a ≡ edition_of n
+      → segment_length_wrong s ≡ false
       → named_says a ≡ asked_in n s
   unfolding asked_in ◌>>=◌
   asked_right a e k h right = k ∙ pass_on 20 right refl ∙ ap measured (sym k ∙ h)
@@ -93,7 +95,7 @@ refused_checks n q s asked before old r f after left firsts zeroed =
     let rooms = rooms_of before in
     let same : refused_by q ≡ check_in n rooms s = unknown (edition_of n) (segment_length_wrong s) _ _ asked _ in
     record {
-      answers = ap (λ (x : Checked). check_says x.answer) f ∙ ap summarised same;
+      answers = ap (λ (x : Checked). says x.answer) f ∙ ap summarised same;
       beside = ap (λ (x : Checked). x.map) f ∙ no_map_lem (edition_of n) rooms s _ _ asked;
       leaves = left ∙ ap (λ (v : Verdict Accepted). outputs_after v before) same;
       began = zeroed ∙ ap (λ (v : Verdict Accepted). firsts_after v old) same;

@@ -1,22 +1,19 @@
 -- What the check's answer says. Assumes nothing.
-use Rattle.std.specs.Prelude.{ℕ, ◌≡◌, List, length}
-use Rattle.std.proofs.Math.Option.{Option, none}
+use Rattle.refusal.specs.declared.Refused.{Refused}
+use Rattle.std.specs.Prelude.{ℕ, ◌≡◌, List, length, Result, Ok, Err, Option, None}
 use Rattle.lists.specs.Lists.{Bytes}
 use Rattle.refusal.specs.Verdict.{Verdict, passed, refused, ◌>>=◌}
-use Rattle.refusal.specs.Number.{refused_by}
+use Rattle.refusal.specs.Number.{says}
 use Rattle.descriptor.specs.Edition.{Edition, edition_of}
 use Rattle.comparison.specs.declared.Disagreement.{Disagreement}
-use Rattle.comparison.specs.Comparison.{disagreed_says}
 use Rattle.pmt.specs.Answer.{map_of, no_map}
 use Rattle.pmt.specs.declared.section.ProgramMap.{ProgramMap}
 use Rattle.segment_rules.specs.Rules.{Rooms}
 use Rattle.segment_rules.specs.Check.{Accepted, Outputs, check_segment, check_in, rooms_of, outputs_after, firsts_after}
 use Rattle.segment_rules.specs.Comparison.{Answered, check_compared}
 use Rattle.segment.specs.declared.checking.Summary.{Summary}
-use Rattle.segment.specs.declared.checking.SegmentCheck.{SegmentCheck}
-use Rattle.segment.specs.declared.checking.SegmentCheck.TheVariants as checked
-use Rattle.segment.specs.declared.checking.Checked.{Checked}
-use Rattle.segment.specs.declared.comparing.Answered.{Answered as AnsweredBeside}
+use Rattle.segment.specs.declared.checking.Accepted.{Accepted as AcceptedSegment}
+use Rattle.segment.specs.declared.comparing.Compared.{Compared}
 
 -- "Acceptance gives program number, AV1 PID, unit count and packet totals in five classes"
 abbrev pub summary_of : Accepted → Summary
@@ -47,18 +44,33 @@ map_checked n rooms segment = map_in (edition_of n) rooms segment
 -- the disagreement beside the answer: that of the accepted segment, or none
 abbrev pub disagreement_of : Verdict Answered → Option Disagreement
 disagreement_of (passed a) = a.disagreement
-disagreement_of (refused number place) = none
+disagreement_of (refused number place) = None
 
--- ---- what the answer of the code says
-abbrev pub check_says : SegmentCheck → Verdict Summary
-check_says (checked.Accepted s) = passed s
-check_says (checked.Refused r) = refused_by r
+-- ---- what the code returns
+-- the answer, and beside it the map of an accepted segment; of a refused one, no map
+pub record Checked : Type 0 where
+  pub answer : Result Summary Refused
+  pub map : ProgramMap
+
+abbrev pub checked : Result AcceptedSegment Refused → Checked
+checked (Ok a) = record { answer = Ok a.summary; map = a.map }
+checked (Err q) = record { answer = Err q; map = no_map }
+
+-- the answer, and of an accepted segment the first disagreement of a sequence header with the video descriptor; none
+-- where the segment is refused
+pub record AnsweredBeside : Type 0 where
+  pub answer : Result Summary Refused
+  pub disagreement : Option Disagreement
+
+abbrev pub answered : Result Compared Refused → AnsweredBeside
+answered (Ok c) = record { answer = Ok c.summary; disagreement = c.disagreement }
+answered (Err q) = record { answer = Err q; disagreement = None }
 
 -- ---- what the check promises, of outputs that held `before` and a list of first packets that held `firsts`
 -- the answer, the map beside it, and what the outputs and the list then hold, where this is the verdict
 pub record Checks (v : Verdict Accepted) (m : ProgramMap) (before : Outputs) (firsts : List ℕ) (r : Checked)
     (after : Outputs) (firsts' : List ℕ) : Type 0 where
-  pub answers : check_says r.answer ≡ summarised v
+  pub answers : says r.answer ≡ summarised v
   pub beside : r.map ≡ m
   pub leaves : after ≡ outputs_after v before
   pub began : firsts' ≡ firsts_after v firsts
@@ -72,6 +84,6 @@ ChecksIn n segment before firsts r after firsts' =
 -- and with the comparison of 2026-04 beside it
 pub record ChecksCompared (n : ℕ) (segment : Bytes) (before : Outputs) (r : AnsweredBeside) (after : Outputs)
     : Type 0 where
-  pub answers : check_says r.answer ≡ checking n (rooms_of before) segment
-  pub compared : disagreed_says r.disagreement ≡ disagreement_of (check_compared n (rooms_of before) segment)
+  pub answers : says r.answer ≡ checking n (rooms_of before) segment
+  pub compared : r.disagreement ≡ disagreement_of (check_compared n (rooms_of before) segment)
   pub leaves : after ≡ outputs_after (check_in n (rooms_of before) segment) before

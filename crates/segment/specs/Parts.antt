@@ -1,19 +1,16 @@
 -- What the promises of private functions cite; no public promise does: what the code's state stands for. No rule is
 -- said again here: a private function is promised by the rules of segment_rules that it carries out. Assumes nothing.
-use Rattle.std.specs.Prelude.{ℕ, ◌/◌, ◌≡◌, List, [], ◌∷◌, map, length, take}
-use Rattle.std.proofs.Math.Option.{Option, none}
+use Rattle.refusal.specs.Number.{says}
+use Rattle.std.specs.Prelude.{ℕ, ◌/◌, ◌≡◌, List, ◌∷◌, map, length, Option, Some, None}
 use Rattle.lists.specs.Lists.{Bytes}
 use Rattle.refusal.specs.Verdict.{Verdict, ◌>>=◌, ◌>>◌}
 use Rattle.refusal.specs.Verdict as verdict
-use Rattle.unit.specs.Unit.{obus_of}
 use Rattle.descriptor.specs.Edition.{Edition, edition_of}
 use Rattle.descriptor.specs.Naming.{edition_says}
 use Rattle.descriptor.specs.declared.edition.Edition.{Edition as EditionName}
 use Rattle.descriptor.specs.Descriptor.{video_tag, video_length, fields_of}
 use Rattle.comparison.specs.declared.Disagreement.{Disagreement}
 use Rattle.comparison.specs.Comparison.{headers_before_frame, first_from}
-use Rattle.pmt.specs.declared.loops.Video.{Video}
-use Rattle.pmt.specs.declared.loops.Video.TheVariants as video
 use Rattle.segment_rules.specs.declared.Totals.{Totals}
 use Rattle.segment_rules.specs.State as state
 use Rattle.segment_rules.specs.State.{AccessUnit}
@@ -27,10 +24,7 @@ use Rattle.tables.specs.Tables.{tables_kept}
 use Rattle.segment_rules.specs.Lying.{Valid}
 use Rattle.segment_run.specs.declared.running.RunResult.{RunResult}
 use Rattle.segment_run.specs.Run.{Reached}
-use Rattle.segment.specs.declared.checking.SegmentCheck.{SegmentCheck}
-use Rattle.segment.specs.declared.checking.SegmentCheck.TheVariants as checked
-use Rattle.segment.specs.declared.checking.Checked.{Checked}
-use Rattle.segment.specs.Answer.{Checks, summarised, map_after, check_says}
+use Rattle.segment.specs.Answer.{Checked, Checks, summarised, map_after}
 
 -- ---- before the packets
 -- 44, then 20
@@ -43,7 +37,7 @@ abbrev pub AcceptRefines : Bytes → Tables → ℕ → Totals → Checked → T
 AcceptRefines segment c units totals r =
     (edition : EditionName) (t : state.Tables) (us : List AccessUnit) → units ≡ length us
     → c ≡ tables_kept edition t → Valid (edition_says edition) segment t
-    → (check_says r.answer ≡ summarised (accepted (length segment / packet_length) t.pat t.pmt us totals))
+    → (says r.answer ≡ summarised (accepted (length segment / packet_length) t.pat t.pmt us totals))
     × (r.map ≡ map_after (edition_says edition) (accepted (length segment / packet_length) t.pat t.pmt us totals))
 
 -- all packets have passed: what the run has given, with the outputs and the list of first packets, which were `before`
@@ -59,7 +53,7 @@ pub record Ran (edition : EditionName) (segment : Bytes) (before now : Outputs) 
 -- the list their first packets
 pub record Ends (edition : Edition) (v : Verdict Accepted) (before : Outputs) (old : List ℕ) (r : Checked)
     (after : Outputs) (firsts : List ℕ) : Type 0 where
-  pub answers : check_says r.answer ≡ summarised v
+  pub answers : says r.answer ≡ summarised v
   pub beside : r.map ≡ map_after edition v
   pub leaves : (a : Accepted) → v ≡ verdict.passed a → after ≡ holding a.units before
   pub began : (a : Accepted) → v ≡ verdict.passed a → firsts ≡ holding_firsts a.units old
@@ -90,13 +84,7 @@ ChecksInOrder edition segment before old r after firsts =
 -- ---- the comparison
 -- these carried units, by their sequence headers before the frame, beside a video descriptor, of which the code has the
 -- four bytes behind its tag and length
-unfoldable pub disagreeing : Video → List Bytes → Option Disagreement
-disagreeing video.Absent units = none
-disagreeing (video.Present first second third last) units =
-    first_from 0 (fields_of (video_tag ∷ video_length ∷ first ∷ second ∷ third ∷ last ∷ []))
-    (map headers_before_frame units)
-
--- and of an accepted segment, whose units stand in these outputs; none where it is refused
-abbrev pub disagreement_in : SegmentCheck → Video → Bytes → List ℕ → Option Disagreement
-disagreement_in (checked.Accepted s) video out lens = disagreeing video (obus_of (take s.units lens) out)
-disagreement_in (checked.Refused r) video out lens = none
+unfoldable pub disagreeing : Option Bytes → List Bytes → Option Disagreement
+disagreeing None units = None
+disagreeing (Some four) units =
+    first_from 0 (fields_of (video_tag ∷ video_length ∷ four)) (map headers_before_frame units)

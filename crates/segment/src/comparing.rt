@@ -1,70 +1,51 @@
 // The check of a segment, and its video descriptor beside its sequence headers (document 02, request 2026-04).
 ghost use Rattle.std.specs.Prelude.{◌≡◌, take};
 ghost use Rattle.unit.specs.Unit.{obus_of};
-ghost use Rattle.comparison.specs.Comparison.{disagreed_says};
 ghost use Rattle.segment_rules.specs.Check.{outputs_of};
-ghost use Rattle.segment.specs.Answer.{ChecksCompared};
-ghost use Rattle.segment.specs.Parts.{disagreeing, disagreement_in};
+ghost use Rattle.segment.specs.Answer.{answered, ChecksCompared};
+ghost use Rattle.segment.specs.Parts.{disagreeing};
 
-use crate::checking::{SegmentCheck, check};
-use comparison::{Disagreed, compare_units};
+use crate::checking::{Summary, check};
+use comparison::{Disagreement, compare_units};
 use descriptor::fields_of;
-use pmt::Video;
+use refusal::Refused;
 
-// The answer of the check, and of an accepted segment the first disagreement of a sequence header with the video
-// descriptor; none where the segment is refused.
+// An accepted segment: its summary, and the first disagreement of a sequence header with the video descriptor.
 #[derive(Drop)]
-pub struct Answered {
-    pub answer: SegmentCheck,
-    pub disagreement: Disagreed,
+pub struct Compared {
+    pub summary: Summary,
+    pub disagreement: Option<Disagreement>,
 }
 
-// So many units, which stand back to back and have these lengths, beside a video descriptor.
-fn compare(video: Video, out: &[u8], lens: &[usize], units: usize) -> Disagreed
-    ensures { disagreed_says result
+// Returns the first disagreement of so many units, which stand back to back and have these lengths, with a video
+// descriptor, of which these are the bytes behind its tag and length.
+#[tactic(auto, unfolding(crate::specs::Parts::disagreeing))]
+fn compare(video: Option<[u8; 4]>, out: &[u8], lens: &[usize], units: usize) -> Option<Disagreement>
+    ensures { result
         ≡ disagreeing video (obus_of (take units lens.now) out.now) }
 {
-    match video {
-        Video::Absent => Disagreed::None,
-        Video::Present(first, second, third, last) => {
-            let descriptor = [0x80u8, 4, first, second, third, last];
-            let fields = fields_of(&descriptor);
-            compare_units(out, lens, units, fields)
-        }
-    }
+    let [first, second, third, last] = video?;
+    let descriptor = [0x80u8, 4, first, second, third, last];
+    compare_units(out, lens, units, fields_of(&descriptor))
 }
 
-// Of an accepted segment, whose units and lengths stand in these outputs, the first disagreement; none where it is
-// refused.
-fn disagreement_of(answer: SegmentCheck, video: Video, out: &[u8], lens: &[usize]) -> Disagreed
-    ensures { disagreed_says result ≡ disagreement_in answer video out.now lens.now }
-{
-    match answer {
-        SegmentCheck::Refused(_) => Disagreed::None,
-        SegmentCheck::Accepted(summary) => compare(video, out, lens, summary.units),
-    }
-}
-
-// The check of a segment as `check` makes it, with the comparison of what it accepts.
+// Checks a segment as `check` does, and compares what it accepts.
 pub fn check_compared(
     edition: u64,
     segment: &[u8],
     out: &mut [u8],
     lens: &mut [usize],
     times: &mut [u64],
-) -> Answered
+) -> Result<Compared, Refused>
     ensures { ChecksCompared edition segment.now
-        (outputs_of out.old lens.old times.old) result
+        (outputs_of out.old lens.old times.old) (answered result)
         (outputs_of out.new lens.new times.new) }
 {
-    let mut none: [usize; 0] = [];
-    let checked = check(edition, segment, out, lens, times, &mut none);
-    let answer = checked.answer;
-    let map = checked.map;
-    let video = map.video;
-    let disagreement = disagreement_of(answer, video, out, lens);
-    Answered {
-        answer,
+    let accepted = check(edition, segment, out, lens, times, &mut [])?;
+    let summary = accepted.summary;
+    let disagreement = compare(accepted.map.video, out, lens, summary.units);
+    Ok(Compared {
+        summary,
         disagreement,
-    }
+    })
 }

@@ -4,5 +4,5 @@
 mod checking;
 mod comparing;
 
-pub use checking::{Checked, SegmentCheck, Summary, check};
-pub use comparing::{Answered, check_compared};
+pub use checking::{Accepted, Summary, check};
+pub use comparing::{Compared, check_compared};

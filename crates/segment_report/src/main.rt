@@ -2,15 +2,17 @@
 // is not checked, and the program says so: its buffers stand on the stack.
 #![tactic(auto)]
 
-ghost use Rattle.std.specs.Prelude.{◌≡◌, ◌≤◌, length, IfOk};
+ghost use Rattle.std.specs.Prelude.{◌≡◌, length};
 
-use refusal::Refused;
-use segment::{SegmentCheck, Summary};
+use input::read_full;
+use segment::Summary;
 use std::io;
-use std::io::Read;
 
 // The most units that a segment has.
 const MOST_UNITS: usize = 1024;
+
+// Two times for each unit.
+const MOST_TIMES: usize = 2048;
 
 // The most bytes of a segment that is checked: 16,384 packets.
 const MOST_BYTES: usize = 3080192;
@@ -18,38 +20,15 @@ const MOST_BYTES: usize = 3080192;
 // One byte more, so that a longer input is seen to be longer.
 const INPUT_ROOM: usize = 3080193;
 
-fn input_buffer() -> [u8; INPUT_ROOM]
-    ensures { 3080193 ≡ length result }
+// Returns an array of N zeros.
+fn zeros<const N: usize>() -> [u8; N]
+    ensures { length result ≡ N }
 {
-    [0; INPUT_ROOM]
+    [0; N]
 }
 
-fn unit_buffer() -> [u8; MOST_BYTES]
-    ensures { 3080192 ≡ length result }
-{
-    [0; MOST_BYTES]
-}
-
-// Reads until the buffer is full or the input ends; returns how many bytes were read.
-fn read_full<R: Read>(input: &mut R, buf: &mut [u8]) -> io::Result<usize>
-    ensures { IfOk result (λ n. n ≤ length buf.old) }
-{
-    let mut n = 0;
-    while n < buf.len() {
-        let got = input.read(&mut buf[n..])?;
-        if got == 0 {
-            break;
-        }
-        n += got;
-    }
-    Ok(n)
-}
-
-fn print_refused(rt: &impl Print, refused: Refused) -> io::Result<()> {
-    let why = refused.why;
-    println!(rt; "refused {} {}", why.number(), refused.place)
-}
-
+// Prints the program, the PID of its AV1 stream, how many units there are, and the packets of each kind.
+// Stays: `Display` for `Summary` could stand in segment alone, and these words are this program's.
 fn print_accepted(rt: &impl Print, summary: Summary) -> io::Result<()> {
     let totals = summary.totals;
     println!(rt;
@@ -66,44 +45,37 @@ fn print_accepted(rt: &impl Print, summary: Summary) -> io::Result<()> {
     )
 }
 
-fn print_unit(rt: &impl Print, index: usize, length: usize, pts: u64, dts: u64) -> io::Result<()> {
-    println!(rt; "unit {index} bytes {length} pts {pts} dts {dts}")
-}
-
-fn print_units(
-    rt: &impl Print,
-    units: usize,
-    lens: [usize; 1024],
-    times: [u64; 2048],
-) -> io::Result<()> {
-    let mut i: usize = 0;
-    while i < MOST_UNITS {
-        if units <= i {
-            return Ok(());
-        }
-        print_unit(rt, i, lens[i], times[2 * i], times[2 * i + 1])?;
-        i += 1;
+// Prints the length and the times of each of the first `units` units. The times stand in pairs.
+// Stays: the lengths and times are slices of numbers; a struct around them, for `Display` alone, would be longer.
+fn print_units(rt: &impl Print, units: usize, lens: &[usize], times: &[u64]) -> io::Result<()> {
+    for (index, (length, pair)) in lens
+        .iter()
+        .zip(times.chunks_exact(2))
+        .take(units)
+        .enumerate()
+    {
+        println!(rt;
+            "unit {index} bytes {length} pts {} dts {}",
+            pair[0], pair[1]
+        )?;
     }
     Ok(())
 }
 
 fn main(rt: HostRuntime) -> io::Result<()> {
-    let mut bytes = input_buffer();
+    let mut bytes: [u8; INPUT_ROOM] = zeros();
     let n = read_full(&mut rt.stdin().lock(), &mut bytes)?;
     if MOST_BYTES < n {
-        return println!(rt; "not checked: the input is longer than 3080192 bytes");
+        return println!(rt; "not checked: the input is longer than {MOST_BYTES} bytes");
     }
-    let mut out = unit_buffer();
+    let mut out: [u8; MOST_BYTES] = zeros();
     let mut lens = [0usize; MOST_UNITS];
-    let mut times = [0u64; 2048];
-    let mut none: [usize; 0] = [];
-    let checked = segment::check(0, &bytes[..n], &mut out, &mut lens, &mut times, &mut none);
-    let answer = checked.answer;
-    match answer {
-        SegmentCheck::Refused(refused) => print_refused(&rt, refused),
-        SegmentCheck::Accepted(summary) => {
-            print_accepted(&rt, summary)?;
-            print_units(&rt, summary.units, lens, times)
+    let mut times = [0u64; MOST_TIMES];
+    match segment::check(0, &bytes[..n], &mut out, &mut lens, &mut times, &mut []) {
+        Err(refused) => println!(rt; "refused {refused}"),
+        Ok(accepted) => {
+            print_accepted(&rt, accepted.summary)?;
+            print_units(&rt, accepted.summary.units, &lens, &times)
         }
     }
 }

@@ -2,12 +2,12 @@
 -- by reading (`units_right`, `units_accepted`); so its carried length is within the limit (`lengths_within`), its times are those of its
 -- header (`times_within`), and the packets that began the units ascend strictly and lie within the segment (`firsts_ascend`,
 -- `firsts_within`): a unit comes by the closing of a PES alone. Assumes nothing.
+use Rattle.std.specs.Prelude.{Option, Some, None}
 use Prim.Native.Nat.{ℕ, zero, suc, ◌+◌, ◌<◌, ◌≤◌, ◌/◌, ◌^◌}
 use mathlib.Core.Bool.{Bool, true, false, not, ◌&&◌}
 use mathlib.Core.Path.{◌≡◌, refl, sym, ap, ◌∙◌, subst}
 use mathlib.Core.Logic.{◌⊎◌, inl, inr}
 use mathlib.Core.List.{List, [], ◌∷◌, ◌++◌, append-nil, map-append}
-use mathlib.Core.Option.{Option, none, some}
 use native.Mathlib.Omega.{arith}
 use borrow.Author.Tests.{ltb-false, eqb-true, not-false}
 use lib.Dec.{eqb, ltb}
@@ -20,7 +20,6 @@ use Rattle.descriptor.specs.Edition.{Edition}
 use Rattle.packet.specs.Header.{packet_length, packets_of, packets, has_payload, header_length, payload}
 use Rattle.pes.specs.declared.header.Header.{Header}
 use Rattle.pes.specs.declared.header.Times.{Times}
-use Rattle.pes.specs.declared.header.Times.TheVariants.{Absent, Stamps}
 use Rattle.pes.specs.Pes.{pes_packet_length, length_byte, header_size, header_wrong, header_of, no_times, times_of}
 use Rattle.pes.proofs.Headers.{pts_width, dts_width}
 use Rattle.unit.specs.Unit.{most_carried, read_unit}
@@ -67,9 +66,9 @@ octets_packet (suc n) s zero o = octets_take packet_length s o
 octets_packet (suc n) s (suc k) o = octets_packet n (drop packet_length s) k (octets_drop s packet_length o)
 
 -- a PTS and a DTS of 33 bits
-abbrev pub Timed : Times → Type 0
-Timed Absent = ⊥
-Timed (Stamps pts dts) = (pts.0 < 2 ^ 33) × (dts.0 < 2 ^ 33)
+abbrev pub Timed : Option Times → Type 0
+Timed None = ⊥
+Timed (Some t) = (t.pts.0 < 2 ^ 33) × (t.dts.0 < 2 ^ 33)
 
 pub stamped : (w : Bytes) → Octets w → no_times w ≡ false → Timed (times_of w)
 unfolding times_of pick
@@ -137,12 +136,12 @@ module _ (edition : Edition) where
 
   -- ---- what each packet keeps
   abbrev OpenRight : List Bytes → Option OpenPes → Type 0
-  OpenRight ps none = Unit {0}
-  OpenRight ps (some o) = Began ps o.first o.header
+  OpenRight ps None = Unit {0}
+  OpenRight ps (Some o) = Began ps o.first o.header
 
   abbrev open_first : Option OpenPes → List ℕ
-  open_first none = []
-  open_first (some o) = o.first ∷ []
+  open_first None = []
+  open_first (Some o) = o.first ∷ []
 
   record RightUpTo (ps : List Bytes) (x : Extraction) : Type 0 where
     units : All (UnitRight ps) x.units
@@ -150,10 +149,10 @@ module _ (edition : Edition) where
     ascend : Ascending (first_packets x.units ++ open_first x.pes)
 
   -- the closing adds the unit of the open PES
-  closed : (ps : List Bytes) (x x' : Extraction) → RightUpTo ps x → Closes x x' → RightUpTo ps x' × (x'.pes ≡ none)
-  closed ps x x' r (none_open n e) = subst (λ (y : Extraction). RightUpTo ps y × (y.pes ≡ none)) (sym e) (r, n)
+  closed : (ps : List Bytes) (x x' : Extraction) → RightUpTo ps x → Closes x x' → RightUpTo ps x' × (x'.pes ≡ None)
+  closed ps x x' r (none_open n e) = subst (λ (y : Extraction). RightUpTo ps y × (y.pes ≡ None)) (sym e) (r, n)
   closed ps x x' r (one_open o l at sized read e) =
-      subst (λ (y : Extraction). RightUpTo ps y × (y.pes ≡ none)) (sym e) (
+      subst (λ (y : Extraction). RightUpTo ps y × (y.pes ≡ None)) (sym e) (
         record {
           units = all_and_one (UnitRight ps) x.units (unit_of o) r.units (record {
             header = o.header;
@@ -179,8 +178,8 @@ module _ (edition : Edition) where
       record { units = all_so x.units (unit_longer ps p) r.units; pes = open_longer x.pes r.pes; ascend = r.ascend }
     where
       open_longer : (o : Option OpenPes) → OpenRight ps o → OpenRight (ps ++ (p ∷ [])) o
-      open_longer none h = tt
-      open_longer (some o) h = began_longer ps p o.first o.header h
+      open_longer None h = tt
+      open_longer (Some o) h = began_longer ps p o.first o.header h
 
   firsts_below : (ps : List Bytes) (units : List AccessUnit) → All (UnitRight ps) units → All (λ n. n < length ps) (first_packets units)
   firsts_below ps [] h = tt
@@ -224,7 +223,7 @@ module _ (edition : Edition) where
       kept : Kept edition rooms RightUpTo moved (record { units = tt; pes = tt; ascend = tt }) (packets s) a.units
       kept = accepted_keeps edition rooms RightUpTo moved (record { units = tt; pes = tt; ascend = tt }) s a e
 
-      ended : RightUpTo (packets s) kept.last × (kept.last.pes ≡ none)
+      ended : RightUpTo (packets s) kept.last × (kept.last.pes ≡ None)
       ended = closed (packets s) kept.before kept.last kept.keeping (close_passed kept.before kept.last kept.closes)
 
       -- each unit is of a PES that began in one of the packets, and nothing refused it

@@ -1,11 +1,12 @@
 -- Two states that are alike: their tables say the same, and their units have the same bytes and times; the records of the counters may
 -- differ, and a PCR that counted in the first has counted in the second; where packets lie is not compared. A packet that passes in the
 -- first passes in the second, whatever the indices are, and the states are alike again (`packet_alike`). Assumes nothing.
+use Rattle.ticks.specs.declared.Ticks27.{Ticks27}
+use Rattle.std.specs.Prelude.{Option, Some, None}
 use Prim.Native.Nat.{ℕ, ◌+◌, ◌*◌}
 use mathlib.Core.Bool.{Bool, true, false, not, ◌&&◌, ◌||◌}
 use mathlib.Core.Path.{◌≡◌, refl, sym, ap, ap₂, ◌∙◌, subst}
 use mathlib.Core.List.{List, [], ◌∷◌, ◌++◌, map, flatten, map-append}
-use mathlib.Core.Option.{Option, none, some}
 use lib.Dec.{eqb, ltb}
 use lib.ListN.{length, length-map}
 use Rattle.lists.specs.Lists.{Bytes, pick, any}
@@ -14,8 +15,6 @@ use Rattle.refusal.specs.Verdict.{Verdict, passed, refused, ◌>>=◌, ◌>>◌,
 use Rattle.refusal.proofs.Verdicts.{never, passed_same}
 use Rattle.descriptor.specs.Edition.{Edition}
 use Rattle.packet.specs.Header.{header_of, pid, pcr, has_payload, payload}
-use Rattle.packet.specs.declared.header.Clock.{Clock}
-use Rattle.packet.specs.declared.header.Clock.TheVariants as clock
 use Rattle.packet.specs.Counter.{StreamRecord, named, follows, updated, check, record_of, checked_in}
 use Rattle.packet.proofs.Counters.{some_not_none, some_same}
 use Rattle.psi.specs.Section.{section_of}
@@ -90,10 +89,10 @@ module _ {A B : Type 0} (R : A → B → Type 0) where
 
 -- ---- units
 abbrev pub AlikePes : Option OpenPes → Option OpenPes → Type 0
-AlikePes none none = Unit {0}
-AlikePes none (some o) = ⊥
-AlikePes (some o) none = ⊥
-AlikePes (some o) (some o') = (o.header ≡ o'.header) × (o.bytes ≡ o'.bytes)
+AlikePes None None = Unit {0}
+AlikePes None (Some o) = ⊥
+AlikePes (Some o) None = ⊥
+AlikePes (Some o) (Some o') = (o.header ≡ o'.header) × (o.bytes ≡ o'.bytes)
 
 pub record AlikeUnits (x x' : Extraction) : Type 0 where
   pub pes : AlikePes x.pes x'.pes
@@ -102,16 +101,16 @@ pub record AlikeUnits (x x' : Extraction) : Type 0 where
 
 -- what the rules ask of them is the same
 pub alike_open : (o o' : Option OpenPes) → AlikePes o o' → is_open o ≡ is_open o'
-alike_open none none h = refl
-alike_open none (some o) h = absurd h
-alike_open (some o) none h = absurd h
-alike_open (some o) (some o') h = refl
+alike_open None None h = refl
+alike_open None (Some o) h = absurd h
+alike_open (Some o) None h = absurd h
+alike_open (Some o) (Some o') h = refl
 
 alike_bytes : (o o' : Option OpenPes) → AlikePes o o' → open_bytes o ≡ open_bytes o'
-alike_bytes none none h = refl
-alike_bytes none (some o) h = absurd h
-alike_bytes (some o) none h = absurd h
-alike_bytes (some o) (some o') h = h.1
+alike_bytes None None h = refl
+alike_bytes None (Some o) h = absurd h
+alike_bytes (Some o) None h = absurd h
+alike_bytes (Some o) (Some o') h = h.1
 
 module _ (x x' : Extraction) (a : AlikeUnits x x') where
   pub alike_count : with_next x ≡ with_next x'
@@ -134,7 +133,7 @@ module _ (x x' : Extraction) (a : AlikeUnits x x') where
             ∙ sym (map-append (λ u. u.carried) x'.units (unit_of o' ∷ []));
         times =
             map-append (λ u. u.times) x.units (unit_of o ∷ [])
-            ∙ ap₂ (λ (s t : List Times). s ++ t) a.times (ap (λ (w : Header). w.times ∷ []) h)
+            ∙ ap₂ (λ (s t : List (Option Times)). s ++ t) a.times (ap (λ (w : Header). w.times ∷ []) h)
             ∙ sym (map-append (λ u. u.times) x'.units (unit_of o' ∷ []));
       }
 
@@ -143,10 +142,10 @@ module _ (x x' : Extraction) (a : AlikeUnits x x') where
   close_alike = go x.pes x'.pes a.pes
     where
       go : (o o' : Option OpenPes) → AlikePes o o' → Both AlikeUnits (close_if_open o x) (close_if_open o' x')
-      go none none h = (x', refl, a)
-      go none (some o) h = absurd h
-      go (some o) none h = absurd h
-      go (some o) (some o') h =
+      go None None h = (x', refl, a)
+      go None (Some o) h = absurd h
+      go (Some o) None h = absurd h
+      go (Some o) (Some o') h =
           both_try AlikeUnits o.first o'.first 32 (length_wrong o) (length_wrong o') _ _
           (λ e. ap₂ (λ (k : Header) (w : Bytes). length_differs k (length w)) (sym h.0) (sym h.1) ∙ e)
           (both_same AlikeUnits o.first o'.first _ _ _ _ (ap read_unit h.1) (_, refl, unit_alike o o' h.0 h.1))
@@ -195,18 +194,18 @@ said_repeats n [] = refl
 said_repeats n (r ∷ l) = go (eqb r.pid n) (said_repeats n l)
   where
     go : (b : Bool) → last_repeats (record_of n (said l)) ≡ last_repeats (record_of n l)
-        → last_repeats (pick b (some (placeless r)) (record_of n (said l))) ≡ last_repeats (pick b (some r) (record_of n l))
+        → last_repeats (pick b (Some (placeless r)) (record_of n (said l))) ≡ last_repeats (pick b (Some r) (record_of n l))
     go true more = refl
     go false more = more
 
-pub said_record : (n : ℕ) (l : List StreamRecord) (r : StreamRecord) → record_of n l ≡ some r → record_of n (said l) ≡ some (placeless r)
+pub said_record : (n : ℕ) (l : List StreamRecord) (r : StreamRecord) → record_of n l ≡ Some r → record_of n (said l) ≡ Some (placeless r)
 unfolding record_of pick
 said_record n [] r e = absurd (some_not_none r (sym e))
 said_record n (s ∷ l) r e = go (eqb s.pid n) e (said_record n l r)
   where
-    go : (b : Bool) → pick b (some s) (record_of n l) ≡ some r → (record_of n l ≡ some r → record_of n (said l) ≡ some (placeless r))
-        → pick b (some (placeless s)) (record_of n (said l)) ≡ some (placeless r)
-    go true k more = ap (λ (x : StreamRecord). some (placeless x)) (some_same s r k)
+    go : (b : Bool) → pick b (Some s) (record_of n l) ≡ Some r → (record_of n l ≡ Some r → record_of n (said l) ≡ Some (placeless r))
+        → pick b (Some (placeless s)) (record_of n (said l)) ≡ Some (placeless r)
+    go true k more = ap (λ (x : StreamRecord). Some (placeless x)) (some_same s r k)
     go false k more = more k
 
 -- so two checks go alike where those of what is said do
@@ -227,46 +226,46 @@ counts_alike S i j q l l' h =
 
 -- ---- the first PAT and the first PMT, but for the packets that brought them
 abbrev pub SamePat : Option FirstPat → Option FirstPat → Type 0
-SamePat none none = Unit {0}
-SamePat none (some f) = ⊥
-SamePat (some f) none = ⊥
-SamePat (some f) (some f') = (f.section ≡ f'.section) × (f.says ≡ f'.says)
+SamePat None None = Unit {0}
+SamePat None (Some f) = ⊥
+SamePat (Some f) None = ⊥
+SamePat (Some f) (Some f') = (f.section ≡ f'.section) × (f.says ≡ f'.says)
 
 abbrev pub SamePmt : Option FirstPmt → Option FirstPmt → Type 0
-SamePmt none none = Unit {0}
-SamePmt none (some m) = ⊥
-SamePmt (some m) none = ⊥
-SamePmt (some m) (some m') = (m.section ≡ m'.section) × (m.says ≡ m'.says)
+SamePmt None None = Unit {0}
+SamePmt None (Some m) = ⊥
+SamePmt (Some m) None = ⊥
+SamePmt (Some m) (Some m') = (m.section ≡ m'.section) × (m.says ≡ m'.says)
 
 pub pat_self : (o : Option FirstPat) → SamePat o o
-pat_self none = tt
-pat_self (some f) = (refl, refl)
+pat_self None = tt
+pat_self (Some f) = (refl, refl)
 
 pub pmt_self : (o : Option FirstPmt) → SamePmt o o
-pmt_self none = tt
-pmt_self (some m) = (refl, refl)
+pmt_self None = tt
+pmt_self (Some m) = (refl, refl)
 
 same_map_pid : (o o' : Option FirstPat) (n : ℕ) → SamePat o o' → is_map_pid o n ≡ is_map_pid o' n
 unfolding is_map_pid
-same_map_pid none none n h = refl
-same_map_pid none (some f) n h = absurd h
-same_map_pid (some f) none n h = absurd h
-same_map_pid (some f) (some f') n h = ap (λ (x : Program). eqb n x.map_pid) h.1
+same_map_pid None None n h = refl
+same_map_pid None (Some f) n h = absurd h
+same_map_pid (Some f) None n h = absurd h
+same_map_pid (Some f) (Some f') n h = ap (λ (x : Program). eqb n x.map_pid) h.1
 
 same_listed : (o o' : Option FirstPmt) (n : ℕ) → SamePmt o o' → listed_as o n ≡ listed_as o' n
 unfolding listed_as
-same_listed none none n h = refl
-same_listed none (some m) n h = absurd h
-same_listed (some m) none n h = absurd h
-same_listed (some m) (some m') n h =
+same_listed None None n h = refl
+same_listed None (Some m) n h = absurd h
+same_listed (Some m) None n h = absurd h
+same_listed (Some m) (Some m') n h =
     ap (λ (x : MapContent). pick (eqb n x.av1.pid) Av1 (pick (any (eqb n) (pids x.entries)) Listed Unlisted)) h.1
 
 same_pcr : (o o' : Option FirstPmt) (q : Bytes) → SamePmt o o' → counting_pcr o q ≡ counting_pcr o' q
 unfolding counting_pcr
-same_pcr none none q h = refl
-same_pcr none (some m) q h = absurd h
-same_pcr (some m) none q h = absurd h
-same_pcr (some m) (some m') q h = ap (λ (x : MapContent). pick (eqb (pid q) x.pcr_pid) (pcr q) clock.None) h.1
+same_pcr None None q h = refl
+same_pcr None (Some m) q h = absurd h
+same_pcr (Some m) None q h = absurd h
+same_pcr (Some m) (Some m') q h = ap (λ (x : MapContent). pick (eqb (pid q) x.pcr_pid) (pcr q) None) h.1
 
 -- ---- both parts, where what the records say is in some relation
 module _ (R : List StreamRecord → List StreamRecord → Type 0) where
@@ -326,10 +325,10 @@ module _ (R : Records) where
       both_bind (Alike R) (Alike R) (r st) (r' st') _ _ (k.0 st st' a) (sequence_alike rules rules' k.1)
 
 -- ---- up to 24
-pcr_alike : (earlier earlier' c : Clock) → (is_pcr earlier ≡ true → is_pcr earlier' ≡ true) → is_pcr (last_pcr earlier c) ≡ true
+pcr_alike : (earlier earlier' c : Option Ticks27) → (is_pcr earlier ≡ true → is_pcr earlier' ≡ true) → is_pcr (last_pcr earlier c) ≡ true
     → is_pcr (last_pcr earlier' c) ≡ true
-pcr_alike earlier earlier' clock.None h e = h e
-pcr_alike earlier earlier' (clock.Pcr ticks) h e = refl
+pcr_alike earlier earlier' None h e = h e
+pcr_alike earlier earlier' (Some ticks) h e = refl
 
 module _ (R S : Records) (i j : ℕ) (q : Bytes)
     (counts : (l l' : List StreamRecord) → R l l' → Both S (checked_in 0 l q) (checked_in 0 l' q)) where
@@ -345,7 +344,7 @@ module _ (R S : Records) (i j : ℕ) (q : Bytes)
         record {
           pat = a.pat;
           pmt = a.pmt;
-          pcr = λ e. subst (λ (c : Clock). is_pcr (last_pcr t'.pcr c) ≡ true) (same_pcr t.pmt t'.pmt q a.pmt)
+          pcr = λ e. subst (λ (c : Option Ticks27). is_pcr (last_pcr t'.pcr c) ≡ true) (same_pcr t.pmt t'.pmt q a.pmt)
               (pcr_alike t.pcr t'.pcr (counting_pcr t.pmt q) a.pcr e);
           records = b;
         },
@@ -377,12 +376,12 @@ module _ (R : Records) (grows : (l l' new : List StreamRecord) → R l l' → R 
     pat_alike : (o o' : Option FirstPat) (section : Bytes) → SamePat o o'
         → Both (AlikeTables R) (pat_section i o section t) (pat_section j o' section t')
     unfolding pat_section
-    pat_alike none none section h =
+    pat_alike None None section h =
         both_value (AlikeTables R) (read_pat section) _ _
         (λ program. (_, refl, record { pat = (refl, refl); pmt = a.pmt; pcr = a.pcr; records = more_records _ }))
-    pat_alike none (some f) section h = absurd h
-    pat_alike (some f) none section h = absurd h
-    pat_alike (some f) (some f') section h = later_alike 25 f.section f'.section section h.0
+    pat_alike None (Some f) section h = absurd h
+    pat_alike (Some f) None section h = absurd h
+    pat_alike (Some f) (Some f') section h = later_alike 25 f.section f'.section section h.0
 
     abbrev map_read : ℕ → Tables → Bytes → Program → Verdict Tables
     map_read k t section program =
@@ -392,16 +391,16 @@ module _ (R : Records) (grows : (l l' new : List StreamRecord) → R l l' → R 
     pmt_alike : (o o' : Option FirstPat) (m m' : Option FirstPmt) (section : Bytes) → SamePat o o' → SamePmt m m'
         → Both (AlikeTables R) (pmt_section edition i o m section t) (pmt_section edition j o' m' section t')
     unfolding pmt_section
-    pmt_alike none none m m' section h k = (_, refl, a)
-    pmt_alike none (some f) m m' section h k = absurd h
-    pmt_alike (some f) none m m' section h k = absurd h
-    pmt_alike (some f) (some f') none none section h k =
+    pmt_alike None None m m' section h k = (_, refl, a)
+    pmt_alike None (Some f) m m' section h k = absurd h
+    pmt_alike (Some f) None m m' section h k = absurd h
+    pmt_alike (Some f) (Some f') None None section h k =
         subst (λ (x : Program). Both (AlikeTables R) (map_read i t section f.says) (map_read j t' section x)) h.1
         (both_value (AlikeTables R) (read_pmt edition f.says.number f.says.map_pid section) _ _
         (λ m. (_, refl, record { pat = a.pat; pmt = (refl, refl); pcr = a.pcr; records = more_records _ })))
-    pmt_alike (some f) (some f') none (some m) section h k = absurd k
-    pmt_alike (some f) (some f') (some m) none section h k = absurd k
-    pmt_alike (some f) (some f') (some m) (some m') section h k = later_alike 26 m.section m'.section section k.0
+    pmt_alike (Some f) (Some f') None (Some m) section h k = absurd k
+    pmt_alike (Some f) (Some f') (Some m) None section h k = absurd k
+    pmt_alike (Some f) (Some f') (Some m) (Some m') section h k = later_alike 26 m.section m'.section section k.0
 
     section_alike : (kind : Kind) (b : Bool) (w : Bytes)
         → Both (AlikeTables R) (section_read edition kind i b w t) (section_read edition kind j b w t')
@@ -473,10 +472,10 @@ module _ (R : Records) (edition : Edition) (rooms : Rooms) (i j : ℕ) (q : Byte
   added_alike : (x x' : Extraction) → AlikeUnits x x' → (o o' : Option OpenPes) → AlikePes o o'
       → AlikeUnits (added_to i q kind o x) (added_to j q kind o' x')
   unfolding added_to
-  added_alike x x' a none none h = a
-  added_alike x x' a none (some o) h = absurd h
-  added_alike x x' a (some o) none h = absurd h
-  added_alike x x' a (some o) (some o') h =
+  added_alike x x' a None None h = a
+  added_alike x x' a None (Some o) h = absurd h
+  added_alike x x' a (Some o) None h = absurd h
+  added_alike x x' a (Some o) (Some o') h =
       record { pes = (h.0, ap (λ (s : Bytes). s ++ unit_bytes i q kind) h.1); carried = a.carried; times = a.times }
 
   carried_alike : AlikeRules R R (carried i q kind) (carried j q kind)

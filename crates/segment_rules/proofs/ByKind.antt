@@ -1,16 +1,15 @@
 -- What one packet that passed 21, 22 and 23 does to the state, by what its PID is at that moment. Assumes nothing.
+use Rattle.ticks.specs.declared.Ticks27.{Ticks27}
+use Rattle.std.specs.Prelude.{Option, Some, None}
 use Prim.Native.Nat.{ℕ}
 use mathlib.Core.Bool.{Bool, true, false}
 use mathlib.Core.Path.{◌≡◌, refl, ap, ◌∙◌}
-use mathlib.Core.Option.{Option, none, some}
 use borrow.Author.Tests.{eq-eqb}
 use lib.Dec.{eqb}
 use Rattle.lists.specs.Lists.{Bytes, pick}
 use Rattle.refusal.specs.Verdict.{Verdict, passed, ◌>>=◌, ◌>>◌, at_place}
 use Rattle.descriptor.specs.Edition.{Edition}
 use Rattle.packet.specs.declared.header.Header.{Header}
-use Rattle.packet.specs.declared.header.Clock.{Clock}
-use Rattle.packet.specs.declared.header.Clock.TheVariants as clock
 use Rattle.packet.specs.Header.{header_of, pid, null_pid, pcr, has_payload, payload, payload_unit_start_indicator}
 use Rattle.packet.specs.Counter.{record_of}
 use Rattle.packet.proofs.Counters.{unrecorded}
@@ -62,7 +61,7 @@ module _ (edition : Edition) (rooms : Rooms) (i : ℕ) (p : Bytes) (st : State) 
 
   -- ---- null packets, unlisted and other listed PIDs
   -- a packet of a PID that has no record: its PCR may count
-  uncounted : record_of (pid p) st.tables.records ≡ none → counted i p st ≡ passed (with_tables (clocked i p st.tables) st)
+  uncounted : record_of (pid p) st.tables.records ≡ None → counted i p st ≡ passed (with_tables (clocked i p st.tables) st)
   unfolding on_tables checked at_place ◌>>=◌
   uncounted e = rw (unrecorded i p st.tables.records e)
 
@@ -72,29 +71,29 @@ module _ (edition : Edition) (rooms : Rooms) (i : ℕ) (p : Bytes) (st : State) 
   other_listed = counter_alone Listed refl (λ _ _ _. refl)
 
   -- an unlisted packet has no record; it may bring a PCR, where its PID is the PCR PID, and changes nothing else
-  pub unlisted : record_of (pid p) st.tables.records ≡ none
+  pub unlisted : record_of (pid p) st.tables.records ≡ None
       → packet_rules edition rooms i p Unlisted st ≡ passed (with_tables (clocked i p st.tables) st)
   unfolding section_read
   unlisted e = counter_alone Unlisted refl (λ _ _ _. refl) ∙ uncounted e
 
   -- a null packet leaves the state as it is: "PID 0x1FFF has none"
-  pub null_packet : pid p ≡ null_pid → record_of null_pid st.tables.records ≡ none → packet_rules edition rooms i p Null st ≡ passed st
+  pub null_packet : pid p ≡ null_pid → record_of null_pid st.tables.records ≡ None → packet_rules edition rooms i p Null st ≡ passed st
   unfolding section_read pcr counting_pcr pick
   null_packet n e =
       counter_alone Null refl (λ _ _ _. refl)
       ∙ uncounted (ap (λ (m : ℕ). record_of m st.tables.records) n ∙ e)
-      ∙ ap (λ (c : Clock). passed (with_tables (with_pcr c st.tables) st)) (ap (last_pcr st.tables.pcr) (no_clock st.tables.pmt))
+      ∙ ap (λ (c : Option Ticks27). passed (with_tables (with_pcr c st.tables) st)) (ap (last_pcr st.tables.pcr) (no_clock st.tables.pmt))
     where
-      none_here : pcr p ≡ clock.None
+      none_here : pcr p ≡ None
       none_here = rw (eq-eqb (pid p) null_pid n)
 
-      either : (b : Bool) → pick b clock.None clock.None ≡ clock.None
+      either : (b : Bool) → ◌≡◌ {A = Option Ticks27} (pick b None None) None
       either true = refl
       either false = refl
 
-      no_clock : (pmt : Option FirstPmt) → counting_pcr pmt p ≡ clock.None
-      no_clock none = refl
-      no_clock (some pmt) = ap (λ (c : Clock). pick (eqb (pid p) pmt.says.pcr_pid) c clock.None) none_here
+      no_clock : (pmt : Option FirstPmt) → counting_pcr pmt p ≡ None
+      no_clock None = refl
+      no_clock (Some pmt) = ap (λ (c : Option Ticks27). pick (eqb (pid p) pmt.says.pcr_pid) c None) none_here
           ∙ either (eqb (pid p) pmt.says.pcr_pid)
 
   -- ---- PID 0 and the map PID

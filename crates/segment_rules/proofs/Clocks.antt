@@ -1,15 +1,14 @@
 -- No PCR has counted as long as there is no PMT (`no_early_pcr`): "in a packet after the PMT". Assumes nothing.
+use Rattle.std.specs.Prelude.{Option, Some, None}
 use Prim.Native.Nat.{ℕ}
 use mathlib.Core.Bool.{Bool}
 use mathlib.Core.Path.{◌≡◌, refl, ap, ◌∙◌}
 use mathlib.Core.List.{List}
-use mathlib.Core.Option.{Option, none, some}
 use lib.Dec.{eqb}
 use Rattle.lists.specs.Lists.{Bytes}
 use Rattle.lists.proofs.Picks.{either}
 use Rattle.refusal.specs.Verdict.{passed}
 use Rattle.descriptor.specs.Edition.{Edition}
-use Rattle.packet.specs.declared.header.Clock.TheVariants as clock
 use Rattle.packet.specs.Header.{pid, pcr}
 use Rattle.packet.proofs.Counters.{some_not_none}
 use Rattle.segment_rules.specs.State.{FirstPat, FirstPmt, Tables, Kind, Null, Pat, Map, Av1, Listed, Unlisted}
@@ -21,13 +20,13 @@ use Rattle.segment_rules.proofs.Lasting.{AnyPacket, any_packets, run_lasts}
 use Rattle.segment_rules.proofs.Keeping.{Holds, holds_then, holds_each}
 
 -- a packet without a PCR has none that counts
-pub uncounted : (p : Bytes) (pmt : Option FirstPmt) → pcr p ≡ clock.None → counting_pcr pmt p ≡ clock.None
+pub uncounted : (p : Bytes) (pmt : Option FirstPmt) → pcr p ≡ None → counting_pcr pmt p ≡ None
 unfolding counting_pcr
-uncounted p none e = refl
-uncounted p (some pmt) e = rw e (either (eqb (pid p) pmt.says.pcr_pid) clock.None)
+uncounted p None e = refl
+uncounted p (Some pmt) e = rw e (either (eqb (pid p) pmt.says.pcr_pid) None)
 
 abbrev NoneEarly : Tables → Type 0
-NoneEarly t = t.pmt ≡ none → t.pcr ≡ clock.None
+NoneEarly t = t.pmt ≡ None → t.pcr ≡ None
 
 -- a packet's PCR
 clocked_keeps : (i : ℕ) (p : Bytes) (t : Tables) → NoneEarly t → NoneEarly (clocked i p t)
@@ -42,14 +41,14 @@ module _ (edition : Edition) (i : ℕ) (t : Tables) (h : NoneEarly t) where
 
   pat_keeps : (pat : Option FirstPat) (section : Bytes) → Holds NoneEarly (pat_section i pat section t)
   unfolding pat_section
-  pat_keeps none section = holds_each NoneEarly _ _ (λ _ _. h)
-  pat_keeps (some first) section = later_keeps 25 first.section section
+  pat_keeps None section = holds_each NoneEarly _ _ (λ _ _. h)
+  pat_keeps (Some first) section = later_keeps 25 first.section section
 
   pmt_keeps : (pat : Option FirstPat) (pmt : Option FirstPmt) (section : Bytes) → Holds NoneEarly (pmt_section edition i pat pmt section t)
   unfolding pmt_section
-  pmt_keeps none pmt section = h
-  pmt_keeps (some pat) none section = holds_each NoneEarly _ _ (λ _ _ e. absurd (some_not_none _ e))
-  pmt_keeps (some pat) (some first) section = later_keeps 26 first.section section
+  pmt_keeps None pmt section = h
+  pmt_keeps (Some pat) None section = holds_each NoneEarly _ _ (λ _ _ e. absurd (some_not_none _ e))
+  pmt_keeps (Some pat) (Some first) section = later_keeps 26 first.section section
 
   section_keeps : (kind : Kind) (b : Bool) (w : Bytes) → Holds NoneEarly (section_read edition kind i b w t)
   unfolding section_read
@@ -62,8 +61,8 @@ module _ (edition : Edition) (i : ℕ) (t : Tables) (h : NoneEarly t) where
 
 -- a run
 module _ (edition : Edition) (rooms : Rooms) where
-  pub no_early_pcr : (ps : List Bytes) (g : Progress) → run edition rooms start ps ≡ passed g → g.state.tables.pmt ≡ none
-      → g.state.tables.pcr ≡ clock.None
+  pub no_early_pcr : (ps : List Bytes) (g : Progress) → run edition rooms start ps ≡ passed g → g.state.tables.pmt ≡ None
+      → g.state.tables.pcr ≡ None
   unfolding checked
   no_early_pcr ps g e =
       run_lasts edition rooms NoneEarly AnyPacket clocked_keeps (λ i p t _ h. holds_each NoneEarly _ _ (λ _ _. h))

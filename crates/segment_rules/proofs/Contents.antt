@@ -2,11 +2,11 @@
 -- they stand one behind the other within the unit, none is empty, each type has four bits, and there are 1 to 64 (`unit_places`,
 -- `unit_count`), so at most 65,536 in all (`places_few`). The map: at most twelve streams, PIDs up to 0x1FFE, stream_types of a byte
 -- (`streams_right`). The times pass 8,589,934,592 nowhere (`times_most`). Assumes nothing.
+use Rattle.std.specs.Prelude.{Option, Some, None}
 use Prim.Native.Nat.{ℕ, zero, suc, ◌+◌, ◌*◌, ◌<◌, ◌≤◌, ◌^◌, ◌/◌}
 use mathlib.Core.Bool.{true, not, ◌||◌}
 use mathlib.Core.Path.{◌≡◌, refl, sym, ap, ap₂, ◌∙◌, subst}
 use mathlib.Core.List.{List, [], ◌∷◌, ◌++◌, map, append_assoc}
-use mathlib.Core.Option.{Option, none, some}
 use native.Mathlib.Omega.{arith}
 use borrow.Author.Tests.{eqb-true, eqb-false, ltb-false, not-false}
 use lib.Dec.{eqb, ltb}
@@ -24,7 +24,6 @@ use Rattle.descriptor.specs.Edition.{Edition}
 use Rattle.packet.specs.Header.{packet_length, packets_of, packets, null_pid, payload, payload_unit_start_indicator}
 use Rattle.psi.specs.Section.{behind_pointer, section_size, section_of}
 use Rattle.pes.specs.declared.header.Times.{Times}
-use Rattle.pes.specs.declared.header.Times.TheVariants.{Absent, Stamps}
 use Rattle.pes.specs.Pes.{no_times}
 use Rattle.pmt.specs.Pmt.{MapEntry, MapContent, elementary_pid, entry_size, pid_wrong, entry}
 use Rattle.pmt.specs.Pmt.{pids, most_entries, entries_after, entry_bytes, read_pmt}
@@ -234,8 +233,8 @@ module _ (edition : Edition) (P : MapContent → Type 0) (Q : Bytes → Type 0)
     (reads : (program map_pid : ℕ) (p : Bytes) (m : MapContent) → Q p →
     read_pmt edition program map_pid (section_of (payload p)) ≡ passed m → P m) where
   abbrev PmtRight : Option FirstPmt → Type 0
-  PmtRight none = Unit {0}
-  PmtRight (some first) = P first.says
+  PmtRight None = Unit {0}
+  PmtRight (Some first) = P first.says
 
   abbrev MapRight : Tables → Type 0
   MapRight t = PmtRight t.pmt
@@ -254,14 +253,14 @@ module _ (edition : Edition) (P : MapContent → Type 0) (Q : Bytes → Type 0)
   section_lasts i p Pat t o h = holds_then MapRight _ _ (λ _ _. go t.pat)
     where
       go : (pat : Option FirstPat) → Holds MapRight (rules.pat_section i pat (section_of (payload p)) t)
-      go none = holds_each MapRight _ _ (λ _ _. h)
-      go (some pat) = holds_then MapRight _ _ (λ _ _. h)
+      go None = holds_each MapRight _ _ (λ _ _. h)
+      go (Some pat) = holds_then MapRight _ _ (λ _ _. h)
   section_lasts i p Map t o h = holds_then MapRight _ _ (λ _ _. go t.pat t.pmt)
     where
       go : (pat : Option FirstPat) (pmt : Option FirstPmt) → Holds MapRight (rules.pmt_section edition i pat pmt (section_of (payload p)) t)
-      go none pmt = h
-      go (some pat) none = holds_each MapRight _ _ (λ m e. reads pat.says.number pat.says.map_pid p m o e)
-      go (some pat) (some pmt) = holds_then MapRight _ _ (λ _ _. h)
+      go None pmt = h
+      go (Some pat) None = holds_each MapRight _ _ (λ m e. reads pat.says.number pat.says.map_pid p m o e)
+      go (Some pat) (Some pmt) = holds_then MapRight _ _ (λ _ _. h)
   section_lasts i p Av1 t o h = h
   section_lasts i p Listed t o h = h
   section_lasts i p Unlisted t o h = h
@@ -269,9 +268,9 @@ module _ (edition : Edition) (P : MapContent → Type 0) (Q : Bytes → Type 0)
   accepted_map : (n : ℕ) (pat : Option FirstPat) (pmt : Option FirstPmt) (units : List AccessUnit) (t : Totals) (a : Accepted)
       → PmtRight pmt → accepted n pat pmt units t ≡ passed a → P a.map
   unfolding accepted
-  accepted_map n none pmt units t a h e = never e
-  accepted_map n (some pat) none units t a h e = never e
-  accepted_map n (some pat) (some pmt) units t a h e = subst (λ (x : Accepted). P x.map) (passed_same _ a e) h
+  accepted_map n None pmt units t a h e = never e
+  accepted_map n (Some pat) None units t a h e = never e
+  accepted_map n (Some pat) (Some pmt) units t a h e = subst (λ (x : Accepted). P x.map) (passed_same _ a e) h
 
   map_holds : (rooms : Rooms) (s : Bytes) (a : Accepted) → check_segment edition rooms s ≡ passed a → All Q (packets s) → P a.map
   unfolding check_segment ending
@@ -290,14 +289,14 @@ unfolding packets_of
 packets_octets zero s o = tt
 packets_octets (suc n) s o = (octets_take packet_length s o, packets_octets n (drop packet_length s) (octets_drop s packet_length o))
 
-most_by : (w : Bytes) (t : Times) → TimesBy w t → All (λ n. n ≤ 2 ^ 33) (pts_and_dts t)
+most_by : (w : Bytes) (t : Option Times) → TimesBy w t → All (λ n. n ≤ 2 ^ 33) (pts_and_dts t)
 unfolding pts_and_dts
 most_by w t k =
     case (no_times w) (λ n. subst (All (λ n. n ≤ 2 ^ 33)) (sym (k.0 n)) (omega arith, (omega arith, tt))) (λ n. go t (k.1 n))
   where
-    go : (x : Times) → Timed x → All (λ n. n ≤ 2 ^ 33) (pts_and_dts x)
-    go Absent h = absurd h
-    go (Stamps pts dts) h = (omega (arith, h.0), (omega (arith, h.1), tt))
+    go : (x : Option Times) → Timed x → All (λ n. n ≤ 2 ^ 33) (pts_and_dts x)
+    go None h = absurd h
+    go (Some u) h = (omega (arith, h.0), (omega (arith, h.1), tt))
 
 -- ---- of an accepted segment
 all_any : (l : List Bytes) → All (λ p. Unit {0}) l

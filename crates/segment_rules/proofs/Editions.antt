@@ -1,11 +1,11 @@
 -- 2026-08. "under draft 30 never occurs" (`never_30`); "44 at place 0 for an unknown edition, before 20" (`unknown_refused`); a unit's two
 -- times are 8,589,934,592 exactly where its PES had PTS_DTS_flags 00, and otherwise both have 33 bits (`times_where`); where a segment has
 -- no registration of either kind, two editions give the same verdict (`same_verdict`), since no PMT passes 28. Assumes nothing.
+use Rattle.std.specs.Prelude.{Option, Some, None}
 use Prim.Native.Nat.{ℕ, suc, ◌/◌}
 use mathlib.Core.Bool.{Bool, true, false, not, and-false}
 use mathlib.Core.Path.{◌≡◌, refl, sym, ap, ◌∙◌, subst}
 use mathlib.Core.List.{List, [], ◌∷◌, map}
-use mathlib.Core.Option.{Option, none, some}
 use borrow.Author.Tests.{eqb-false}
 use lib.Dec.{eqb, ltb}
 use lib.ListN.{length, get_or}
@@ -102,10 +102,10 @@ draft_never_30 rooms s = never_30 draft rooms refl s
 
 -- ---- times
 -- of the payload with the PES header, and of the unit's times
-abbrev pub TimesBy : Bytes → Times → Type 0
+abbrev pub TimesBy : Bytes → Option Times → Type 0
 TimesBy w t = (no_times w ≡ true → pts_and_dts t ≡ no_time ∷ no_time ∷ []) × (no_times w ≡ false → Timed t)
 
-times_by : (w : Bytes) (t : Times) → Octets w → t ≡ times_of w → TimesBy w t
+times_by : (w : Bytes) (t : Option Times) → Octets w → t ≡ times_of w → TimesBy w t
 unfolding times_of pts_and_dts pick
 times_by w t o e = ((λ n. ap pts_and_dts e ∙ rw n), (λ n. subst Timed (sym e) (stamped w o n)))
 
@@ -193,7 +193,7 @@ Neither one other p = Unregistered one (section_of (payload p)) × Unregistered 
 module _ (one other : Edition) (rooms : Rooms) where
   -- there is no PMT yet
   abbrev NoPmt : Tables → Type 0
-  NoPmt t = t.pmt ≡ none
+  NoPmt t = t.pmt ≡ None
 
   clocked_lasts : (i : ℕ) (p : Bytes) (t : Tables) → NoPmt t → NoPmt (rules.clocked i p t)
   clocked_lasts i p t h = h
@@ -209,17 +209,17 @@ module _ (one other : Edition) (rooms : Rooms) where
   section_lasts i p state.Pat t w h = holds_then NoPmt _ _ (λ _ _. go t.pat)
     where
       go : (pat : Option FirstPat) → Holds NoPmt (rules.pat_section i pat (section_of (payload p)) t)
-      go none = holds_each NoPmt _ _ (λ _ _. h)
-      go (some pat) = holds_then NoPmt _ _ (λ _ _. h)
+      go None = holds_each NoPmt _ _ (λ _ _. h)
+      go (Some pat) = holds_then NoPmt _ _ (λ _ _. h)
   section_lasts i p state.Map t w h = holds_then NoPmt _ _ (λ _ _. go t.pat t.pmt h)
     where
-      go : (pat : Option FirstPat) (pmt : Option FirstPmt) → pmt ≡ none
+      go : (pat : Option FirstPat) (pmt : Option FirstPmt) → pmt ≡ None
           → Holds NoPmt (rules.pmt_section one i pat pmt (section_of (payload p)) t)
-      go none pmt e = h
-      go (some pat) none e =
+      go None pmt e = h
+      go (Some pat) None e =
           holds_each NoPmt _ _
           (λ m k. absurd (pmt_never one pat.says.number pat.says.map_pid (section_of (payload p)) m w.0 k))
-      go (some pat) (some pmt) e = holds_then NoPmt _ _ (λ _ _. h)
+      go (Some pat) (Some pmt) e = holds_then NoPmt _ _ (λ _ _. h)
   section_lasts i p state.Av1 t w h = h
   section_lasts i p state.Listed t w h = h
   section_lasts i p state.Unlisted t w h = h
@@ -234,14 +234,14 @@ module _ (one other : Edition) (rooms : Rooms) where
     where
       go : (pat : Option FirstPat) (pmt : Option FirstPmt)
           → rules.pmt_section one i pat pmt (section_of (payload p)) t ≡ rules.pmt_section other i pat pmt (section_of (payload p)) t
-      go none pmt = refl
-      go (some pat) none =
+      go None pmt = refl
+      go (Some pat) None =
           ap
           (λ (v : Verdict MapContent). v
           >>= λ m. passed (with_pmt (record { packet = i; section = section_of (payload p); says = m }) (map named (pids m.entries)) t))
           (pmt_not one pat.says.number pat.says.map_pid (section_of (payload p)) w.0
           ∙ sym (pmt_not other pat.says.number pat.says.map_pid (section_of (payload p)) w.1))
-      go (some pat) (some pmt) = refl
+      go (Some pat) (Some pmt) = refl
   section_same i p state.Av1 b t w h = refl
   section_same i p state.Listed b t w h = refl
   section_same i p state.Unlisted b t w h = refl

@@ -1,7 +1,7 @@
 -- Small segments, checked by the definitions themselves: the statement holds by computation. Assumes nothing.
+use Rattle.std.specs.Prelude.{Option, Some, None}
 use Prim.Native.Nat.{ℕ, zero, suc, ◌+◌, ◌-◌, ◌/◌, ◌%◌}
 use mathlib.Core.Path.{◌≡◌, refl}
-use mathlib.Core.Option.{Option, none, some}
 use mathlib.Core.List.{List, [], ◌∷◌, ◌++◌, map, flatten}
 use lib.ListN.{length, take, replicate}
 use Rattle.lists.specs.Lists.{Bytes, pick, same, all, any, those}
@@ -118,8 +118,8 @@ other_packet high low n = 0x47 ∷ high ∷ low ∷ (0x10 + n) ∷ replicate 184
 -- of a refusal its number and its place; of acceptance 0, the program number, the AV1 PID, the five totals, the units' lengths and their
 -- times, and the unit and the field of the first sequence header that disagrees, if one does
 abbrev pub found_of : Option Disagreement → List ℕ
-found_of none = []
-found_of (some d) = d.unit ∷ d.field ∷ []
+found_of None = []
+found_of (Some d) = d.unit ∷ d.field ∷ []
 
 abbrev pub answer_of : Verdict Answered → List ℕ
 answer_of (refused number place) = number ∷ place ∷ []
@@ -233,10 +233,10 @@ unfolding bytes_before pat_packet pmt_packet draft_packet long_packet clock_pack
     bits.when bits.times bits.zeros_from bits.uvlc sequence.timing_info sequence.decoder_model_info sequence.timed_model
     sequence.delay_length
     sequence.operating_parameters sequence.decoder_model sequence.display_delay sequence.operating_point sequence.operating_points
-    sequence.reduced_point sequence.frame_size sequence.id_lengths sequence.frame_ids sequence.integer_mv sequence.order_tools
-    sequence.screen_tools sequence.inter_tools sequence.described_color sequence.color_description sequence.is_srgb
+    sequence.reduced_point sequence.frame_size sequence.frame_ids sequence.integer_mv sequence.order_tools
+    sequence.screen_tools sequence.inter_tools sequence.color_description sequence.is_srgb
     sequence.coded_subsampling
-    sequence.subsampling sequence.positioned sequence.grey sequence.other_color sequence.chroma_format sequence.nine sequence.color_config
+    sequence.subsampling sequence.positioned sequence.grey sequence.other_color sequence.chroma_format sequence.color_config
     sequence.frames_and_tools sequence.sequence_header compare.of_header compare.of_descriptor compare.first_differing compare.reading
     compare.comparing comparison.sequence_content comparison.first_of comparison.first_from compared.compared_with compared.check_compared
     descriptor.fields_of

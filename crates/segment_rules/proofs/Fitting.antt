@@ -1,9 +1,9 @@
 -- What an accepted segment gives fits the outputs, and is of at most 1,024 units (`accepted_fits`): 8 and 34 are tried at each PES start,
 -- and 8 at each payload. Assumes nothing.
+use Rattle.std.specs.Prelude.{Option, Some, None}
 use Prim.Native.Nat.{ℕ, ◌+◌, ◌*◌, ◌≤◌}
 use mathlib.Core.Path.{◌≡◌, refl, sym, ap, ◌∙◌, subst}
 use mathlib.Core.List.{List, [], ◌∷◌, ◌++◌, flatten, append-nil, append_assoc}
-use mathlib.Core.Option.{Option, none, some}
 use native.Mathlib.Omega.{arith}
 use lib.ListN.{length, length-append}
 use Rattle.lists.specs.Lists.{Bytes}
@@ -27,10 +27,10 @@ carried_and_one (v ∷ units) u =
     ap (λ (r : Bytes). v.carried ++ r) (carried_and_one units u) ∙ sym (append_assoc v.carried (carried_units units) u.carried)
 
 -- the closing keeps them
-pub closed_same : (x x' : Extraction) → Closes x x' → (so_far x' ≡ so_far x) × (x'.pes ≡ none)
-closed_same x x' (none_open n e) = subst (λ (y : Extraction). (so_far y ≡ so_far x) × (y.pes ≡ none)) (sym e) (refl, n)
+pub closed_same : (x x' : Extraction) → Closes x x' → (so_far x' ≡ so_far x) × (x'.pes ≡ None)
+closed_same x x' (none_open n e) = subst (λ (y : Extraction). (so_far y ≡ so_far x) × (y.pes ≡ None)) (sym e) (refl, n)
 closed_same x x' (one_open o l at sized read e) =
-    subst (λ (y : Extraction). (so_far y ≡ so_far x) × (y.pes ≡ none)) (sym e) (
+    subst (λ (y : Extraction). (so_far y ≡ so_far x) × (y.pes ≡ None)) (sym e) (
       ap length
           (append-nil (carried_units (x.units ++ (unit_of o ∷ []))) ∙ carried_and_one x.units (unit_of o)
           ∙ ap (λ (z : Option OpenPes). carried_units x.units ++ open_bytes z) (sym at)),
@@ -40,8 +40,8 @@ closed_same x x' (one_open o l at sized read e) =
 -- ---- what each packet keeps
 -- how many PES have opened
 abbrev is_one : Option OpenPes → ℕ
-is_one none = 0
-is_one (some o) = 1
+is_one None = 0
+is_one (Some o) = 1
 
 abbrev opened : Extraction → ℕ
 opened x = length x.units + is_one x.pes

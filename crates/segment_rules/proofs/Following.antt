@@ -1,10 +1,10 @@
 -- The records of a segment's PIDs: each follows the packets of its PID since the PID was named (`records_follow`), so that 24 is given
 -- exactly where the sentence of the counter fails after them (`counter_wrong`, `counter_right`). Assumes nothing.
+use Rattle.std.specs.Prelude.{Option, Some, None}
 use Prim.Native.Nat.{ℕ}
 use mathlib.Core.Bool.{Bool, true, false}
 use mathlib.Core.Path.{◌≡◌, refl, sym, ap, ◌∙◌, subst}
 use mathlib.Core.List.{List, [], ◌∷◌, ◌++◌, map, append-nil, append_assoc}
-use mathlib.Core.Option.{Option, none, some}
 use lib.Dec.{eqb}
 use Rattle.lists.specs.Lists.{Bytes, pick}
 use Rattle.refusal.specs.Verdict.{Verdict, passed, refused, ◌>>=◌, ◌>>◌, at_place}
@@ -42,15 +42,15 @@ module _ (edition : Edition) (i : ℕ) (t : Tables) where
 
   pat_names : (pat : Option FirstPat) (section : Bytes) → Holds (Naming t.records) (pat_section i pat section t)
   unfolding pat_section
-  pat_names none section = holds_each (Naming t.records) _ _ (λ program _. (program.map_pid ∷ [], refl))
-  pat_names (some first) section = later_names 25 first.section section
+  pat_names None section = holds_each (Naming t.records) _ _ (λ program _. (program.map_pid ∷ [], refl))
+  pat_names (Some first) section = later_names 25 first.section section
 
   pmt_names : (pat : Option FirstPat) (pmt : Option FirstPmt) (section : Bytes)
       → Holds (Naming t.records) (pmt_section edition i pat pmt section t)
   unfolding pmt_section
-  pmt_names none pmt section = none_named
-  pmt_names (some pat) none section = holds_each (Naming t.records) _ _ (λ m _. (pids m.entries, refl))
-  pmt_names (some pat) (some first) section = later_names 26 first.section section
+  pmt_names None pmt section = none_named
+  pmt_names (Some pat) None section = holds_each (Naming t.records) _ _ (λ m _. (pids m.entries, refl))
+  pmt_names (Some pat) (Some first) section = later_names 26 first.section section
 
   section_names : (kind : Kind) (b : Bool) (w : Bytes) → Holds (Naming t.records) (section_read edition kind i b w t)
   unfolding section_read
@@ -137,15 +137,15 @@ module _ (edition : Edition) (rooms : Rooms) where
     pub parts : ps ≡ before ++ after
     pub there : Progress
     pub passes : run edition rooms start before ≡ passed there
-    pub fresh : record_of n there.state.tables.records ≡ some (named n)
+    pub fresh : record_of n there.state.tables.records ≡ Some (named n)
     pub follows : Follows r (history n after)
 
   abbrev Followed : List Bytes → Progress → Type 0
-  Followed ps g = (n : ℕ) (r : StreamRecord) → record_of n g.state.tables.records ≡ some r → SinceNamed n r ps
+  Followed ps g = (n : ℕ) (r : StreamRecord) → record_of n g.state.tables.records ≡ Some r → SinceNamed n r ps
 
   -- a PID that has just been named
   just_named : (n : ℕ) (r : StreamRecord) (ps : List Bytes) (g : Progress) → run edition rooms start ps ≡ passed g
-      → record_of n g.state.tables.records ≡ some r → r ≡ named n → SinceNamed n r ps
+      → record_of n g.state.tables.records ≡ Some r → r ≡ named n → SinceNamed n r ps
   unfolding history_after
   just_named n r ps g e h k =
       record {
@@ -154,7 +154,7 @@ module _ (edition : Edition) (rooms : Rooms) where
         parts = sym (append-nil ps);
         there = g;
         passes = e;
-        fresh = h ∙ ap some k;
+        fresh = h ∙ ap Some k;
         follows = subst (λ (t : StreamRecord). Follows t (history n [])) (sym k) (named_follows n);
       }
 
@@ -162,7 +162,7 @@ module _ (edition : Edition) (rooms : Rooms) where
   module _ (ps : List Bytes) (g g' : Progress) (p : Bytes) (e : run edition rooms start (ps ++ (p ∷ [])) ≡ passed g')
       (f : Followed ps g) where
     -- the record was there
-    longer : (n : ℕ) (r r' : StreamRecord) → record_of n g.state.tables.records ≡ some r
+    longer : (n : ℕ) (r r' : StreamRecord) → record_of n g.state.tables.records ≡ Some r
         → r' ≡ pick (eqb (pid p) n) (updated g.index r p) r → SinceNamed n r' (ps ++ (p ∷ []))
     longer n r r' h k =
         let s = f n r h in
@@ -178,15 +178,15 @@ module _ (edition : Edition) (rooms : Rooms) where
         }
 
     -- it was there, or it is new
-    either : (n : ℕ) (r' : StreamRecord) (after : List StreamRecord) (new : List ℕ) → record_of n g'.state.tables.records ≡ some r'
+    either : (n : ℕ) (r' : StreamRecord) (after : List StreamRecord) (new : List ℕ) → record_of n g'.state.tables.records ≡ Some r'
         → g'.state.tables.records ≡ after ++ map named new → (o o' : Option StreamRecord) → record_of n g.state.tables.records ≡ o
         → record_of n after ≡ o' → o' ≡ record_after g.index n p o → SinceNamed n r' (ps ++ (p ∷ []))
-    either n r' after new h split none none ho ha hc =
+    either n r' after new h split None None ho ha hc =
         just_named n r' (ps ++ (p ∷ [])) g' e h
         (named_record n r' new (sym (new_record n after (map named new) ha) ∙ ap (record_of n) (sym split) ∙ h))
-    either n r' after new h split none (some s) ho ha hc = absurd (some_not_none s hc)
-    either n r' after new h split (some r) none ho ha hc = absurd (some_not_none _ (sym hc))
-    either n r' after new h split (some r) (some s) ho ha hc =
+    either n r' after new h split None (Some s) ho ha hc = absurd (some_not_none s hc)
+    either n r' after new h split (Some r) None ho ha hc = absurd (some_not_none _ (sym hc))
+    either n r' after new h split (Some r) (Some s) ho ha hc =
         longer n r r' ho
         (some_same r' s (sym h ∙ ap (record_of n) split ∙ kept_record n after (map named new) s ha) ∙ some_same s _ hc)
 
@@ -214,7 +214,7 @@ module _ (edition : Edition) (rooms : Rooms) where
 
   -- each record follows the packets of its PID since the PID was named
   pub records_follow : (ps : List Bytes) (g : Progress) → run edition rooms start ps ≡ passed g
-      → (n : ℕ) (r : StreamRecord) → record_of n g.state.tables.records ≡ some r → SinceNamed n r ps
+      → (n : ℕ) (r : StreamRecord) → record_of n g.state.tables.records ≡ Some r → SinceNamed n r ps
   unfolding run
   records_follow ps g e = run_follows [] start ps g refl (λ n r h. just_named n r [] start refl h (named_record n r (0 ∷ []) h)) e
 
@@ -223,7 +223,7 @@ module _ (edition : Edition) (rooms : Rooms) where
   -- packets since then
   module _ (ps : List Bytes) (g : Progress) (p : Bytes) (e : run edition rooms start ps ≡ passed g) (h : Header)
       (right : header_of p ≡ passed h)
-      (r : StreamRecord) (has : record_of (pid p) g.state.tables.records ≡ some r) where
+      (r : StreamRecord) (has : record_of (pid p) g.state.tables.records ≡ Some r) where
     abbrev since : List Bytes
     since = history (pid p) (records_follow ps g e (pid p) r has).after
 

@@ -1,9 +1,9 @@
 -- The units grow by the closing of a PES alone: after one packet they are those before it, or the unit of the PES that was open stands
 -- behind them (`packet_grows`); and so it is where the open PES closes at the end (`close_grows`). Assumes nothing.
+use Rattle.std.specs.Prelude.{Some}
 use Prim.Native.Nat.{ℕ}
 use mathlib.Core.Path.{◌≡◌, refl, ap, ◌∙◌}
 use mathlib.Core.List.{[], ◌∷◌, ◌++◌}
-use mathlib.Core.Option.{some}
 use Rattle.lists.specs.Lists.{Bytes}
 use Rattle.refusal.specs.Verdict.{passed}
 use Rattle.descriptor.specs.Edition.{Edition}
@@ -13,7 +13,7 @@ use Rattle.segment_rules.proofs.Moving.{Moved, stays, starting, adding, packet_m
 
 pub data Grows (x x' : Extraction) : Type 0 where
   same_units : x'.units ≡ x.units → Grows x x'
-  one_more : (o : OpenPes) → x.pes ≡ some o → x'.units ≡ x.units ++ (unit_of o ∷ []) → Grows x x'
+  one_more : (o : OpenPes) → x.pes ≡ Some o → x'.units ≡ x.units ++ (unit_of o ∷ []) → Grows x x'
 
 closes_grows : (x y x' : Extraction) → Closes x y → x'.units ≡ y.units → Grows x x'
 closes_grows x y x' (none_open n e) k = same_units (k ∙ ap (λ (z : Extraction). z.units) e)

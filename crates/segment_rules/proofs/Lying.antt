@@ -1,11 +1,11 @@
 -- What the tables say lies in the segment: before the first packet (`valid_start`), and after each packet of the segment (`valid_packet`,
 -- `valid_run`), since a record's last packet is the one that was checked, and a first section that of the packet that brought it. The
 -- records are at most fourteen (`few_records`), since a map that was read has at most twelve entries. Assumes nothing.
+use Rattle.std.specs.Prelude.{Option, Some, None}
 use Prim.Native.Nat.{ℕ, zero, suc, ◌+◌, ◌*◌, ◌≤◌, ◌/◌}
 use mathlib.Core.Bool.{Bool, true, false}
 use mathlib.Core.Path.{◌≡◌, refl, sym, ap, ◌∙◌, subst}
 use mathlib.Core.List.{List, [], ◌∷◌, ◌++◌, map}
-use mathlib.Core.Option.{Option, none, some}
 use native.Mathlib.Omega.{arith}
 use lib.Dec.{eqb}
 use lib.ListN.{length, take, drop, length-map}
@@ -73,9 +73,9 @@ module _ (edition : Edition) (segment : Bytes) where
     where
       go : (pat : Option FirstPat) (pmt : Option FirstPmt) → PmtLies segment edition pat pmt → pids_of t.records ≡ named_pids pat pmt
           → length t.records ≤ most_records
-      go none pmt h e = omega (arith, length-map t.records (λ (r : StreamRecord). r.pid), ap length e)
-      go (some f) none h e = omega (arith, length-map t.records (λ (r : StreamRecord). r.pid), ap length e)
-      go (some f) (some m) h e =
+      go None pmt h e = omega (arith, length-map t.records (λ (r : StreamRecord). r.pid), ap length e)
+      go (Some f) None h e = omega (arith, length-map t.records (λ (r : StreamRecord). r.pid), ap length e)
+      go (Some f) (Some m) h e =
           let read = says edition f.says.number f.says.map_pid m.section m.says h.1 in
           let few = at_most_twelve f.says.map_pid (entry_bytes m.section) m.says.entries read.listed in
           omega (
@@ -112,11 +112,11 @@ module _ (edition : Edition) (segment : Bytes) where
       also_named t' (subst (Holds Named) e (checked_named i p t v.named)) (subst (Holds Lies) e (checked_lies i p at t (lies t v)))
 
   -- before a PAT there is no PMT
-  no_map_yet : (pat : Option FirstPat) (pmt : Option FirstPmt) → pat ≡ none → PmtLies segment edition pat pmt → (first : FirstPat)
-      → PmtLies segment edition (some first) pmt
-  no_map_yet none none e h first = tt
-  no_map_yet none (some m) e h first = absurd h
-  no_map_yet (some f) pmt e h first = absurd (some_not_none f e)
+  no_map_yet : (pat : Option FirstPat) (pmt : Option FirstPmt) → pat ≡ None → PmtLies segment edition pat pmt → (first : FirstPat)
+      → PmtLies segment edition (Some first) pmt
+  no_map_yet None None e h first = tt
+  no_map_yet None (Some m) e h first = absurd h
+  no_map_yet (Some f) pmt e h first = absurd (some_not_none f e)
 
   module _ (i : ℕ) (p : Bytes) (at : p ≡ packet_at segment i) (t : Tables) (h : Lies t) where
     later_lies : (number : ℕ) (first section : Bytes) → Holds Lies (later_section number first section t)
@@ -125,28 +125,28 @@ module _ (edition : Edition) (segment : Bytes) where
 
     pat_lies : (pat : Option FirstPat) → t.pat ≡ pat → Holds Lies (pat_section i pat (section_of (payload p)) t)
     unfolding pat_section
-    pat_lies none e =
+    pat_lies None e =
         holds_each Lies _ _
         (λ program _. (
           lie_append segment t.records (named program.map_pid ∷ []) h.0 (tt, tt),
           ap (λ (q : Bytes). section_of (payload q)) at,
           no_map_yet t.pat t.pmt e h.2 (record { packet = i; section = section_of (payload p); says = program }),
         ))
-    pat_lies (some first) e = later_lies 25 first.section (section_of (payload p))
+    pat_lies (Some first) e = later_lies 25 first.section (section_of (payload p))
 
     pmt_lies : (pat : Option FirstPat) (pmt : Option FirstPmt) → t.pat ≡ pat
         → Holds Lies (pmt_section edition i pat pmt (section_of (payload p)) t)
     unfolding pmt_section
-    pmt_lies none pmt e = h
-    pmt_lies (some f) none e =
+    pmt_lies None pmt e = h
+    pmt_lies (Some f) None e =
         holds_each Lies _ _
         (λ m r. let first : FirstPmt = record { packet = i; section = section_of (payload p); says = m } in (
           lie_append segment t.records (map named (pids m.entries)) h.0 (named_lie segment (pids m.entries)),
           h.1,
-          subst (λ (x : Option FirstPat). PmtLies segment edition x (some first)) (sym e)
+          subst (λ (x : Option FirstPat). PmtLies segment edition x (Some first)) (sym e)
               (ap (λ (q : Bytes). section_of (payload q)) at, r),
         ))
-    pmt_lies (some f) (some first) e = later_lies 26 first.section (section_of (payload p))
+    pmt_lies (Some f) (Some first) e = later_lies 26 first.section (section_of (payload p))
 
     section_lies : (kind : Kind) (b : Bool) → Holds Lies (section_read edition kind i b (payload p) t)
     unfolding section_read

@@ -1,11 +1,11 @@
 -- The records of a run in which a copy has come behind its original: they are those without the copy, but for the record of the copy's PID,
 -- which has the copy as its last packet and says that it was a repeat (`mark`), until the next packet of that PID comes. The two runs are
 -- compared without where the packets lie, which is 0 in all records here (`said`, Alike.antt). Assumes nothing.
+use Rattle.std.specs.Prelude.{Option, Some, None}
 use Prim.Native.Nat.{ℕ}
 use mathlib.Core.Bool.{Bool, true, false, not, ◌&&◌, ◌||◌, and-false, or-true, or-false}
 use mathlib.Core.Path.{◌≡◌, refl, sym, ap, ◌∙◌}
 use mathlib.Core.List.{List, [], ◌∷◌, ◌++◌}
-use mathlib.Core.Option.{Option, none, some}
 use native.Mathlib.Omega.{arith}
 use borrow.Author.Tests.{eq-eqb, eqb-true}
 use lib.Dec.{eqb}
@@ -21,7 +21,7 @@ use Rattle.packet.proofs.Copies.{same_front, copy_not_due}
 use Rattle.segment_rules.proofs.Sequence.{bind_assoc, bind_where, bind_same}
 
 -- a packet p, and p' that is a copy of it
-module _ (p p' : Bytes) (copies : copy_of (some p) p' ≡ true) where
+module _ (p p' : Bytes) (copies : copy_of (Some p) p' ≡ true) where
   equal : bytes_same p p' ≡ true
   unfolding copy_of
   equal = (and_both (has_payload p' && not (discontinuity_indicator p')) (bytes_same p p') copies).1
@@ -38,10 +38,10 @@ module _ (p p' : Bytes) (copies : copy_of (some p) p' ≡ true) where
 
   -- the record of the PID after the original, and after the copy
   abbrev pub after_original : StreamRecord
-  after_original = record { pid = pid p; last = some p; lies = 0; repeat = false }
+  after_original = record { pid = pid p; last = Some p; lies = 0; repeat = false }
 
   abbrev pub after_copy : StreamRecord
-  after_copy = record { pid = pid p; last = some p'; lies = 0; repeat = true }
+  after_copy = record { pid = pid p; last = Some p'; lies = 0; repeat = true }
 
   unfoldable pub mark : List StreamRecord → List StreamRecord
   mark [] = []
@@ -54,10 +54,10 @@ module _ (p p' : Bytes) (copies : copy_of (some p) p' ≡ true) where
   check_copy : check 0 after_original p' ≡ passed after_copy
   check_copy =
       check_right 0 after_original p'
-      (ap (λ (b : Bool). counter_right (some p) p' || b) repeats_it ∙ or-true (counter_right (some p) p'))
-      ∙ ap (λ (b : Bool). passed (record { pid = pid p; last = some p'; lies = 0; repeat = b })) repeats_it
+      (ap (λ (b : Bool). counter_right (Some p) p' || b) repeats_it ∙ or-true (counter_right (Some p) p'))
+      ∙ ap (λ (b : Bool). passed (record { pid = pid p; last = Some p'; lies = 0; repeat = b })) repeats_it
 
-  pub copy_checked : (records : List StreamRecord) → record_of (pid p) records ≡ some after_original
+  pub copy_checked : (records : List StreamRecord) → record_of (pid p) records ≡ Some after_original
       → checked_in 0 records p' ≡ passed (mark records)
   unfolding checked_in record_of mark pick ◌>>=◌
   copy_checked [] e = absurd (some_not_none after_original (sym e))
@@ -67,8 +67,8 @@ module _ (p p' : Bytes) (copies : copy_of (some p) p' ≡ true) where
       same_pid
       ∙ go (eqb r.pid (pid p)) e (copy_checked records)
     where
-      go : (b : Bool) → pick b (some r) (record_of (pid p) records) ≡ some after_original
-          → (record_of (pid p) records ≡ some after_original → checked_in 0 records p' ≡ passed (mark records))
+      go : (b : Bool) → pick b (Some r) (record_of (pid p) records) ≡ Some after_original
+          → (record_of (pid p) records ≡ Some after_original → checked_in 0 records p' ≡ passed (mark records))
           → pick b (check 0 r p' >>= λ r'. passed (r' ∷ records)) (checked_in 0 records p' >>= λ records'. passed (r ∷ records'))
           ≡ passed (pick b (after_copy ∷ records) (r ∷ mark records))
       go true k more = rw (some_same r after_original k, check_copy)
@@ -82,15 +82,15 @@ module _ (p p' : Bytes) (copies : copy_of (some p) p' ≡ true) where
   mark_other n (r ∷ records) e = go (eqb r.pid (pid p)) refl (mark_other n records e)
     where
       go : (b : Bool) → eqb r.pid (pid p) ≡ b → record_of n (mark records) ≡ record_of n records
-          → record_of n (pick b (after_copy ∷ records) (r ∷ mark records)) ≡ pick (eqb r.pid n) (some r) (record_of n records)
+          → record_of n (pick b (after_copy ∷ records) (r ∷ mark records)) ≡ pick (eqb r.pid n) (Some r) (record_of n records)
       go true h more =
           let off : eqb r.pid n ≡ false = ap (λ (m : ℕ). eqb m n) (eqb-true r.pid (pid p) h) ∙ e in
           rw (e, off)
-      go false h more = ap (λ (o : Option StreamRecord). pick (eqb r.pid n) (some r) o) more
+      go false h more = ap (λ (o : Option StreamRecord). pick (eqb r.pid n) (Some r) o) more
 
   -- that of the copy's PID
-  pub mark_own : (records : List StreamRecord) (r : StreamRecord) → record_of (pid p) records ≡ some r
-      → record_of (pid p) (mark records) ≡ some after_copy
+  pub mark_own : (records : List StreamRecord) (r : StreamRecord) → record_of (pid p) records ≡ Some r
+      → record_of (pid p) (mark records) ≡ Some after_copy
   unfolding record_of mark pick
   mark_own [] r e = absurd (some_not_none r (sym e))
   mark_own (s ∷ records) r e = go (eqb s.pid (pid p)) refl e (mark_own records r)
@@ -98,21 +98,21 @@ module _ (p p' : Bytes) (copies : copy_of (some p) p' ≡ true) where
       own : eqb (pid p) (pid p) ≡ true
       own = eq-eqb (pid p) (pid p) refl
 
-      go : (b : Bool) → eqb s.pid (pid p) ≡ b → pick b (some s) (record_of (pid p) records) ≡ some r
-          → (record_of (pid p) records ≡ some r → record_of (pid p) (mark records) ≡ some after_copy)
-          → record_of (pid p) (pick b (after_copy ∷ records) (s ∷ mark records)) ≡ some after_copy
+      go : (b : Bool) → eqb s.pid (pid p) ≡ b → pick b (Some s) (record_of (pid p) records) ≡ Some r
+          → (record_of (pid p) records ≡ Some r → record_of (pid p) (mark records) ≡ Some after_copy)
+          → record_of (pid p) (pick b (after_copy ∷ records) (s ∷ mark records)) ≡ Some after_copy
       go true h k more = rw own
       go false h k more = rw h (more k)
 
   -- PIDs that are named
-  pub mark_append : (records new : List StreamRecord) (r : StreamRecord) → record_of (pid p) records ≡ some r
+  pub mark_append : (records new : List StreamRecord) (r : StreamRecord) → record_of (pid p) records ≡ Some r
       → mark (records ++ new) ≡ mark records ++ new
   unfolding record_of mark pick
   mark_append [] new r e = absurd (some_not_none r (sym e))
   mark_append (s ∷ records) new r e = go (eqb s.pid (pid p)) e (mark_append records new r)
     where
-      go : (b : Bool) → pick b (some s) (record_of (pid p) records) ≡ some r
-          → (record_of (pid p) records ≡ some r → mark (records ++ new) ≡ mark records ++ new)
+      go : (b : Bool) → pick b (Some s) (record_of (pid p) records) ≡ Some r
+          → (record_of (pid p) records ≡ Some r → mark (records ++ new) ≡ mark records ++ new)
           → pick b (after_copy ∷ (records ++ new)) (s ∷ mark (records ++ new)) ≡ pick b (after_copy ∷ records) (s ∷ mark records) ++ new
       go true k more = refl
       go false k more = ap (λ (l : List StreamRecord). s ∷ l) (more k)
@@ -169,11 +169,11 @@ module _ (p p' : Bytes) (copies : copy_of (some p) p' ≡ true) where
       ∙ sym (ap (λ (v : Verdict (List StreamRecord)). v >>= λ l. passed (mark l)) (behind_check r records q off))))
 
   -- the record of the PID is the first, or behind it
-  none_there : record_of (pid p) [] ≡ none
+  none_there : record_of (pid p) [] ≡ None
   unfolding record_of
   none_there = refl
 
-  record_first : (r : StreamRecord) (records : List StreamRecord) → eqb r.pid (pid p) ≡ true → record_of (pid p) (r ∷ records) ≡ some r
+  record_first : (r : StreamRecord) (records : List StreamRecord) → eqb r.pid (pid p) ≡ true → record_of (pid p) (r ∷ records) ≡ Some r
   unfolding record_of pick
   record_first r records e = rw e
 
@@ -183,21 +183,21 @@ module _ (p p' : Bytes) (copies : copy_of (some p) p' ≡ true) where
   record_behind r records e = rw e
 
   -- of the same PID, no copy of the original: then the records are the same again
-  check_next : (q : Bytes) → copy_of (some p) q ≡ false → follows after_original q ≡ true
+  check_next : (q : Bytes) → copy_of (Some p) q ≡ false → follows after_original q ≡ true
       → check 0 after_copy q ≡ passed (updated 0 after_original q)
   unfolding counter_right
   check_next q f h =
       let no_repeat : repeats after_original q ≡ false = rw f in
-      let in_step : counter_right (some p) q ≡ true =
-      sym (or-false (counter_right (some p) q)) ∙ ap (λ (b : Bool). counter_right (some p) q || b) (sym no_repeat) ∙ h in
-      let so : counter_right (some p') q ≡ true =
+      let in_step : counter_right (Some p) q ≡ true =
+      sym (or-false (counter_right (Some p) q)) ∙ ap (λ (b : Bool). counter_right (Some p) q || b) (sym no_repeat) ∙ h in
+      let so : counter_right (Some p') q ≡ true =
       ap (λ (n : ℕ). discontinuity_indicator q || eqb (continuity_counter q) (due n (has_payload q))) same_counter ∙ in_step in
       check_right 0 after_copy q (ap (λ (b : Bool). b || repeats after_copy q) so)
-      ∙ ap (λ (b : Bool). passed (record { pid = pid p; last = some q; lies = 0; repeat = b }))
-      (and-false (copy_of (some p') q) ∙ sym no_repeat)
+      ∙ ap (λ (b : Bool). passed (record { pid = pid p; last = Some q; lies = 0; repeat = b }))
+      (and-false (copy_of (Some p') q) ∙ sym no_repeat)
 
-  pub next_checked : (q : Bytes) (records after : List StreamRecord) → pid q ≡ pid p → copy_of (some p) q ≡ false
-      → record_of (pid p) records ≡ some after_original → checked_in 0 records q ≡ passed after → checked_in 0 (mark records) q ≡ passed
+  pub next_checked : (q : Bytes) (records after : List StreamRecord) → pid q ≡ pid p → copy_of (Some p) q ≡ false
+      → record_of (pid p) records ≡ Some after_original → checked_in 0 records q ≡ passed after → checked_in 0 (mark records) q ≡ passed
       after
   unfolding ◌>>=◌
   next_checked q [] after e f h k = absurd (some_not_none after_original (sym (sym none_there ∙ h)))
@@ -223,8 +223,8 @@ module _ (p p' : Bytes) (copies : copy_of (some p) p' ≡ true) where
       ∙ c.2)
 
   -- "A third copy is 24.", wherever the copies lie
-  pub third_refused : (q : Bytes) → copy_of (some p') q ≡ true → (i lies : ℕ)
-      → check i (record { pid = pid p; last = some p'; lies = lies; repeat = true }) q ≡ refused 24 0
+  pub third_refused : (q : Bytes) → copy_of (Some p') q ≡ true → (i lies : ℕ)
+      → check i (record { pid = pid p; last = Some p'; lies = lies; repeat = true }) q ≡ refused 24 0
   third_refused q e i lies =
-      check_wrong i (record { pid = pid p; last = some p'; lies = lies; repeat = true }) q
-      (ap (λ (b : Bool). b || repeats after_copy q) (copy_not_due p' q e) ∙ and-false (copy_of (some p') q))
+      check_wrong i (record { pid = pid p; last = Some p'; lies = lies; repeat = true }) q
+      (ap (λ (b : Bool). b || repeats after_copy q) (copy_not_due p' q e) ∙ and-false (copy_of (Some p') q))

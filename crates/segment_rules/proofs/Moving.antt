@@ -1,10 +1,10 @@
 -- What one packet does to the units: nothing; or it closes the open PES and opens another; or it adds to the open one (`packet_moves`). So
 -- what these steps keep holds of the units of an accepted segment (`accepted_keeps`). Assumes nothing.
+use Rattle.std.specs.Prelude.{Option, Some, None}
 use Prim.Native.Nat.{ℕ, ◌+◌, ◌*◌, ◌≤◌}
 use mathlib.Core.Bool.{Bool, true, false, not, ◌&&◌, ◌||◌}
 use mathlib.Core.Path.{◌≡◌, refl, sym, ap, ◌∙◌, subst}
 use mathlib.Core.List.{List, [], ◌∷◌, ◌++◌, append-nil, append_assoc}
-use mathlib.Core.Option.{Option, none, some}
 use native.Mathlib.Omega.{arith}
 use borrow.Author.Tests.{ltb-false}
 use lib.Dec.{ltb}
@@ -81,7 +81,7 @@ module _ (edition : Edition) (rooms : Rooms) (i : ℕ) (p : Bytes) where
   -- it adds to the open one
   pub record Adding (x x' : Extraction) : Type 0 where
     pub before : OpenPes
-    pub there : x.pes ≡ some before
+    pub there : x.pes ≡ Some before
     pub bytes_fit : length (carried_so_far x) + length (payload p) ≤ rooms.bytes
     pub adds : x' ≡ with_pes (record { first = before.first; header = before.header; bytes = before.bytes ++ payload p }) x
 
@@ -134,8 +134,8 @@ module _ (edition : Edition) (rooms : Rooms) (i : ℕ) (p : Bytes) where
           → ltb rooms.bytes (length (carried_so_far st.extraction) + length (payload p)) ≡ false
           → st'.extraction ≡ added_to i p Av1 o st.extraction
           → Moved st.extraction st'.extraction
-      go none at f fits k = clash refl f
-      go (some o) at f fits k =
+      go None at f fits k = clash refl f
+      go (Some o) at f fits k =
           let more : unit_bytes i p Av1 ≡ payload p = rw (h, s) in
           adding (record {
             before = o;
@@ -183,13 +183,13 @@ module _ (edition : Edition) (rooms : Rooms) (i : ℕ) (p : Bytes) where
 -- ---- the closing of a PES
 -- a refusal at closing has "the index of the packet that began it"
 pub close_place : (x : Extraction) (number place : ℕ) → close_pes x ≡ refused number place
-    → (o : OpenPes) × (x.pes ≡ some o) × (place ≡ o.first)
+    → (o : OpenPes) × (x.pes ≡ Some o) × (place ≡ o.first)
 unfolding close_if_open close_open at_place ◌>>◌
 close_place x number place e = go x.pes refl e
   where
-    go : (o : Option OpenPes) → x.pes ≡ o → close_if_open o x ≡ refused number place → (o : OpenPes) × (x.pes ≡ some o) × (place ≡ o.first)
-    go none at k = never (sym k)
-    go (some o) at k =
+    go : (o : Option OpenPes) → x.pes ≡ o → close_if_open o x ≡ refused number place → (o : OpenPes) × (x.pes ≡ Some o) × (place ≡ o.first)
+    go None at k = never (sym k)
+    go (Some o) at k =
         (o, at, place_of (given 32 (length_wrong o)) _ k (λ h. place_of (read_unit o.bytes) _ h (λ z. never (sym z))))
       where
         place_of : {A B : Type 0} (v : Verdict A) (w : Verdict B) → (at_place o.first v >> w) ≡ refused number place
@@ -199,8 +199,8 @@ close_place x number place e = go x.pes refl e
 
 -- there is none, or its length and its unit are right
 pub data Closes (x x' : Extraction) : Type 0 where
-  none_open : x.pes ≡ none → x' ≡ x → Closes x x'
-  one_open : (o : OpenPes) (l : List Bytes) → x.pes ≡ some o → length_wrong o ≡ false → read_unit o.bytes ≡ passed l
+  none_open : x.pes ≡ None → x' ≡ x → Closes x x'
+  one_open : (o : OpenPes) (l : List Bytes) → x.pes ≡ Some o → length_wrong o ≡ false → read_unit o.bytes ≡ passed l
       → x' ≡ with_unit (unit_of o) x → Closes x x'
 
 pub close_passed : (x x' : Extraction) → close_pes x ≡ passed x' → Closes x x'
@@ -208,8 +208,8 @@ unfolding close_if_open close_open
 close_passed x x' e = go x.pes refl e
   where
     go : (o : Option OpenPes) → x.pes ≡ o → close_if_open o x ≡ passed x' → Closes x x'
-    go none at k = none_open at (sym (passed_same x x' k))
-    go (some o) at k =
+    go None at k = none_open at (sym (passed_same x x' k))
+    go (Some o) at k =
         let t32 = tried o.first 32 (length_wrong o) _ x' k in
         let r = passed_so (at_place o.first (read_unit o.bytes)) _ x' t32.1 in
         one_open o r.0 at t32.0 (passed_at o.first (read_unit o.bytes) r.0 r.1) (sym (passed_same _ x' r.2))
@@ -218,9 +218,9 @@ close_passed x x' e = go x.pes refl e
 accepted_units : (n : ℕ) (pat : Option FirstPat) (pmt : Option FirstPmt) (units : List AccessUnit) (t : Totals) (a : Accepted)
     → accepted n pat pmt units t ≡ passed a → a.units ≡ units
 unfolding accepted
-accepted_units n none pmt units t a e = never e
-accepted_units n (some pat) none units t a e = never e
-accepted_units n (some pat) (some pmt) units t a e = ap (λ (x : Accepted). x.units) (sym (passed_same _ a e))
+accepted_units n None pmt units t a e = never e
+accepted_units n (Some pat) None units t a e = never e
+accepted_units n (Some pat) (Some pmt) units t a e = ap (λ (x : Accepted). x.units) (sym (passed_same _ a e))
 
 -- ---- the run
 module _ (edition : Edition) (rooms : Rooms) (P : List Bytes → Extraction → Type 0)

@@ -1,10 +1,10 @@
 -- The records of a run are those of the PIDs that its sections name: PID 0, the map PID, the listed PIDs (`packet_named`, `run_named`); so
 -- a null packet and one of an unlisted PID have no record (`null_unrecorded`, `unlisted_unrecorded`). Assumes nothing.
+use Rattle.std.specs.Prelude.{Option, Some, None}
 use Prim.Native.Nat.{ℕ}
 use mathlib.Core.Bool.{Bool, true, false}
 use mathlib.Core.Path.{◌≡◌, refl, sym, ap, ◌∙◌, subst}
 use mathlib.Core.List.{List, [], ◌∷◌, ◌++◌, map}
-use mathlib.Core.Option.{Option, none, some}
 use native.Mathlib.Omega.{arith}
 use borrow.Author.Tests.{ne_eqb, eqb-false, ltb-false}
 use lib.Dec.{eqb}
@@ -52,14 +52,14 @@ checked_named i p t h =
     })
 
 -- a PMT comes after a PAT
-pub pat_before : (pat : Option FirstPat) (pmt : Option FirstPmt) → pat ≡ none → PatFirst pat pmt → pmt ≡ none
-pat_before none none e f = refl
-pat_before none (some pmt) e f = absurd f
-pat_before (some pat) pmt e f = let z : ◌≡◌ {A = ℕ} 0 1 = cc in absurd (omega arith)
+pub pat_before : (pat : Option FirstPat) (pmt : Option FirstPmt) → pat ≡ None → PatFirst pat pmt → pmt ≡ None
+pat_before None None e f = refl
+pat_before None (Some pmt) e f = absurd f
+pat_before (Some pat) pmt e f = let z : ◌≡◌ {A = ℕ} 0 1 = cc in absurd (omega arith)
 
 module _ (t : Tables) (h : Named t) where
   -- more PIDs are named, of which none is 0x1FFF
-  also_named : (new : List ℕ) → All (λ n. eqb n null_pid ≡ false) new → record_of null_pid (t.records ++ map named new) ≡ none
+  also_named : (new : List ℕ) → All (λ n. eqb n null_pid ≡ false) new → record_of null_pid (t.records ++ map named new) ≡ None
   also_named new k =
       new_record null_pid t.records (map named new) h.null
       ∙ no_record null_pid (map named new) (subst (All (λ n. eqb n null_pid ≡ false)) (sym (pids_named new)) k)
@@ -75,7 +75,7 @@ module _ (t : Tables) (h : Named t) where
   -- the first PAT names the map PID
   pat_named : (pat : Option FirstPat) → t.pat ≡ pat → (section : Bytes) → (i : ℕ) → Holds Named (pat_section i pat section t)
   unfolding pat_section
-  pat_named none e section i =
+  pat_named None e section i =
       holds_each Named _ _
       (λ program r. let first : FirstPat = record { packet = i; section = section; says = program } in
       let m = program.map_pid in
@@ -84,30 +84,30 @@ module _ (t : Tables) (h : Named t) where
         pat_first = tt;
         pids =
             all_pids (m ∷ []) ∙ ap (λ (x : Option FirstPat). named_pids x t.pmt ++ (m ∷ [])) e
-            ∙ ap (named_pids (some first)) (sym none_pmt);
+            ∙ ap (named_pids (Some first)) (sym none_pmt);
         null = also_named (m ∷ [])
             (ne_eqb m null_pid (λ z. absurd (omega (arith, ltb-false 0x1FFE m (map_pid_in_range_lem section program r)))), tt);
       })
-  pat_named (some first) e section i = later_named 25 first.section section
+  pat_named (Some first) e section i = later_named 25 first.section section
 
   -- the first PMT names the listed PIDs
   pmt_named : (edition : Edition) (pat : Option FirstPat) (pmt : Option FirstPmt) → t.pat ≡ pat → t.pmt ≡ pmt → (section : Bytes)
       → (i : ℕ) → Holds Named (pmt_section edition i pat pmt section t)
   unfolding pmt_section
-  pmt_named edition none pmt e f section i = h
-  pmt_named edition (some pat) none e f section i =
+  pmt_named edition None pmt e f section i = h
+  pmt_named edition (Some pat) None e f section i =
       holds_each Named _ _
       (λ m r. let first : FirstPmt = record { packet = i; section = section; says = m } in
       record {
-        pat_first = subst (λ (x : Option FirstPat). PatFirst x (some first)) (sym e) tt;
+        pat_first = subst (λ (x : Option FirstPat). PatFirst x (Some first)) (sym e) tt;
         pids =
             all_pids (pids m.entries)
             ∙ ap (λ (x : Option FirstPat). named_pids x t.pmt ++ pids m.entries) e
-            ∙ ap (λ (x : Option FirstPmt). named_pids (some pat) x ++ pids m.entries) f
-            ∙ ap (λ (x : Option FirstPat). named_pids x (some first)) (sym e);
+            ∙ ap (λ (x : Option FirstPmt). named_pids (Some pat) x ++ pids m.entries) f
+            ∙ ap (λ (x : Option FirstPat). named_pids x (Some first)) (sym e);
         null = also_named (pids m.entries) (listed_not_null edition pat.says.number pat.says.map_pid section m r);
       })
-  pmt_named edition (some pat) (some first) e f section i = later_named 26 first.section section
+  pmt_named edition (Some pat) (Some first) e f section i = later_named 26 first.section section
 
   pub section_named : (edition : Edition) (kind : Kind) (i : ℕ) (b : Bool) (w : Bytes) → Holds Named (section_read edition kind i b w t)
   unfolding section_read
@@ -137,7 +137,7 @@ module _ (edition : Edition) (rooms : Rooms) where
 
 -- ---- which PIDs have no record
 -- "PID 0x1FFF"
-pub null_unrecorded : (t : Tables) → Named t → record_of null_pid t.records ≡ none
+pub null_unrecorded : (t : Tables) → Named t → record_of null_pid t.records ≡ None
 null_unrecorded t h = h.null
 
 -- "other PIDs are skipped"
@@ -167,14 +167,14 @@ none_named : (n : ℕ) (pat : Option FirstPat) (pmt : Option FirstPmt) → eqb n
     Unlisted
     → All (λ m. eqb m n ≡ false) (named_pids pat pmt)
 unfolding is_map_pid listed_as is_unlisted
-none_named n none pmt z m l = (other 0 n z, tt)
-none_named n (some pat) none z m l = (other 0 n z, (other pat.says.map_pid n m, tt))
-none_named n (some pat) (some pmt) z m l =
+none_named n None pmt z m l = (other 0 n z, tt)
+none_named n (Some pat) None z m l = (other 0 n z, (other pat.says.map_pid n m, tt))
+none_named n (Some pat) (Some pmt) z m l =
     let k = picked _ Av1 _ refl l in
     let q = picked _ Listed _ refl k.1 in
     (other 0 n z, (other pat.says.map_pid n m, others n (pids pmt.says.entries) q.0))
 
-pub unlisted_unrecorded : (t : Tables) (n : ℕ) → Named t → kind_of t n ≡ Unlisted → record_of n t.records ≡ none
+pub unlisted_unrecorded : (t : Tables) (n : ℕ) → Named t → kind_of t n ≡ Unlisted → record_of n t.records ≡ None
 unfolding kind_of is_unlisted
 unlisted_unrecorded t n h e =
     let a = picked _ Null _ refl e in

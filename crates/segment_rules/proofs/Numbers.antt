@@ -1,9 +1,9 @@
 -- With which numbers the parts of the check refuse: none but rule 8 gives 8, and none but rule 30 gives 30. Assumes nothing.
+use Rattle.std.specs.Prelude.{Option, Some, None}
 use Prim.Native.Nat.{ℕ, zero, suc}
 use mathlib.Core.Bool.{Bool, false}
 use mathlib.Core.Path.{◌≡◌, refl}
 use mathlib.Core.List.{List, [], ◌∷◌, ◌++◌}
-use mathlib.Core.Option.{Option, none, some}
 use lib.Dec.{eqb}
 use lib.ListN.{drop}
 use Rattle.lists.specs.Lists.{Bytes}
@@ -114,15 +114,15 @@ module _ (number : ℕ) (apart : (n : ℕ) → eqb n 8 ≡ false → eqb n 30 �
 
   pat_section_said : (i : ℕ) (pat : Option FirstPat) (section : Bytes) (t : Tables) → Without number (pat_section i pat section t)
   unfolding pat_section later_section
-  pat_section_said i none section t = refuses_bind _ _ _ (pat_said section) (λ _ _. tt)
-  pat_section_said i (some pat) section t = try 25 _ _ refl refl tt
+  pat_section_said i None section t = refuses_bind _ _ _ (pat_said section) (λ _ _. tt)
+  pat_section_said i (Some pat) section t = try 25 _ _ refl refl tt
 
   pmt_section_said : (edition : Edition) (i : ℕ) (pat : Option FirstPat) (pmt : Option FirstPmt) (section : Bytes) (t : Tables)
       → Without number (pmt_section edition i pat pmt section t)
   unfolding pmt_section later_section
-  pmt_section_said edition i none pmt section t = tt
-  pmt_section_said edition i (some pat) none section t = refuses_bind _ _ _ (pmt_said edition _ _ section) (λ _ _. tt)
-  pmt_section_said edition i (some pat) (some pmt) section t = try 26 _ _ refl refl tt
+  pmt_section_said edition i None pmt section t = tt
+  pmt_section_said edition i (Some pat) None section t = refuses_bind _ _ _ (pmt_said edition _ _ section) (λ _ _. tt)
+  pmt_section_said edition i (Some pat) (Some pmt) section t = try 26 _ _ refl refl tt
 
   section_said : (edition : Edition) (kind : state.Kind) (i : ℕ) (b : Bool) (w : Bytes) (t : Tables)
       → Without number (section_read edition kind i b w t)
@@ -188,8 +188,8 @@ module _ (number : ℕ) (apart : (n : ℕ) → eqb n 8 ≡ false → eqb n 30 �
   close_apart x = go x.pes
     where
       go : (o : Option OpenPes) → Without number (close_if_open o x)
-      go none = tt
-      go (some o) =
+      go None = tt
+      go (Some o) =
           refuses_then _ _ _ (refuses_at _ o.first _ (one 32 _ refl refl))
           (λ _ _. refuses_then _ _ _ (refuses_at _ o.first _ (unit_said o.bytes)) (λ _ _. tt))
 
@@ -204,9 +204,9 @@ module _ (number : ℕ) (apart : (n : ℕ) → eqb n 8 ≡ false → eqb n 30 �
     where
       go : (n : ℕ) (pat : Option FirstPat) (pmt : Option FirstPmt) (units : List AccessUnit) (t : Totals)
           → Without number (accepted n pat pmt units t)
-      go n none pmt units t = apart 33 refl refl
-      go n (some pat) none units t = apart 33 refl refl
-      go n (some pat) (some pmt) units t = tt
+      go n None pmt units t = apart 33 refl refl
+      go n (Some pat) None units t = apart 33 refl refl
+      go n (Some pat) (Some pmt) units t = tt
 
   -- ---- the run, where something holds of each state and the packets still to come
   module _ (edition : Edition) (rooms : Rooms) (Q : Progress → List Bytes → Type 0)

@@ -1,5 +1,6 @@
 -- What the three outputs hold after the check: after a refusal as many zeros as they had elements (`refused_outputs`); after acceptance the
 -- units, their lengths and times in front, and the rest as it was (`accepted_outputs`), since they fit. Assumes nothing.
+use Rattle.std.specs.Prelude.{Option, Some, None}
 use Prim.Native.Nat.{ℕ, ◌*◌, ◌<◌, ◌≤◌}
 use mathlib.Core.Path.{◌≡◌, refl, ap}
 use mathlib.Core.List.{List, [], ◌∷◌, flatten}
@@ -10,7 +11,6 @@ use Rattle.lists.specs.Lists.{Bytes, over, zeros}
 use Rattle.refusal.specs.Verdict.{passed, refused}
 use Rattle.descriptor.specs.Edition.{Edition}
 use Rattle.pes.specs.declared.header.Times.{Times}
-use Rattle.pes.specs.declared.header.Times.TheVariants.{Absent, Stamps}
 use Rattle.segment_rules.specs.State.{AccessUnit}
 use Rattle.segment_rules.specs.Rules.{carried_units}
 use Rattle.segment_rules.specs.Check.{Accepted, Outputs, rooms_of, lengths, pts_and_dts, times_in_turn, outputs_after, check_segment}
@@ -47,10 +47,10 @@ in_front w out h =
       long = omega (arith, length-append w (drop (length w) out), length-drop (length w) out);
     }
 
-pub two_times : (t : Times) → pts_and_dts t ≡ get_or (pts_and_dts t) 0 0 ∷ get_or (pts_and_dts t) 1 0 ∷ []
+pub two_times : (t : Option Times) → pts_and_dts t ≡ get_or (pts_and_dts t) 0 0 ∷ get_or (pts_and_dts t) 1 0 ∷ []
 unfolding pts_and_dts
-two_times Absent = refl
-two_times (Stamps pts dts) = refl
+two_times None = refl
+two_times (Some t) = refl
 
 pub count_times : (units : List AccessUnit) → length (times_in_turn units) ≡ 2 * length units
 unfolding flatten

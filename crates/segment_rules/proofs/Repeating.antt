@@ -1,10 +1,11 @@
 -- 2026-05: a segment with a copy inserted behind its original is accepted with the same program, map, units and times, and the totals are
 -- one more in the copy's class (`copy_accepted`): the copy changes its PID's record alone, and the two runs go on alike. Assumes nothing.
+use Rattle.ticks.specs.declared.Ticks27.{Ticks27}
+use Rattle.std.specs.Prelude.{Option, Some, None}
 use Prim.Native.Nat.{ℕ, ◌≤◌, ◌/◌, ◌%◌}
 use mathlib.Core.Bool.{Bool, true, false}
 use mathlib.Core.Path.{◌≡◌, refl, sym, ap, ap₂, ◌∙◌, subst}
 use mathlib.Core.List.{List, [], ◌∷◌, ◌++◌, map, flatten}
-use mathlib.Core.Option.{Option, none, some}
 use native.Mathlib.Omega.{arith}
 use borrow.Author.Tests.{eq-eqb, ne_eqb, eqb-true, eqb-false, le-ltb}
 use lib.Dec.{eqb, ltb}
@@ -15,8 +16,6 @@ use Rattle.refusal.proofs.Verdicts.{All, pass_on, passed_same, passed_then}
 use Rattle.descriptor.specs.Edition.{Edition}
 use Rattle.packet.specs.declared.header.Header.{Header}
 use Rattle.packet.specs.Header.{packet_length, header_of, pid}
-use Rattle.packet.specs.declared.header.Clock.{Clock}
-use Rattle.packet.specs.declared.header.Clock.TheVariants as clock
 use Rattle.packet.specs.Counter.{StreamRecord, named, copy_of, repeats, updated, record_of, checked_in}
 use Rattle.packet.proofs.Counters.{record_after, checked_record, kept_record, some_not_none, some_same}
 use Rattle.packet.proofs.Packets.{Whole, length_flatten, packets_flatten}
@@ -84,7 +83,7 @@ counting_swap Unlisted Unlisted t = refl
 abbrev pub carried_of : List AccessUnit → List Bytes
 carried_of units = map (λ u. u.carried) units
 
-abbrev pub times_of : List AccessUnit → List Times
+abbrev pub times_of : List AccessUnit → List (Option Times)
 times_of units = map (λ u. u.times) units
 
 -- ---- relations of records
@@ -164,18 +163,18 @@ module _ (edition : Edition) (rooms : Rooms) (k : Kind) where
 -- ---- the copy
 -- the next packet of a PID among these, if any
 unfoldable pub next_of : ℕ → List Bytes → Option Bytes
-next_of n [] = none
-next_of n (q ∷ ps) = pick (eqb (pid q) n) (some q) (next_of n ps)
+next_of n [] = None
+next_of n (q ∷ ps) = pick (eqb (pid q) n) (Some q) (next_of n ps)
 
 -- it is a copy of this one
 abbrev pub copied_by : Bytes → Option Bytes → Bool
-copied_by p none = false
-copied_by p (some q) = copy_of (some p) q
+copied_by p None = false
+copied_by p (Some q) = copy_of (Some p) q
 
-module _ (edition : Edition) (rooms : Rooms) (k : Kind) (p p' : Bytes) (copies : copy_of (some p) p' ≡ true) where
+module _ (edition : Edition) (rooms : Rooms) (k : Kind) (p p' : Bytes) (copies : copy_of (Some p) p' ≡ true) where
   -- the records of the copy's run, as long as no packet of its PID has come since
   abbrev Marked : Records
-  Marked l l' = (l' ≡ mark p p' copies l) × (record_of (pid p) l ≡ some (after_original p p' copies))
+  Marked l l' = (l' ≡ mark p p' copies l) × (record_of (pid p) l ≡ Some (after_original p p' copies))
 
   marked_grows : (l l' new : List StreamRecord) → Marked l l' → Marked (l ++ new) (l' ++ new)
   marked_grows l l' new m =
@@ -204,7 +203,7 @@ module _ (edition : Edition) (rooms : Rooms) (k : Kind) (p p' : Bytes) (copies :
           ∙ ap (λ (x : List StreamRecord). last_repeats (record_of (pid q) x)) (sym m.0)
 
     -- the next packet of the PID, which is no copy
-    next_counts : pid q ≡ pid p → copy_of (some p) q ≡ false → (l l' : List StreamRecord) → Marked l l'
+    next_counts : pid q ≡ pid p → copy_of (Some p) q ≡ false → (l l' : List StreamRecord) → Marked l l'
         → Both Equal (checked_in 0 l q) (checked_in 0 l' q)
     next_counts e f l l' m =
         subst (λ (x : List StreamRecord). Both Equal (checked_in 0 l q) (checked_in 0 x q)) (sym m.0) (go (checked_in 0 l q) refl)
@@ -219,7 +218,7 @@ module _ (edition : Edition) (rooms : Rooms) (k : Kind) (p p' : Bytes) (copies :
   run_marked [] g g' f a = (_, refl, any_records edition rooms k Marked g g' a)
   run_marked (q ∷ ps) g g' f a = go (eqb (pid q) (pid p)) refl f (run_marked ps)
     where
-      go : (b : Bool) → eqb (pid q) (pid p) ≡ b → copied_by p (pick b (some q) (next_of (pid p) ps)) ≡ false
+      go : (b : Bool) → eqb (pid q) (pid p) ≡ b → copied_by p (pick b (Some q) (next_of (pid p) ps)) ≡ false
           → ((g1 g1' : Progress) → copied_by p (next_of (pid p) ps) ≡ false → AlikeRuns edition rooms k Marked g1 g1'
           → Both (AlikeRuns edition rooms k AnyRecords) (run edition rooms g1 ps) (run edition rooms g1' ps))
           → Both (AlikeRuns edition rooms k AnyRecords) (step edition rooms g q >>= λ g1. run edition rooms g1 ps)
@@ -235,44 +234,44 @@ module _ (edition : Edition) (rooms : Rooms) (k : Kind) (p p' : Bytes) (copies :
           (λ g1 g1' b. more g1 g1' h b)
 
 -- ---- the copy's own step
-record_pid : (n : ℕ) (records : List StreamRecord) (r : StreamRecord) → record_of n records ≡ some r → r.pid ≡ n
+record_pid : (n : ℕ) (records : List StreamRecord) (r : StreamRecord) → record_of n records ≡ Some r → r.pid ≡ n
 unfolding record_of pick
 record_pid n [] r e = absurd (some_not_none r (sym e))
 record_pid n (s ∷ records) r e = go (eqb s.pid n) refl e (record_pid n records r)
   where
-    go : (b : Bool) → eqb s.pid n ≡ b → pick b (some s) (record_of n records) ≡ some r → (record_of n records ≡ some r → r.pid ≡ n)
+    go : (b : Bool) → eqb s.pid n ≡ b → pick b (Some s) (record_of n records) ≡ Some r → (record_of n records ≡ Some r → r.pid ≡ n)
         → r.pid ≡ n
     go true h k more = ap (λ (x : StreamRecord). x.pid) (sym (some_same s r k)) ∙ eqb-true s.pid n h
     go false h k more = more k
 
 alike_self : (o : Option OpenPes) → AlikePes o o
-alike_self none = tt
-alike_self (some o) = (refl, refl)
+alike_self None = tt
+alike_self (Some o) = (refl, refl)
 
-pcr_kept : (earlier c : Clock) → is_pcr earlier ≡ true → is_pcr (last_pcr earlier c) ≡ true
-pcr_kept earlier clock.None e = e
-pcr_kept earlier (clock.Pcr ticks) e = refl
+pcr_kept : (earlier c : Option Ticks27) → is_pcr earlier ≡ true → is_pcr (last_pcr earlier c) ≡ true
+pcr_kept earlier None e = e
+pcr_kept earlier (Some ticks) e = refl
 
-module _ (edition : Edition) (rooms : Rooms) (p p' : Bytes) (copies : copy_of (some p) p' ≡ true) where
+module _ (edition : Edition) (rooms : Rooms) (p p' : Bytes) (copies : copy_of (Some p) p' ≡ true) where
   -- after the original, which was no repeat: the record of its PID
-  original_record : (g g1 : Progress) (r : StreamRecord) → record_of (pid p) g.state.tables.records ≡ some r → repeats r p ≡ false
-      → step edition rooms g p ≡ passed g1 → record_of (pid p) (said g1.state.tables.records) ≡ some (after_original p p' copies)
+  original_record : (g g1 : Progress) (r : StreamRecord) → record_of (pid p) g.state.tables.records ≡ Some r → repeats r p ≡ false
+      → step edition rooms g p ≡ passed g1 → record_of (pid p) (said g1.state.tables.records) ≡ Some (after_original p p' copies)
   unfolding pick
   original_record g g1 r h new e =
       let s = step_passed edition rooms g g1 p e in
       let q = packet_records edition rooms g.index p (kind_of g.state.tables (pid p)) g.state s.0 s.1 in
       let own : eqb (pid p) (pid p) ≡ true = eq-eqb (pid p) (pid p) refl in
-      let there : record_of (pid p) q.0 ≡ some (updated g.index r p) =
+      let there : record_of (pid p) q.0 ≡ Some (updated g.index r p) =
       checked_record g.index (pid p) p g.state.tables.records q.0 q.1 ∙ ap (record_after g.index (pid p) p) h ∙ rw own in
       said_record (pid p) g1.state.tables.records (updated g.index r p)
       (ap (λ (x : Progress). record_of (pid p) x.state.tables.records) s.2
       ∙ ap (record_of (pid p)) q.2.1
       ∙ kept_record (pid p) q.0 (map named q.2.0) (updated g.index r p) there)
-      ∙ ap₂ (λ (n : ℕ) (b : Bool). some (record { pid = n; last = some p; lies = 0; repeat = b }))
+      ∙ ap₂ (λ (n : ℕ) (b : Bool). Some (record { pid = n; last = Some p; lies = 0; repeat = b }))
       (record_pid (pid p) g.state.tables.records r h) new
 
   -- then the copy
-  module _ (g : Progress) (own : record_of (pid p) (said g.state.tables.records) ≡ some (after_original p p' copies)) (h : Header)
+  module _ (g : Progress) (own : record_of (pid p) (said g.state.tables.records) ≡ Some (after_original p p' copies)) (h : Header)
       (right : header_of p' ≡ passed h) where
     -- the records behind the copy: but for where the packets lie, those that are marked
     records_behind : (after : List StreamRecord) × (checked_in g.index g.state.tables.records p' ≡ passed after)
@@ -344,11 +343,11 @@ module _ (edition : Edition) (rooms : Rooms) (k : Kind) where
       → SamePat pat pat' → SamePmt pmt pmt' → AlikeUnits x x' → t' ≡ counting k t
       → Both (OneMore k) (accepted n pat pmt x.units t) (accepted n' pat' pmt' x'.units t')
   unfolding accepted
-  accepted_alike n n' none pat' pmt pmt' x x' t t' f m a e = tt
-  accepted_alike n n' (some pat) pat' none pmt' x x' t t' f m a e = tt
-  accepted_alike n n' (some pat) none (some pmt) pmt' x x' t t' f m a e = absurd f
-  accepted_alike n n' (some pat) (some pat') (some pmt) none x x' t t' f m a e = absurd m
-  accepted_alike n n' (some pat) (some pat') (some pmt) (some pmt') x x' t t' f m a e = (
+  accepted_alike n n' None pat' pmt pmt' x x' t t' f m a e = tt
+  accepted_alike n n' (Some pat) pat' None pmt' x x' t t' f m a e = tt
+  accepted_alike n n' (Some pat) None (Some pmt) pmt' x x' t t' f m a e = absurd f
+  accepted_alike n n' (Some pat) (Some pat') (Some pmt) None x x' t t' f m a e = absurd m
+  accepted_alike n n' (Some pat) (Some pat') (Some pmt) (Some pmt') x x' t t' f m a e = (
     _,
     refl,
     record {
@@ -374,11 +373,11 @@ pub record CopyBehind (edition : Edition) (rooms : Rooms) (a : List Bytes) (p p'
   pub before : Progress
   pub passes : run edition rooms start a ≡ passed before
   pub there : StreamRecord
-  pub recorded : record_of (pid p) before.state.tables.records ≡ some there
+  pub recorded : record_of (pid p) before.state.tables.records ≡ Some there
   -- p is no repeat itself
   pub original : repeats there p ≡ false
   -- p' is a copy of it, which 21, 22 and 23 do not refuse
-  pub copies : copy_of (some p) p' ≡ true
+  pub copies : copy_of (Some p) p' ≡ true
   pub header : (h : Header) × (header_of p' ≡ passed h)
   -- and the next packet of the PID is none
   pub next : copied_by p (next_of (pid p) b) ≡ false

@@ -1,8 +1,8 @@
 -- The run over the packets: in two parts, its index and its totals. Assumes nothing.
+use Rattle.std.specs.Prelude.{Option, Some, None}
 use Prim.Native.Nat.{ℕ, zero, suc, ◌+◌, ◌/◌}
 use mathlib.Core.Path.{◌≡◌, refl, sym, ap, ◌∙◌}
 use mathlib.Core.List.{List, [], ◌∷◌, ◌++◌}
-use mathlib.Core.Option.{Option, none, some}
 use native.Mathlib.Omega.{arith}
 use lib.ListN.{length, drop}
 use Rattle.lists.specs.Lists.{Bytes}
@@ -91,9 +91,9 @@ module _ (edition : Edition) (rooms : Rooms) where
   accepted_totals : (n : ℕ) (pat : Option FirstPat) (pmt : Option FirstPmt) (units : List AccessUnit) (t : Totals) (a : Accepted)
       → accepted n pat pmt units t ≡ passed a → a.totals ≡ t
   unfolding accepted
-  accepted_totals n none pmt units t a e = never e
-  accepted_totals n (some pat) none units t a e = never e
-  accepted_totals n (some pat) (some pmt) units t a e = ap (λ (x : Accepted). x.totals) (sym (passed_same _ a e))
+  accepted_totals n None pmt units t a e = never e
+  accepted_totals n (Some pat) None units t a e = never e
+  accepted_totals n (Some pat) (Some pmt) units t a e = ap (λ (x : Accepted). x.totals) (sym (passed_same _ a e))
 
   -- the totals of an accepted segment add up to its packet count
   pub totals_add_up : (s : Bytes) (a : Accepted) → check_segment edition rooms s ≡ passed a

@@ -1,10 +1,10 @@
 -- "27 is given where bytes remain after a twelfth that passed", of a whole segment: where the packets before it pass, the packet whose PMT
 -- has them ends the check with 27 and its index (`thirteen_refused`), whatever comes after. Assumes nothing.
+use Rattle.std.specs.Prelude.{Some, None}
 use Prim.Native.Nat.{ℕ}
 use mathlib.Core.Bool.{true, false}
 use mathlib.Core.Path.{◌≡◌, refl, sym, ap, ◌∙◌}
 use mathlib.Core.List.{List, ◌∷◌, ◌++◌}
-use mathlib.Core.Option.{none, some}
 use lib.ListN.{length}
 use Rattle.lists.specs.Lists.{Bytes, pick}
 use Rattle.refusal.specs.Verdict.{Verdict, passed, refused, ◌>>=◌, ◌>>◌, given, at_place}
@@ -26,8 +26,8 @@ use Rattle.segment_rules.proofs.Running.{run_append, index_totals}
 -- section lies right in its payload, and is right up to its entries, of which twelve pass and have bytes behind them
 pub record Thirteen (i : ℕ) (t : Tables) (p : Bytes) : Type 0 where
   pub first : FirstPat
-  pub pat : t.pat ≡ some first
-  pub pmt : t.pmt ≡ none
+  pub pat : t.pat ≡ Some first
+  pub pmt : t.pmt ≡ None
   pub on_map_pid : kind_of t (pid p) ≡ Map
   pub header : (h : Header) × (header_of p ≡ passed h)
   pub counter : (records : List StreamRecord) × (checked_in i t.records p ≡ passed records)

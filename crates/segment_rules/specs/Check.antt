@@ -1,14 +1,12 @@
 -- The check of a whole segment, and what its outputs hold afterwards. Assumes nothing.
-use Rattle.std.specs.Prelude.{ℕ, ◌+◌, ◌/◌, ◌%◌, ◌^◌, Bool, not, ◌||◌, eqb, ltb, length, take}
+use Rattle.std.specs.Prelude.{ℕ, ◌+◌, ◌/◌, ◌%◌, ◌^◌, Bool, not, ◌||◌, eqb, ltb, length, take, Option, Some, None}
 use mathlib.Core.List.{List, [], ◌∷◌, map, flatten}
-use Rattle.std.proofs.Math.Option.{Option, none, some}
 use Rattle.lists.specs.Lists.{Bytes, over, zeros}
 use Rattle.refusal.specs.Verdict.{Verdict, NoValue, passed, refused, ◌>>=◌, ◌>>◌, given}
 use Rattle.descriptor.specs.Edition.{Edition, edition_of}
 use Rattle.packet.specs.Header.{pid, packet_length, packets}
 use Rattle.pmt.specs.Pmt.{MapContent}
 use Rattle.pes.specs.declared.header.Times.{Times}
-use Rattle.pes.specs.declared.header.Times.TheVariants.{Absent, Stamps}
 use Rattle.segment_rules.specs.declared.Totals.{Totals}
 use Rattle.segment_rules.specs.State.{FirstPat, FirstPmt, AccessUnit, State, Kind}
 use Rattle.segment_rules.specs.State.{fresh, none_yet, counting, kind_of}
@@ -48,9 +46,9 @@ pub record Accepted : Type 0 where
 
 -- 33 "no PAT or no PMT by the end (place: packet count)"
 unfoldable pub accepted : ℕ → Option FirstPat → Option FirstPmt → List AccessUnit → Totals → Verdict Accepted
-accepted count none pmt units totals = refused 33 count
-accepted count (some pat) none units totals = refused 33 count
-accepted count (some pat) (some pmt) units totals =
+accepted count None pmt units totals = refused 33 count
+accepted count (Some pat) None units totals = refused 33 count
+accepted count (Some pat) (Some pmt) units totals =
     passed (record { program = pat.says.number; map = pmt.says; units = units; totals = totals })
 
 -- "After the last packet the open PES closes first, then 33."
@@ -107,9 +105,9 @@ lengths units = map (λ u. length u.carried) units
 abbrev pub no_time : ℕ
 no_time = 2 ^ 33
 
-unfoldable pub pts_and_dts : Times → List ℕ
-pts_and_dts Absent = no_time ∷ no_time ∷ []
-pts_and_dts (Stamps pts dts) = pts.0 ∷ dts.0 ∷ []
+unfoldable pub pts_and_dts : Option Times → List ℕ
+pts_and_dts None = no_time ∷ no_time ∷ []
+pts_and_dts (Some t) = t.pts.0 ∷ t.dts.0 ∷ []
 
 abbrev pub times_in_turn : List AccessUnit → List ℕ
 times_in_turn units = flatten (map (λ u. pts_and_dts u.times) units)

@@ -1,7 +1,6 @@
 -- The descriptor of an accepted segment compared with its sequence headers. The words of document 02, request 2026-04,
 -- stand over each definition; the comparison of carried units is that of crates/comparison. Assumes nothing.
-use Rattle.std.specs.Prelude.{ℕ, List, [], ◌∷◌, map}
-use Rattle.std.proofs.Math.Option.{Option, none}
+use Rattle.std.specs.Prelude.{ℕ, List, [], ◌∷◌, map, Option, None}
 use Rattle.lists.specs.Lists.{Bytes}
 use Rattle.refusal.specs.Verdict.{Verdict, passed, ◌>>=◌}
 use Rattle.descriptor.specs.Descriptor.{fields_of}
@@ -16,7 +15,7 @@ use Rattle.segment_rules.specs.Check.{Accepted, check_segment}
 -- "In an accepted segment with a descriptor, each sequence header is compared": of its video descriptors, of which 28
 -- allows one
 unfoldable pub compared_with : List Bytes → List AccessUnit → Option Disagreement
-compared_with [] units = none
+compared_with [] units = None
 compared_with (d ∷ more) units = first_from 0 (fields_of d) (map sequence_headers (map (λ u. u.carried) units))
 
 -- 2026-08: "tag 0x80 is not interpreted (2026-04 answers none)"

@@ -1,7 +1,6 @@
 -- What the tables say of a segment lies in it. It is proved that this holds before the first packet, and that each
 -- packet of the segment keeps it (proofs/Lying.antt). Assumes nothing.
-use Rattle.std.specs.Prelude.{ℕ, ◌≡◌, List, [], ◌∷◌}
-use Rattle.std.proofs.Math.Option.{Option, none, some}
+use Rattle.std.specs.Prelude.{ℕ, ◌≡◌, List, [], ◌∷◌, Option, Some, None}
 use Rattle.lists.specs.Lists.{Bytes}
 use Rattle.refusal.specs.Verdict.{passed}
 use Rattle.descriptor.specs.Edition.{Edition}
@@ -15,8 +14,8 @@ use Rattle.segment_rules.specs.Named.{Named}
 module _ (segment : Bytes) where
   -- the last packet of a record is the one with its index
   abbrev pub LastLies : Option Bytes → ℕ → Type 0
-  LastLies none i = Unit {0}
-  LastLies (some p) i = p ≡ packet_at segment i
+  LastLies None i = Unit {0}
+  LastLies (Some p) i = p ≡ packet_at segment i
 
   abbrev pub RecordLies : StreamRecord → Type 0
   RecordLies r = LastLies r.last r.lies
@@ -30,14 +29,14 @@ module _ (segment : Bytes) where
   section_in i = section_of (payload (packet_at segment i))
 
   abbrev pub PatLies : Option FirstPat → Type 0
-  PatLies none = Unit {0}
-  PatLies (some f) = f.section ≡ section_in f.packet
+  PatLies None = Unit {0}
+  PatLies (Some f) = f.section ≡ section_in f.packet
 
   -- and what the first PMT says is what its section says of the PAT's program
   abbrev pub PmtLies : Edition → Option FirstPat → Option FirstPmt → Type 0
-  PmtLies edition pat none = Unit {0}
-  PmtLies edition none (some m) = ⊥
-  PmtLies edition (some f) (some m) =
+  PmtLies edition pat None = Unit {0}
+  PmtLies edition None (Some m) = ⊥
+  PmtLies edition (Some f) (Some m) =
       (m.section ≡ section_in m.packet)
       × (read_pmt edition f.says.number f.says.map_pid m.section ≡ passed m.says)
 

@@ -1,15 +1,13 @@
 -- The table of document 01, "A segment", rule by rule, and the closing of a PES. Assumes nothing.
-use Rattle.std.specs.Prelude.{ℕ, ◌+◌, ◌*◌, Bool, true, false, not, ◌&&◌, ◌||◌, eqb, ltb, length}
+use Rattle.ticks.specs.declared.Ticks27.{Ticks27}
+use Rattle.std.specs.Prelude.{ℕ, ◌+◌, ◌*◌, Bool, true, false, not, ◌&&◌, ◌||◌, eqb, ltb, length, Option, Some, None}
 use mathlib.Core.List.{List, [], ◌∷◌, ◌++◌, map, flatten}
-use Rattle.std.proofs.Math.Option.{Option, none, some}
 use Rattle.lists.specs.Lists.{Bytes, pick, same}
 use Rattle.refusal.specs.Verdict.{Verdict, passed, ◌>>=◌, ◌>>◌, given, at_place}
 use Rattle.descriptor.specs.Edition.{Edition}
 use Rattle.packet.specs.Header as packet
 use Rattle.packet.specs.Header.{pid, pcr, has_payload, payload, payload_unit_start_indicator, starts_pes}
 use Rattle.packet.specs.Header.{sync_lost, transport_error_indicator}
-use Rattle.packet.specs.declared.header.Clock.{Clock}
-use Rattle.packet.specs.declared.header.Clock.TheVariants as clock
 use Rattle.packet.specs.Counter.{StreamRecord, named, record_of, checked_in}
 use Rattle.psi.specs.Section.{misplaced, section_of}
 use Rattle.psi.specs.Pat.{read_pat}
@@ -52,19 +50,19 @@ on_units r st = do
 -- ---- the PCR
 -- "A PCR counts for 31 if on the PMT's PCR PID, in a packet after the PMT, at or before the payload (002, 5); PID
 -- 0x1FFF has none.": the PCR of this packet, if it counts, where this is the first PMT before the packet
-unfoldable pub counting_pcr : Option FirstPmt → Bytes → Clock
-counting_pcr none p = clock.None
-counting_pcr (some pmt) p = pick (eqb (pid p) pmt.says.pcr_pid) (pcr p) clock.None
+unfoldable pub counting_pcr : Option FirstPmt → Bytes → (Option Ticks27)
+counting_pcr None p = None
+counting_pcr (Some pmt) p = pick (eqb (pid p) pmt.says.pcr_pid) (pcr p) None
 
 -- the last PCR that counted, of an earlier one and this packet's
-abbrev pub last_pcr : Clock → Clock → Clock
-last_pcr earlier clock.None = earlier
-last_pcr earlier (clock.Pcr ticks) = clock.Pcr ticks
+abbrev pub last_pcr : (Option Ticks27) → (Option Ticks27) → (Option Ticks27)
+last_pcr earlier None = earlier
+last_pcr earlier (Some ticks) = Some ticks
 
 -- there is one
-abbrev pub is_pcr : Clock → Bool
-is_pcr clock.None = false
-is_pcr (clock.Pcr ticks) = true
+abbrev pub is_pcr : (Option Ticks27) → Bool
+is_pcr None = false
+is_pcr (Some ticks) = true
 
 -- ---- sections
 -- "A later section not equal to the first is 25 or 26 and read no further."
@@ -74,19 +72,19 @@ later_section number first section t = given number (not (same section first)) >
 -- 25: the first PAT, which the packet with this index brought, is read, and names the map PID; a later one is compared
 -- with it
 unfoldable pub pat_section : ℕ → Option FirstPat → Bytes → Tables → Verdict Tables
-pat_section i none section t = do
+pat_section i None section t = do
   program ← read_pat section
   passed (with_pat (record { packet = i; section = section; says = program }) (named program.map_pid ∷ []) t)
-pat_section i (some first) section t = later_section 25 first.section section t
+pat_section i (Some first) section t = later_section 25 first.section section t
 
 -- 26, 27, 28: the first PMT of the PAT's program is read, and names the listed PIDs; a later one is compared with it.
 -- Before a PAT no PID is the map PID
 unfoldable pub pmt_section : Edition → ℕ → Option FirstPat → Option FirstPmt → Bytes → Tables → Verdict Tables
-pmt_section edition i none pmt section t = passed t
-pmt_section edition i (some pat) none section t = do
+pmt_section edition i None pmt section t = passed t
+pmt_section edition i (Some pat) None section t = do
   m ← read_pmt edition pat.says.number pat.says.map_pid section
   passed (with_pmt (record { packet = i; section = section; says = m }) (map named (pids m.entries)) t)
-pmt_section edition i (some pat) (some first) section t = later_section 26 first.section section t
+pmt_section edition i (Some pat) (Some first) section t = later_section 26 first.section section t
 
 -- "a packet with payload on PID 0 or the map PID": 25 or 26 by how its section lies in it, then by what the section
 -- says; of the packet's index, its payload start and its payload
@@ -123,8 +121,8 @@ close_open o x = do
   passed (with_unit (unit_of o) x)
 
 unfoldable pub close_if_open : Option OpenPes → Extraction → Verdict Extraction
-close_if_open none x = passed x
-close_if_open (some o) x = close_open o x
+close_if_open None x = passed x
+close_if_open (Some o) x = close_open o x
 
 abbrev pub close_pes : Extraction → Verdict Extraction
 close_pes x = close_if_open x.pes x
@@ -140,13 +138,13 @@ with_next x = length x.units + 1
 
 -- a PES has started and not closed
 abbrev pub is_open : Option OpenPes → Bool
-is_open none = false
-is_open (some o) = true
+is_open None = false
+is_open (Some o) = true
 
 -- the unit bytes that the open PES has so far, and those of all units
 abbrev pub open_bytes : Option OpenPes → Bytes
-open_bytes none = []
-open_bytes (some o) = o.bytes
+open_bytes None = []
+open_bytes (Some o) = o.bytes
 
 -- "Carried units stand back to back in the output"
 abbrev pub carried_units : List AccessUnit → Bytes
@@ -271,8 +269,8 @@ module _ (i : ℕ) (p : Bytes) where
     longer o = record { first = o.first; header = o.header; bytes = o.bytes ++ unit_bytes }
 
     unfoldable pub added_to : Option OpenPes → Extraction → Extraction
-    added_to none x = x
-    added_to (some o) x = with_pes (longer o) x
+    added_to None x = x
+    added_to (Some o) x = with_pes (longer o) x
 
     unfoldable pub carried : Rule
     carried = on_units (λ x. passed (pick av1_start (with_pes opened x) (pick av1_more (added_to x.pes x) x)))
@@ -308,8 +306,8 @@ after24 edition rooms i p kind = rules25to28 i p kind edition ∷ pes_rules edit
 -- ---- the repeated packet (2026-05)
 -- the record of a PID says that its last packet was a repeat
 abbrev pub last_repeats : Option StreamRecord → Bool
-last_repeats none = false
-last_repeats (some r) = r.repeat
+last_repeats None = false
+last_repeats (Some r) = r.repeat
 
 -- after 24 the last packet of the packet's PID is this one
 abbrev pub is_repeat : Bytes → State → Bool

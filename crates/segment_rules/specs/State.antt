@@ -1,11 +1,9 @@
 -- What the packets of a segment have said so far. The words of document 01, "A segment", stand over each definition.
 -- Assumes nothing.
-use Rattle.std.specs.Prelude.{ℕ, ◌+◌, Bool, false, List, [], ◌∷◌, ◌++◌, eqb}
-use Rattle.std.proofs.Math.Option.{Option, none, some}
+use Rattle.ticks.specs.declared.Ticks27.{Ticks27}
+use Rattle.std.specs.Prelude.{ℕ, ◌+◌, Bool, false, List, [], ◌∷◌, ◌++◌, eqb, Option, Some, None}
 use Rattle.lists.specs.Lists.{Bytes, pick, any}
 use Rattle.packet.specs.Header.{null_pid}
-use Rattle.packet.specs.declared.header.Clock.{Clock}
-use Rattle.packet.specs.declared.header.Clock.TheVariants as clock
 use Rattle.packet.specs.Counter.{StreamRecord, named}
 use Rattle.psi.specs.declared.pat.Program.{Program}
 use Rattle.pmt.specs.Pmt.{MapContent, pids}
@@ -34,7 +32,7 @@ pub record Tables : Type 0 where
   -- start, the map PID from the PAT on, the listed PIDs from the PMT on
   pub records : List StreamRecord
   -- the last PCR that counted for 31, if any yet
-  pub pcr : Clock
+  pub pcr : (Option Ticks27)
 
 -- ---- the access units
 -- the open PES: "the packet that began it", its header, and its unit's bytes so far
@@ -47,7 +45,7 @@ pub record OpenPes : Type 0 where
 pub record AccessUnit : Type 0 where
   pub first : ℕ
   pub carried : Bytes
-  pub times : Times
+  pub times : Option Times
 
 pub record Extraction : Type 0 where
   -- the open PES, if any
@@ -62,10 +60,10 @@ pub record State : Type 0 where
 
 -- before the first packet: PID 0 alone is known
 abbrev pub no_tables : Tables
-no_tables = record { pat = none; pmt = none; records = named 0 ∷ []; pcr = clock.None }
+no_tables = record { pat = None; pmt = None; records = named 0 ∷ []; pcr = None }
 
 abbrev pub no_units : Extraction
-no_units = record { pes = none; units = [] }
+no_units = record { pes = None; units = [] }
 
 abbrev pub fresh : State
 fresh = record { tables = no_tables; extraction = no_units }
@@ -80,22 +78,22 @@ with_extraction x st = record { tables = st.tables; extraction = x }
 abbrev pub with_records : List StreamRecord → Tables → Tables
 with_records records t = record { pat = t.pat; pmt = t.pmt; records = records; pcr = t.pcr }
 
-abbrev pub with_pcr : Clock → Tables → Tables
+abbrev pub with_pcr : (Option Ticks27) → Tables → Tables
 with_pcr c t = record { pat = t.pat; pmt = t.pmt; records = t.records; pcr = c }
 
 -- the first PAT was read, and names these PIDs; the first PMT was
 abbrev pub with_pat : FirstPat → List StreamRecord → Tables → Tables
-with_pat first new t = record { pat = some first; pmt = t.pmt; records = t.records ++ new; pcr = t.pcr }
+with_pat first new t = record { pat = Some first; pmt = t.pmt; records = t.records ++ new; pcr = t.pcr }
 
 abbrev pub with_pmt : FirstPmt → List StreamRecord → Tables → Tables
-with_pmt first new t = record { pat = t.pat; pmt = some first; records = t.records ++ new; pcr = t.pcr }
+with_pmt first new t = record { pat = t.pat; pmt = Some first; records = t.records ++ new; pcr = t.pcr }
 
 abbrev pub with_pes : OpenPes → Extraction → Extraction
-with_pes o x = record { pes = some o; units = x.units }
+with_pes o x = record { pes = Some o; units = x.units }
 
 -- the open PES has closed, and gave one more unit
 abbrev pub with_unit : AccessUnit → Extraction → Extraction
-with_unit u x = record { pes = none; units = x.units ++ (u ∷ []) }
+with_unit u x = record { pes = None; units = x.units ++ (u ∷ []) }
 
 -- ---- what a packet's PID is "at that moment"
 pub data Kind : Type 0 where
@@ -110,13 +108,13 @@ pub data Kind : Type 0 where
 
 -- the map PID is known from the packet after the PAT
 unfoldable pub is_map_pid : Option FirstPat → ℕ → Bool
-is_map_pid none pid = false
-is_map_pid (some pat) pid = eqb pid pat.says.map_pid
+is_map_pid None pid = false
+is_map_pid (Some pat) pid = eqb pid pat.says.map_pid
 
 -- "Streams are listed from the packet after the PMT; other PIDs are skipped."
 unfoldable pub listed_as : Option FirstPmt → ℕ → Kind
-listed_as none pid = Unlisted
-listed_as (some pmt) pid =
+listed_as None pid = Unlisted
+listed_as (Some pmt) pid =
     pick (eqb pid pmt.says.av1.pid) Av1
     (pick (any (eqb pid) (pids pmt.says.entries)) Listed Unlisted)
 

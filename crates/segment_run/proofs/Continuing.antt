@@ -1,5 +1,6 @@
 -- Packets that go on, by their rules. On the AV1 PID each passes, and its payload stands behind what is there (`one_goes`); on another
 -- listed PID each passes by its counter alone (`one_counts`); and so each of a run of them (`goes`, `counts`). Assumes nothing.
+use Rattle.std.specs.Prelude.{Option, Some}
 use Prim.Native.Nat.{ℕ, zero, suc, ◌+◌, ◌-◌, ◌*◌, ◌/◌, ◌%◌, ◌≤◌, ◌<◌}
 use mathlib.Core.Bool.{true, false}
 use mathlib.Core.Path.{◌≡◌, refl, sym, ap, ap₂, subst, ◌∙◌}
@@ -13,13 +14,13 @@ use Rattle.lists.specs.Lists.{Bytes, pick, placed}
 use borrow.Rule.Slice.PartMut.{mid_of}
 use Rattle.lists.proofs.Parts.{tail_lent}
 use Rattle.lists.proofs.Placed.{placed_long, placed_twice}
-use Rattle.lists.proofs.Tests.{case, clash}
+use Rattle.lists.proofs.Tests.{case}
 use Rattle.refusal.specs.Verdict.{Verdict, passed, ◌>>=◌}
 use Rattle.descriptor.specs.Naming.{edition_says}
 use Rattle.descriptor.specs.declared.edition.Edition.{Edition}
 use Rattle.packet.specs.Header.{packet_length, packets, packet_at, pid, fields, payload}
-use Rattle.packet.specs.declared.counter.Last.TheVariants as last
-use Rattle.packet.specs.declared.streams.Slot.TheVariants as slots
+use Rattle.packet.specs.declared.streams.Streams.{Streams}
+use Rattle.packet.specs.Counter.{seen}
 use Rattle.packet.specs.Streams.{with_last}
 use Rattle.plain.specs.Runs.{next_counter, counts_on, counting_on, goes_on, payload_length, going_on, payloads}
 use Rattle.plain.proofs.Places.{next_packet, no_packet, packet_length_lem}
@@ -37,94 +38,90 @@ use Rattle.segment_rules.proofs.Growing.{Grows, same_units, one_more, packet_gro
 use Rattle.tables.specs.declared.state.Kind.{Kind}
 use Rattle.tables.specs.declared.state.Kind.TheVariants as kinds
 use Rattle.tables.specs.declared.tables.Tables.{Tables}
-use Rattle.tables.specs.Tables.{slot_in, Kept, KindRefines}
+use Rattle.tables.specs.Tables.{slot_in, Kept}
 use Rattle.units.specs.declared.state.PesFound.{PesFound}
-use Rattle.units.specs.declared.state.PesSeen.{PesSeen}
-use Rattle.units.specs.declared.state.PesSeen.TheVariants as seen
 use Rattle.units.specs.declared.units.Extraction.{Extraction}
 use Rattle.units.specs.Extraction.{UnitsRepresent, PayloadOf}
 use Rattle.units.proofs.Extracting.{adds_right}
 use Rattle.extraction.specs.declared.packets.State.{State}
 use Rattle.extraction.specs.Packets.{StateKept}
-use Rattle.segment_run.specs.declared.going.Seen.{Seen}
-use Rattle.segment_run.specs.declared.going.Seen.TheVariants as found
-use Rattle.segment_run.specs.Parts.{Follows, CounterSeen, MayGoOn, opens, is_opened, last_went, Pass, GoesOn}
+use Rattle.segment_run.specs.Parts.{Follows, MayGoOn, last_went, Pass, GoesOn}
 use Rattle.segment_run.proofs.Counting.{Due, due_kept, last_twice, next_due, state_after, counted_so, not_repeating, kept_so}
 
 -- ---- so many packets, one by one
 -- the last of one and of those behind it
-went_one : (numbers : List ℕ) (slot counter k m : ℕ)
-    → last_went (with_last numbers slot (last.Packet (next_counter counter) k false)) slot (next_counter counter) (k + 1) m
-    ≡ last_went numbers slot counter k (suc m)
-went_one numbers slot counter k zero =
+went_one : (streams : Streams) (slot counter k m : ℕ)
+    → last_went (with_last streams slot (seen (next_counter counter) k false)) slot (next_counter counter) (k + 1) m
+    ≡ last_went streams slot counter k (suc m)
+went_one streams slot counter k zero =
     let z : k ≡ k + 0 = omega arith in
     let y : (counter + 1) % 16 ≡ (counter + suc 0) % 16 = omega arith in
-    ap₂ (λ (x w : ℕ). with_last numbers slot (last.Packet x w false)) y z
-went_one numbers slot counter k (suc m) =
+    ap₂ (λ (x w : ℕ). with_last streams slot (seen x w false)) y z
+went_one streams slot counter k (suc m) =
     let z : k + 1 + m ≡ k + suc m = omega arith in
     let y : ((counter + 1) % 16 + suc m) % 16 ≡ (counter + suc (suc m)) % 16 = omega arith in
-    last_twice numbers slot (last.Packet (next_counter counter) k false)
-    (last.Packet (((counter + 1) % 16 + suc m) % 16) (k + 1 + m) false)
-    ∙ ap₂ (λ (x w : ℕ). with_last numbers slot (last.Packet x w false)) y z
+    last_twice streams slot (seen (next_counter counter) k false)
+    (seen (((counter + 1) % 16 + suc m) % 16) (k + 1 + m) false)
+    ∙ ap₂ (λ (x w : ℕ). with_last streams slot (seen x w false)) y z
 
 module _ (edition : Edition) (segment : Bytes) (before : Outputs) (kind : state.Kind) (slot : ℕ) where
   -- m packets from index k on pass, which leave this state and these outputs
-  pub record Gone (m k : ℕ) (numbers : List ℕ) (counter : ℕ) (st : state.State) (c : State) (after : Outputs) : Type 0 where
+  pub record Gone (m k : ℕ) (streams : Streams) (counter : ℕ) (st : state.State) (c : State) (after : Outputs) : Type 0 where
     pub reached : state.State
     pub passes : Pass (edition_says edition) segment (rooms_of before) kind m k st reached
-    pub kept : StateKept edition segment before after c (last_went numbers slot counter k m) reached
+    pub kept : StateKept edition segment before after c (last_went streams slot counter k m) reached
 
-  module _ (k : ℕ) (numbers : List ℕ) (counter : ℕ) (st : state.State) (c : State) (after : Outputs) where
-    none_gone : StateKept edition segment before after c numbers st → Gone 0 k numbers counter st c after
+  module _ (k : ℕ) (streams : Streams) (counter : ℕ) (st : state.State) (c : State) (after : Outputs) where
+    none_gone : StateKept edition segment before after c streams st → Gone 0 k streams counter st c after
     none_gone s = record { reached = st; passes = refl; kept = s }
 
     one_gone : (m : ℕ) (next : state.State) → kind_of st.tables (pid (packet_at segment k)) ≡ kind
         → packet_rules (edition_says edition) (rooms_of before) k (packet_at segment k) kind st ≡ passed next
         → next.extraction.units ≡ st.extraction.units
-        → Gone m (k + 1) (with_last numbers slot (last.Packet (next_counter counter) k false)) (next_counter counter) next c after
-        → Gone (suc m) k numbers counter st c after
+        → Gone m (k + 1) (with_last streams slot (seen (next_counter counter) k false)) (next_counter counter) next c after
+        → Gone (suc m) k streams counter st c after
     one_gone m next is rule same rest =
         record {
           reached = rest.reached;
           passes = (next, is, rule, same, rest.passes);
           kept =
-              subst (λ (l : List ℕ). StateKept edition segment before after c l rest.reached) (went_one numbers slot counter k m)
+              subst (λ (l : Streams). StateKept edition segment before after c l rest.reached) (went_one streams slot counter k m)
               rest.kept;
         }
 
 -- ---- a packet of another listed PID
 module _ (edition : Edition) (segment : Bytes) (before now : Outputs) (c : State) (n slot : ℕ) where
-  module _ (numbers : List ℕ) (st : state.State) (s : StateKept edition segment before now c numbers st) (counter : ℕ)
+  module _ (streams : Streams) (st : state.State) (s : StateKept edition segment before now c streams st) (counter : ℕ)
       (d : Due st.tables.records n slot counter) (k : ℕ) (g : counts_on n counter (packet_at segment k) ≡ true) where
     abbrev reached_by : state.State
-    reached_by = state_after segment c.tables numbers st s.tables n slot counter d k g
+    reached_by = state_after segment c.tables streams st s.tables n slot counter d k g
 
     one_counts : packet_rules (edition_says edition) (rooms_of before) k (packet_at segment k) state.Listed st ≡ passed reached_by
     one_counts =
         other_listed (edition_says edition) (rooms_of before) k (packet_at segment k) st (fields (packet_at segment k))
         (plain_passes n counter (packet_at segment k) g)
-        ∙ counted_so segment c.tables numbers st s.tables n slot counter d k g
+        ∙ counted_so segment c.tables streams st s.tables n slot counter d k g
 
-    counts_kept : StateKept edition segment before now c (with_last numbers slot (last.Packet (next_counter counter) k false)) reached_by
+    counts_kept : StateKept edition segment before now c (with_last streams slot (seen (next_counter counter) k false)) reached_by
     counts_kept =
         record {
           follows = s.follows;
-          tables = kept_so segment c.tables numbers st s.tables n slot counter d k g;
+          tables = kept_so segment c.tables streams st s.tables n slot counter d k g;
           extraction = s.extraction;
         }
 
   -- so many packets are left from index k on
-  pub counts : (left k : ℕ) → k + left ≡ length segment / packet_length → (numbers : List ℕ) (st : state.State)
-      → StateKept edition segment before now c numbers st → (counter : ℕ) → kind_of st.tables n ≡ state.Listed
+  pub counts : (left k : ℕ) → k + left ≡ length segment / packet_length → (streams : Streams) (st : state.State)
+      → StateKept edition segment before now c streams st → (counter : ℕ) → kind_of st.tables n ≡ state.Listed
       → Due st.tables.records n slot counter
-      → Gone edition segment before state.Listed slot (counting_on n counter (drop k (packets segment))) k numbers counter st c now
+      → Gone edition segment before state.Listed slot (counting_on n counter (drop k (packets segment))) k streams counter st c now
   unfolding kind_of
-  counts zero k h numbers st s counter is d =
+  counts zero k h streams st s counter is d =
       let none : counting_on n counter (drop k (packets segment)) ≡ 0 =
       ap (counting_on n counter) (no_packet segment k (omega arith)) ∙ counting_none n counter in
-      subst (λ (m : ℕ). Gone edition segment before state.Listed slot m k numbers counter st c now) (sym none)
-      (none_gone edition segment before state.Listed slot k numbers counter st c now s)
-  counts (suc left) k h numbers st s counter is d =
+      subst (λ (m : ℕ). Gone edition segment before state.Listed slot m k streams counter st c now) (sym none)
+      (none_gone edition segment before state.Listed slot k streams counter st c now s)
+  counts (suc left) k h streams st s counter is d =
       let p = packet_at segment k in
       let l = drop (suc k) (packets segment) in
       let here = ap (counting_on n counter) (next_packet segment k (omega arith)) in
@@ -134,15 +131,15 @@ module _ (edition : Edition) (segment : Bytes) (before now : Outputs) (c : State
       ≡ suc (counting_on n (next_counter counter) (drop (k + 1) (packets segment))) =
       here ∙ counting_next n counter p l g
       ∙ ap (λ (x : ℕ). suc (counting_on n (next_counter counter) (drop x (packets segment)))) (sym (add-one k)) in
-      subst (λ (m : ℕ). Gone edition segment before state.Listed slot m k numbers counter st c now) (sym many)
-      (one_gone edition segment before state.Listed slot k numbers counter st c now _ (reached_by numbers st s counter d k g)
-      (ap (kind_of st.tables) (of_pid n counter p g) ∙ is) (one_counts numbers st s counter d k g) refl
-      (counts left (k + 1) (omega arith) _ (reached_by numbers st s counter d k g) (counts_kept numbers st s counter d k g)
+      subst (λ (m : ℕ). Gone edition segment before state.Listed slot m k streams counter st c now) (sym many)
+      (one_gone edition segment before state.Listed slot k streams counter st c now _ (reached_by streams st s counter d k g)
+      (ap (kind_of st.tables) (of_pid n counter p g) ∙ is) (one_counts streams st s counter d k g) refl
+      (counts left (k + 1) (omega arith) _ (reached_by streams st s counter d k g) (counts_kept streams st s counter d k g)
       (next_counter counter) is (next_due segment st.tables.records n slot counter d k g))))
       (λ g.
-      subst (λ (m : ℕ). Gone edition segment before state.Listed slot m k numbers counter st c now)
+      subst (λ (m : ℕ). Gone edition segment before state.Listed slot m k streams counter st c now)
       (sym (here ∙ counting_stop n counter p l g))
-      (none_gone edition segment before state.Listed slot k numbers counter st c now s))
+      (none_gone edition segment before state.Listed slot k streams counter st c now s))
 
 -- ---- a packet of the AV1 PID
 -- what holds where one of PID n may go on
@@ -150,7 +147,7 @@ pub record Ready (c : State) (st : state.State) (n slot counter : ℕ) (f : PesF
   pub kind : kind_of st.tables n ≡ state.Av1
   pub due : Due st.tables.records n slot counter
   pub clock : is_pcr st.tables.pcr ≡ true
-  pub opened : c.extraction.pes ≡ seen.Open f
+  pub opened : c.extraction.pes ≡ Some f
 
 -- the state with so many bytes more
 abbrev with_bytes : State → ℕ → State
@@ -173,8 +170,8 @@ no_unit_lem x x' (same_units e) h = e
 no_unit_lem x x' (one_more o at e) h = absurd (omega (arith, h, ap length e, length-append x.units (unit_of o ∷ [])))
 
 module _ (edition : Edition) (segment : Bytes) (before : Outputs) (lens times : List ℕ) (n slot : ℕ) (f : PesFound) where
-  module _ (out : List ℕ) (c : State) (numbers : List ℕ) (st : state.State)
-      (s : StateKept edition segment before (outputs_of out lens times) c numbers st) (counter : ℕ) (r : Ready c st n slot counter f)
+  module _ (out : List ℕ) (c : State) (streams : Streams) (st : state.State)
+      (s : StateKept edition segment before (outputs_of out lens times) c streams st) (counter : ℕ) (r : Ready c st n slot counter f)
       (k : ℕ) (g : goes_on n counter (packet_at segment k) ≡ true) where
     abbrev p : Bytes
     p = packet_at segment k
@@ -183,10 +180,10 @@ module _ (edition : Edition) (segment : Bytes) (before : Outputs) (lens times : 
     counting = counts_too n counter p g
 
     abbrev counted : state.State
-    counted = state_after segment c.tables numbers st s.tables n slot counter r.due k counting
+    counted = state_after segment c.tables streams st s.tables n slot counter r.due k counting
 
-    abbrev after : List ℕ
-    after = with_last numbers slot (last.Packet (next_counter counter) k false)
+    abbrev after : Streams
+    after = with_last streams slot (seen (next_counter counter) k false)
 
     rules : packet_rules (edition_says edition) (rooms_of before) k p state.Av1 st
         ≡ in_sequence (pes_rules (edition_says edition) (rooms_of before) k p state.Av1) counted
@@ -195,8 +192,8 @@ module _ (edition : Edition) (segment : Bytes) (before : Outputs) (lens times : 
         let rest = in_sequence (pes_rules (edition_says edition) (rooms_of before) k p state.Av1) in
         av1_packet (edition_says edition) (rooms_of before) k p st (fields p) (plain_passes n counter p counting)
         ∙ ap (λ (v : Verdict state.State). v >>= unless_repeat p rest)
-        (counted_so segment c.tables numbers st s.tables n slot counter r.due k counting)
-        ∙ not_repeated p rest counted (not_repeating segment c.tables numbers st s.tables n slot counter r.due k counting)
+        (counted_so segment c.tables streams st s.tables n slot counter r.due k counting)
+        ∙ not_repeated p rest counted (not_repeating segment c.tables streams st s.tables n slot counter r.due k counting)
 
     module _ (h : k < length segment / packet_length) (room : payload_length ≤ length out - place c) (fits : place c ≤ length out) where
       long : length (payload p) ≡ payload_length
@@ -217,7 +214,7 @@ module _ (edition : Edition) (segment : Bytes) (before : Outputs) (lens times : 
           let rule = rules ∙ d.1 in
           let units : UnitsRepresent before out' (longer c payload_length).extraction d.0.extraction =
           subst (λ (x : Extraction). UnitsRepresent before out' x d.0.extraction)
-          (ap₂ (λ (x : PesSeen) (m : ℕ). record { pes = x; units = e.units; start = e.start; bytes = e.bytes + m })
+          (ap₂ (λ (x : Option PesFound) (m : ℕ). record { pes = x; units = e.units; start = e.start; bytes = e.bytes + m })
           (sym r.opened) long)
           d.2.1 in
           let back = sym d.2.0 in (
@@ -227,7 +224,7 @@ module _ (edition : Edition) (segment : Bytes) (before : Outputs) (lens times : 
               follows = s.follows;
               tables =
                   subst (Kept segment c.tables after) back
-                  (kept_so segment c.tables numbers st s.tables n slot counter r.due k counting);
+                  (kept_so segment c.tables streams st s.tables n slot counter r.due k counting);
               extraction = units;
             },
             no_unit_lem st.extraction d.0.extraction (packet_grows (edition_says edition) (rooms_of before) k p state.Av1 st d.0 rule)
@@ -243,52 +240,52 @@ module _ (edition : Edition) (segment : Bytes) (before : Outputs) (lens times : 
           )
 
   -- of so many packets from index k on, whose payloads are put into this output
-  abbrev pub Went : ℕ → ℕ → List ℕ → State → List ℕ → state.State → ℕ → Type 0
-  Went m k out c numbers st counter =
-      Gone edition segment before state.Av1 slot m k numbers counter st (longer c (m * payload_length))
+  abbrev pub Went : ℕ → ℕ → List ℕ → State → Streams → state.State → ℕ → Type 0
+  Went m k out c streams st counter =
+      Gone edition segment before state.Av1 slot m k streams counter st (longer c (m * payload_length))
       (outputs_of (placed out (place c) (payloads m (drop k (packets segment)))) lens times)
 
-  none_went : (k : ℕ) (out : List ℕ) (c : State) (numbers : List ℕ) (st : state.State)
-      → StateKept edition segment before (outputs_of out lens times) c numbers st → (counter : ℕ) → Went 0 k out c numbers st counter
+  none_went : (k : ℕ) (out : List ℕ) (c : State) (streams : Streams) (st : state.State)
+      → StateKept edition segment before (outputs_of out lens times) c streams st → (counter : ℕ) → Went 0 k out c streams st counter
   unfolding flatten
-  none_went k out c numbers st s counter =
+  none_went k out c streams st s counter =
       let z : c.extraction.bytes ≡ c.extraction.bytes + 0 * payload_length = omega arith in
-      none_gone edition segment before state.Av1 slot k numbers counter st (longer c (0 * payload_length))
+      none_gone edition segment before state.Av1 slot k streams counter st (longer c (0 * payload_length))
       (outputs_of (placed out (place c) []) lens times)
-      (subst (λ (w : List ℕ). StateKept edition segment before (outputs_of w lens times) (longer c (0 * payload_length)) numbers st)
+      (subst (λ (w : List ℕ). StateKept edition segment before (outputs_of w lens times) (longer c (0 * payload_length)) streams st)
       (sym (take-append-drop (place c) out))
-      (subst (λ (b : ℕ). StateKept edition segment before (outputs_of out lens times) (with_bytes c b) numbers st) z s))
+      (subst (λ (b : ℕ). StateKept edition segment before (outputs_of out lens times) (with_bytes c b) streams st) z s))
 
   -- one more in front of them
-  module _ (k : ℕ) (h : k < length segment / packet_length) (out : List ℕ) (c : State) (numbers : List ℕ) (st : state.State)
-      (s : StateKept edition segment before (outputs_of out lens times) c numbers st) (counter : ℕ) (r : Ready c st n slot counter f)
+  module _ (k : ℕ) (h : k < length segment / packet_length) (out : List ℕ) (c : State) (streams : Streams) (st : state.State)
+      (s : StateKept edition segment before (outputs_of out lens times) c streams st) (counter : ℕ) (r : Ready c st n slot counter f)
       (g : goes_on n counter (packet_at segment k) ≡ true) (room : payload_length ≤ length out - place c) (fits : place c ≤ length out)
     where
       abbrev one : (st' : state.State) × (packet_rules (edition_says edition) (rooms_of before) k (packet_at segment k) state.Av1 st
           ≡ passed
           st')
           × StateKept edition segment before (outputs_of (placed out (place c) (payload (packet_at segment k))) lens times)
-          (longer c payload_length) (with_last numbers slot (last.Packet (next_counter counter) k false)) st'
+          (longer c payload_length) (with_last streams slot (seen (next_counter counter) k false)) st'
           × (st'.extraction.units ≡ st.extraction.units)
           × Ready (longer c payload_length) st' n slot (next_counter counter) f
-      one = one_goes out c numbers st s counter r k g h room fits
+      one = one_goes out c streams st s counter r k g h room fits
 
       abbrev out1 : List ℕ
       out1 = placed out (place c) (payload (packet_at segment k))
 
       kept_long : length out1 ≡ length out
       kept_long =
-          let size = long out c numbers st s counter r k g h room fits in
+          let size = long out c streams st s counter r k g h room fits in
           placed_long out (place c) (omega (arith, size, room)) (payload (packet_at segment k)) (omega (arith, size, room))
 
       one_went : (m : ℕ)
-          → Went m (k + 1) out1 (longer c payload_length) (with_last numbers slot (last.Packet (next_counter counter) k false)) one.0
+          → Went m (k + 1) out1 (longer c payload_length) (with_last streams slot (seen (next_counter counter) k false)) one.0
           (next_counter counter)
-          → Went (suc m) k out c numbers st counter
+          → Went (suc m) k out c streams st counter
       unfolding flatten
       one_went m rest =
           let p = packet_at segment k in
-          let size = long out c numbers st s counter r k g h room fits in
+          let size = long out c streams st s counter r k g h room fits in
           let l = drop (k + 1) (packets segment) in
           let seam : c.extraction.start + (c.extraction.bytes + payload_length) ≡ place c + length (payload p) = omega (arith, size) in
           let bytes : c.extraction.bytes + payload_length + m * payload_length ≡ c.extraction.bytes + suc m * payload_length =
@@ -300,26 +297,26 @@ module _ (edition : Edition) (segment : Bytes) (before : Outputs) (lens times : 
           ≡ placed out (place c) (payloads (suc m) (drop k (packets segment))) =
           ap (λ (x : ℕ). placed out1 x (payloads m l)) seam ∙ placed_twice out (place c) fits (payload p) (payloads m l)
           ∙ ap (placed out (place c)) listed in
-          one_gone edition segment before state.Av1 slot k numbers counter st (longer c (suc m * payload_length))
+          one_gone edition segment before state.Av1 slot k streams counter st (longer c (suc m * payload_length))
           (outputs_of (placed out (place c) (payloads (suc m) (drop k (packets segment)))) lens times) m one.0
           (ap (kind_of st.tables) (of_pid n counter p (counts_too n counter p g)) ∙ r.kind) one.1 one.3
           (subst (λ (x : List ℕ). Gone edition segment before state.Av1 slot m (k + 1)
-          (with_last numbers slot (last.Packet (next_counter counter) k false)) (next_counter counter) one.0
+          (with_last streams slot (seen (next_counter counter) k false)) (next_counter counter) one.0
           (longer c (suc m * payload_length)) (outputs_of x lens times)) put
           (subst (λ (x : ℕ). Gone edition segment before state.Av1 slot m (k + 1)
-          (with_last numbers slot (last.Packet (next_counter counter) k false)) (next_counter counter) one.0 (with_bytes c x)
+          (with_last streams slot (seen (next_counter counter) k false)) (next_counter counter) one.0 (with_bytes c x)
           (outputs_of (placed out1 (c.extraction.start + (c.extraction.bytes + payload_length)) (payloads m l)) lens times)) bytes rest))
 
   -- so many packets are left from index k on
-  pub goes : (left k : ℕ) → k + left ≡ length segment / packet_length → (out : List ℕ) (c : State) (numbers : List ℕ) (st : state.State)
-      → StateKept edition segment before (outputs_of out lens times) c numbers st → (counter : ℕ) → Ready c st n slot counter f
+  pub goes : (left k : ℕ) → k + left ≡ length segment / packet_length → (out : List ℕ) (c : State) (streams : Streams) (st : state.State)
+      → StateKept edition segment before (outputs_of out lens times) c streams st → (counter : ℕ) → Ready c st n slot counter f
       → place c ≤ length out
-      → Went (going_on (length out - place c) n counter (drop k (packets segment))) k out c numbers st counter
-  goes zero k h out c numbers st s counter r fits =
+      → Went (going_on (length out - place c) n counter (drop k (packets segment))) k out c streams st counter
+  goes zero k h out c streams st s counter r fits =
       let none : going_on (length out - place c) n counter (drop k (packets segment)) ≡ 0 =
       ap (going_on (length out - place c) n counter) (no_packet segment k (omega arith)) ∙ going_none (length out - place c) n counter in
-      subst (λ (m : ℕ). Went m k out c numbers st counter) (sym none) (none_went k out c numbers st s counter)
-  goes (suc left) k h out c numbers st s counter r fits =
+      subst (λ (m : ℕ). Went m k out c streams st counter) (sym none) (none_went k out c streams st s counter)
+  goes (suc left) k h out c streams st s counter r fits =
       let p = packet_at segment k in
       let l = drop (suc k) (packets segment) in
       let free = length out - place c in
@@ -327,54 +324,28 @@ module _ (edition : Edition) (segment : Bytes) (before : Outputs) (lens times : 
       let here = ap (going_on free n counter) (next_packet segment k within) in
       case (ltb free payload_length)
       (λ t.
-      subst (λ (m : ℕ). Went m k out c numbers st counter) (sym (here ∙ going_full free n counter p l (ltb-true free payload_length t)))
-      (none_went k out c numbers st s counter))
+      subst (λ (m : ℕ). Went m k out c streams st counter) (sym (here ∙ going_full free n counter p l (ltb-true free payload_length t)))
+      (none_went k out c streams st s counter))
       (λ t. case (goes_on n counter p)
       (λ g.
       let room = ltb-false free payload_length t in
-      let next = one k within out c numbers st s counter r g room fits in
-      let put = out1 k within out c numbers st s counter r g room fits in
-      let same = kept_long k within out c numbers st s counter r g room fits in
+      let next = one k within out c streams st s counter r g room fits in
+      let put = out1 k within out c streams st s counter r g room fits in
+      let same = kept_long k within out c streams st s counter r g room fits in
       let less : length put - place (longer c payload_length) ≡ free - payload_length = omega (arith, same) in
       let many : going_on free n counter (drop k (packets segment))
       ≡ suc (going_on (length put - place (longer c payload_length)) n (next_counter counter) (drop (k + 1) (packets segment))) =
       here ∙ going_next free n counter p l room g
       ∙ ap₂ (λ (x y : ℕ). suc (going_on x n (next_counter counter) (drop y (packets segment)))) (sym less) (sym (add-one k)) in
-      subst (λ (m : ℕ). Went m k out c numbers st counter) (sym many)
-      (one_went k within out c numbers st s counter r g room fits _
+      subst (λ (m : ℕ). Went m k out c streams st counter) (sym many)
+      (one_went k within out c streams st s counter r g room fits _
       (goes left (k + 1) (omega arith) put (longer c payload_length) _ next.0 next.2 (next_counter counter) next.4
       (omega (arith, same, room)))))
       (λ g.
-      subst (λ (m : ℕ). Went m k out c numbers st counter) (sym (here ∙ going_stop free n counter p l g))
-      (none_went k out c numbers st s counter)))
+      subst (λ (m : ℕ). Went m k out c streams st counter) (sym (here ∙ going_stop free n counter p l g))
+      (none_went k out c streams st s counter)))
 
 -- ---- the code
--- a PES is open, and a PCR has counted
-pub opened_so : (c : State) → is_opened c ≡ true → MayGoOn c
-opened_so c e = go c.extraction.pes refl e
-  where
-    go : (o : PesSeen) → c.extraction.pes ≡ o → opens o (is_pcr c.tables.pcr) ≡ true → MayGoOn c
-    go seen.Closed at k = clash k refl
-    go (seen.Open f) at k = record { opened = (f, at); clocked = k }
-
--- what the PID is, and the counter of its last packet, from the answers to both
-pub follows_so : (c : State) (numbers : List ℕ) (n slot counter : ℕ) (kind k : Kind) (s : Seen) → KindRefines c.tables numbers n k
-    → k ≡ kind → CounterSeen numbers slot s → s ≡ found.Counter counter → Follows c numbers n slot counter kind
-follows_so c numbers n slot counter kind k s is e last f =
-    record {
-      kind = subst (KindRefines c.tables numbers n) e is;
-      seen = subst (CounterSeen numbers slot) f last;
-    }
-
--- the last of some packets
-pub went_some : (numbers : List ℕ) (slot counter k m : ℕ) → (m ≡ 0 → ⊥)
-    → with_last numbers slot (last.Packet ((counter + m % 16) % 16) (k + m - 1) false) ≡ last_went numbers slot counter k m
-went_some numbers slot counter k zero h = absurd (h refl)
-went_some numbers slot counter k (suc m) h =
-    let z : k + suc m - 1 ≡ k + m = omega arith in
-    let y : (counter + suc m % 16) % 16 ≡ (counter + suc m) % 16 = omega arith in
-    ap₂ (λ (x w : ℕ). with_last numbers slot (last.Packet x w false)) y z
-
 -- how many, of the output as it is lent
 pub lent_many : (n last : ℕ) (l : List Bytes) (out : List ℕ) (at m : ℕ) → at ≤ length out
     → m ≡ going_on (length (mid_of at (length out - at) out)) n last l → m ≡ going_on (length out - at) n last l
@@ -390,99 +361,99 @@ left_from : (segment : Bytes) (k : ℕ) → length (drop k (packets segment)) �
 left_from segment k =
     length-drop k (packets segment) ∙ ap (λ (x : ℕ). x - k) (length_packets (length segment / packet_length) segment)
 
-module _ (segment : Bytes) (c : State) (numbers : List ℕ) (n slot counter : ℕ) (kind : Kind)
-    (f : Follows c numbers n slot counter kind) (at : slot_in kind ≡ slots.At slot) where
+module _ (segment : Bytes) (c : State) (streams : Streams) (n slot counter : ℕ) (kind : Kind)
+    (f : Follows c streams n slot counter kind) (at : slot_in kind ≡ Some slot) where
   -- the packet before is the last in its slot
-  due_then : (t : state.Tables) → Kept segment c.tables numbers t → Due t.records n slot counter
+  due_then : (t : state.Tables) → Kept segment c.tables streams t → Due t.records n slot counter
   due_then t kept =
-      due_kept segment c.tables numbers t kept n slot counter f.seen.0 f.seen.1 ((f.kind segment t kept).1 ∙ at) f.seen.2
+      due_kept segment c.tables streams t kept n slot counter f.seen.0 f.seen.1 ((f.kind segment t kept).1 ∙ at) f.seen.2
 
 -- what is known once they are counted: on the AV1 PID
-pub record Followed (segment : Bytes) (k : ℕ) (c : State) (numbers : List ℕ) (n slot counter : ℕ) (out : List ℕ) (m : ℕ) : Type 0 where
-  pub follows : Follows c numbers n slot counter (kinds.Av1 slot)
+pub record Followed (segment : Bytes) (k : ℕ) (c : State) (streams : Streams) (n slot counter : ℕ) (out : List ℕ) (m : ℕ) : Type 0 where
+  pub follows : Follows c streams n slot counter (kinds.Av1 slot)
   pub may : MayGoOn c
   pub within : k ≤ length segment / packet_length
   pub fits : place c ≤ length out
   pub many : m ≡ going_on (length out - place c) n counter (drop k (packets segment))
 
-module _ {segment : Bytes} {k : ℕ} {c : State} {numbers : List ℕ} {n slot counter : ℕ} {out : List ℕ} {m : ℕ}
-    (f : Followed segment k c numbers n slot counter out m) where
+module _ {segment : Bytes} {k : ℕ} {c : State} {streams : Streams} {n slot counter : ℕ} {out : List ℕ} {m : ℕ}
+    (f : Followed segment k c streams n slot counter out m) where
   -- they lie within the segment
   pub followed_within : k + m ≤ length segment / packet_length
   followed_within =
       omega (arith, (going_bounded (length out - place c) n counter (drop k (packets segment))).0, left_from segment k, f.many, f.within)
 
   -- and are copied behind what is there of the unit
-  pub all_went : (numbers' : List ℕ) → numbers' ≡ last_went numbers slot counter k m → (out' : List ℕ)
+  pub all_went : (streams' : Streams) → streams' ≡ last_went streams slot counter k m → (out' : List ℕ)
       → out' ≡ placed out (place c) (payloads m (drop k (packets segment)))
-      → GoesOn segment k c numbers out (record { packets = m; av1 = true }) numbers' out'
+      → GoesOn segment k c streams out (record { packets = m; av1 = true }) streams' out'
   unfolding pick
-  all_went numbers' last out' put =
+  all_went streams' last out' put =
       record {
         passes = λ edition lens times some before st s. went edition lens times before st s;
         within = followed_within;
         unmoved =
-            λ z. (last ∙ ap (last_went numbers slot counter k) z, put ∙ none_put out (place c) (drop k (packets segment)) m z);
+            λ z. (last ∙ ap (last_went streams slot counter k) z, put ∙ none_put out (place c) (drop k (packets segment)) m z);
       }
     where
       went : (edition : Edition) (lens times : List ℕ) (before : Outputs) (st : state.State)
-          → StateKept edition segment before (outputs_of out lens times) c numbers st
+          → StateKept edition segment before (outputs_of out lens times) c streams st
           → (st' : state.State) × Pass (edition_says edition) segment (rooms_of before) state.Av1 m k st st'
-          × StateKept edition segment before (outputs_of out' lens times) (longer c (m * payload_length)) numbers' st'
+          × StateKept edition segment before (outputs_of out' lens times) (longer c (m * payload_length)) streams' st'
       went edition lens times before st s =
           let r : Ready c st n slot counter f.may.opened.0 =
           record {
             kind = sym (f.follows.kind segment st.tables s.tables).0;
-            due = due_then segment c numbers n slot counter (kinds.Av1 slot) f.follows refl st.tables s.tables;
+            due = due_then segment c streams n slot counter (kinds.Av1 slot) f.follows refl st.tables s.tables;
             clock = ap (λ (t : Tables). is_pcr t.pcr) (sym s.tables.tables) ∙ f.may.clocked;
             opened = f.may.opened.1;
           } in
           let all = goes edition segment before lens times n slot f.may.opened.0 (length segment / packet_length - k) k
-          (omega (arith, f.within)) out c numbers st s counter r f.fits in
-          let x = subst (λ (y : ℕ). Went edition segment before lens times n slot f.may.opened.0 y k out c numbers st counter)
+          (omega (arith, f.within)) out c streams st s counter r f.fits in
+          let x = subst (λ (y : ℕ). Went edition segment before lens times n slot f.may.opened.0 y k out c streams st counter)
           (sym f.many) all in (
             x.reached,
             x.passes,
-            subst (λ (y : List ℕ). StateKept edition segment before (outputs_of out' lens times) (longer c (m * payload_length)) y
+            subst (λ (y : Streams). StateKept edition segment before (outputs_of out' lens times) (longer c (m * payload_length)) y
                 x.reached) (sym last)
                 (subst (λ (y : List ℕ). StateKept edition segment before (outputs_of y lens times) (longer c (m * payload_length))
-                (last_went numbers slot counter k m) x.reached) (sym put) x.kept),
+                (last_went streams slot counter k m) x.reached) (sym put) x.kept),
           )
 
 -- on another listed PID
-pub record Counted (segment : Bytes) (k : ℕ) (c : State) (numbers : List ℕ) (n slot counter m : ℕ) : Type 0 where
-  pub follows : Follows c numbers n slot counter (kinds.Listed slot)
+pub record Counted (segment : Bytes) (k : ℕ) (c : State) (streams : Streams) (n slot counter m : ℕ) : Type 0 where
+  pub follows : Follows c streams n slot counter (kinds.Listed slot)
   pub within : k ≤ length segment / packet_length
   pub many : m ≡ counting_on n counter (drop k (packets segment))
 
-module _ {segment : Bytes} {k : ℕ} {c : State} {numbers : List ℕ} {n slot counter m : ℕ}
-    (f : Counted segment k c numbers n slot counter m) where
+module _ {segment : Bytes} {k : ℕ} {c : State} {streams : Streams} {n slot counter m : ℕ}
+    (f : Counted segment k c streams n slot counter m) where
   pub counted_within : k + m ≤ length segment / packet_length
   counted_within = omega (arith, counting_bounded n counter (drop k (packets segment)), left_from segment k, f.many, f.within)
 
-  pub all_counted : (numbers' : List ℕ) → numbers' ≡ last_went numbers slot counter k m → (out : List ℕ)
-      → GoesOn segment k c numbers out (record { packets = m; av1 = false }) numbers' out
+  pub all_counted : (streams' : Streams) → streams' ≡ last_went streams slot counter k m → (out : List ℕ)
+      → GoesOn segment k c streams out (record { packets = m; av1 = false }) streams' out
   unfolding pick
-  all_counted numbers' last out =
+  all_counted streams' last out =
       record {
         passes = λ edition lens times some before st s. went edition lens times before st s;
         within = counted_within;
-        unmoved = λ z. (last ∙ ap (last_went numbers slot counter k) z, refl);
+        unmoved = λ z. (last ∙ ap (last_went streams slot counter k) z, refl);
       }
     where
       went : (edition : Edition) (lens times : List ℕ) (before : Outputs) (st : state.State)
-          → StateKept edition segment before (outputs_of out lens times) c numbers st
+          → StateKept edition segment before (outputs_of out lens times) c streams st
           → (st' : state.State) × Pass (edition_says edition) segment (rooms_of before) state.Listed m k st st'
-          × StateKept edition segment before (outputs_of out lens times) (longer c 0) numbers' st'
+          × StateKept edition segment before (outputs_of out lens times) (longer c 0) streams' st'
       went edition lens times before st s =
           let now = outputs_of out lens times in
           let z : c.extraction.bytes ≡ c.extraction.bytes + 0 = omega arith in
-          let all = counts edition segment before now c n slot (length segment / packet_length - k) k (omega (arith, f.within)) numbers st s
+          let all = counts edition segment before now c n slot (length segment / packet_length - k) k (omega (arith, f.within)) streams st s
           counter (sym (f.follows.kind segment st.tables s.tables).0)
-          (due_then segment c numbers n slot counter (kinds.Listed slot) f.follows refl st.tables s.tables) in
-          let x = subst (λ (y : ℕ). Gone edition segment before state.Listed slot y k numbers counter st c now) (sym f.many) all in (
+          (due_then segment c streams n slot counter (kinds.Listed slot) f.follows refl st.tables s.tables) in
+          let x = subst (λ (y : ℕ). Gone edition segment before state.Listed slot y k streams counter st c now) (sym f.many) all in (
             x.reached,
             x.passes,
-            subst (λ (b : ℕ). StateKept edition segment before now (with_bytes c b) numbers' x.reached) z
-                (subst (λ (y : List ℕ). StateKept edition segment before now c y x.reached) (sym last) x.kept),
+            subst (λ (b : ℕ). StateKept edition segment before now (with_bytes c b) streams' x.reached) z
+                (subst (λ (y : Streams). StateKept edition segment before now c y x.reached) (sym last) x.kept),
           )

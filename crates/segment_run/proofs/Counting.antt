@@ -1,10 +1,11 @@
 -- A packet that counts on after the last one of its PID: its counter is right and it is no copy (`checks`), so that it becomes the last
 -- packet in its slot (`kept_so`), and nothing else of the tables changes, since it has no PCR (`counted_so`). Assumes nothing.
+use Rattle.ticks.specs.declared.Ticks27.{Ticks27}
+use Rattle.std.specs.Prelude.{Option, Some, None}
 use Prim.Native.Nat.{ℕ, ◌+◌, ◌*◌, ◌%◌, ◌≤◌}
 use mathlib.Core.Bool.{Bool, true, false, not, ◌&&◌, ◌||◌, or-true, and-false}
 use mathlib.Core.Path.{◌≡◌, refl, sym, ap, ap₂, ◌∙◌}
 use mathlib.Core.List.{List}
-use mathlib.Core.Option.{Option, none, some}
 use native.Mathlib.Omega.{arith}
 use borrow.Author.Tests.{eq-eqb}
 use lib.Dec.{eqb, ltb}
@@ -16,14 +17,12 @@ use Rattle.refusal.specs.Verdict.{Verdict, passed, ◌>>=◌, at_place}
 use Rattle.refusal.proofs.Verdicts.{pass_on}
 use Rattle.descriptor.specs.Naming.{edition_says}
 use Rattle.packet.specs.Header.{packet_at, pid, continuity_counter, has_payload, discontinuity_indicator}
-use Rattle.packet.specs.declared.header.Clock.{Clock}
 use Rattle.packet.specs.declared.counter.Last.{Last}
-use Rattle.packet.specs.declared.counter.Last.TheVariants as last
-use Rattle.packet.specs.declared.streams.Slot.TheVariants as slots
-use Rattle.packet.specs.Counter.{StreamRecord, named, due, counter_right, bytes_same, copy_of, repeats, check, pids_of, record_of}
+use Rattle.packet.specs.declared.streams.Streams.{Streams}
+use Rattle.packet.specs.Counter.{StreamRecord, named, due, counter_right, bytes_same, copy_of, repeats, check, pids_of, record_of, seen}
 use Rattle.packet.specs.Counter.{checked_in}
 use Rattle.packet.specs.Counter.{last_kept, last_of}
-use Rattle.packet.specs.Streams.{most_records, look_up, mark_of, index_of, last_in, with_last}
+use Rattle.packet.specs.Streams.{look_up, most_records, mark_of, index_of, last_in, with_last}
 use Rattle.packet.proofs.Copies.{copy_not_due}
 use Rattle.packet.proofs.Counters.{checked_pids}
 use Rattle.packet.proofs.Slots.{look_up_at}
@@ -45,7 +44,7 @@ use Rattle.tables.proofs.Counting.{slot_within}
 -- a packet with payload whose counter is the next one is right
 right_after : (q p : Bytes) (counter : ℕ) → continuity_counter q ≡ counter → has_payload p ≡ true → continuity_counter p ≡ next_counter
     counter
-    → counter_right (some q) p ≡ true
+    → counter_right (Some q) p ≡ true
 unfolding counter_right due pick
 right_after q p counter e h k =
     ap (λ (b : Bool). discontinuity_indicator p || eqb (continuity_counter p)
@@ -55,7 +54,7 @@ right_after q p counter e h k =
     ∙ or-true (discontinuity_indicator p)
 
 -- and no copy
-not_equal : (q p : Bytes) → counter_right (some q) p ≡ true → has_payload p ≡ true → discontinuity_indicator p ≡ false → bytes_same q p ≡
+not_equal : (q p : Bytes) → counter_right (Some q) p ≡ true → has_payload p ≡ true → discontinuity_indicator p ≡ false → bytes_same q p ≡
     false
 unfolding copy_of
 not_equal q p r h d =
@@ -65,9 +64,9 @@ not_equal q p r h d =
 
 -- so that it becomes the last packet of its PID, which is no repeat
 abbrev latest : ℕ → StreamRecord → Bytes → Bool → StreamRecord
-latest i r p repeat = record { pid = r.pid; last = some p; lies = i; repeat = repeat }
+latest i r p repeat = record { pid = r.pid; last = Some p; lies = i; repeat = repeat }
 
-checks_right : (i : ℕ) (r : StreamRecord) (q p : Bytes) → r.last ≡ some q → counter_right (some q) p ≡ true → bytes_same q p ≡ false
+checks_right : (i : ℕ) (r : StreamRecord) (q p : Bytes) → r.last ≡ Some q → counter_right (Some q) p ≡ true → bytes_same q p ≡ false
     → check i r p ≡ passed (latest i r p false)
 unfolding check copy_of
 checks_right i r q p e f g =
@@ -79,8 +78,8 @@ checks_right i r q p e f g =
     sym (pass_on 24 (ap₂ (λ (x y : Bool). not (x || y)) right copy) refl) ∙ ap (λ (b : Bool). passed (latest i r p b)) copy
 
 -- ---- the record in a slot
-module _ (records : List StreamRecord) (n k : ℕ) (e : look_up n (pids_of records) ≡ slots.At k) where
-  record_found : record_of n records ≡ some (get_or records k (named 0))
+module _ (records : List StreamRecord) (n k : ℕ) (e : look_up n (pids_of records) ≡ Some k) where
+  record_found : record_of n records ≡ Some (get_or records k (named 0))
   record_found =
       let f = look_up_at n (pids_of records) k e in
       let at : (j : ℕ) → get_or (pids_of records) j 0 ≡ (get_or records j (named 0)).pid = λ j. get_or-map (λ (r : StreamRecord). r.pid)
@@ -89,42 +88,48 @@ module _ (records : List StreamRecord) (n k : ℕ) (e : look_up n (pids_of recor
 
 -- a PID has its record in this slot, and its last packet had this counter
 pub record Due (records : List StreamRecord) (n slot counter : ℕ) : Type 0 where
-  pub found : look_up n (pids_of records) ≡ slots.At slot
-  pub before : (q : Bytes) × ((get_or records slot (named 0)).last ≡ some q) × (continuity_counter q ≡ counter)
+  pub found : look_up n (pids_of records) ≡ Some slot
+  pub before : (q : Bytes) × ((get_or records slot (named 0)).last ≡ Some q) × (continuity_counter q ≡ counter)
 
 -- what the code has seen of it
-module _ (segment : Bytes) (c : Tables) (numbers : List ℕ) (t : state.Tables) (kept : Kept segment c numbers t) where
+abbrev counter_in : Option Last → ℕ
+counter_in None = 0
+counter_in (Some l) = l.counter
+
+module _ (segment : Bytes) (c : Tables) (streams : Streams) (t : state.Tables) (kept : Kept segment c streams t) where
   few : length t.records ≤ most_records
   few = few_records (edition_says c.edition) segment t kept.valid
 
-  pub due_kept : (n slot counter i : ℕ) (repeat : Bool) → look_up n (pids_of t.records) ≡ slots.At slot
-      → last_in numbers slot ≡ last.Packet counter i repeat → Due t.records n slot counter
+  pub due_kept : (n slot counter i : ℕ) (repeat : Bool) → look_up n (pids_of t.records) ≡ Some slot
+      → last_in streams slot ≡ seen counter i repeat → Due t.records n slot counter
   unfolding last_kept
-  due_kept n slot counter i repeat e seen =
+  due_kept n slot counter i repeat e at =
       let r = get_or t.records slot (named 0) in
-      let same : last_of r ≡ last.Packet counter i repeat =
+      let same : last_of r ≡ seen counter i repeat =
       sym (last_kept_lem t.records slot (slot_within n t.records slot e) few)
-      ∙ ap (λ (l : List ℕ). last_in l slot) (sym kept.records) ∙ seen in
+      ∙ ap (λ (x : Streams). last_in x slot) (sym kept.records) ∙ at in
       record { found = e; before = go r.last r.lies r.repeat same }
     where
-      go : (o : Option Bytes) (j : ℕ) (b : Bool) → last_kept o j b ≡ last.Packet counter i repeat
-          → (q : Bytes) × (o ≡ some q) × (continuity_counter q ≡ counter)
-      go none j b f = apart (cc)
-      go (some q) j b f = (q, refl, cc)
+      go : (o : Option Bytes) (j : ℕ) (b : Bool) → last_kept o j b ≡ seen counter i repeat
+          → (q : Bytes) × (o ≡ Some q) × (continuity_counter q ≡ counter)
+      go None j b f = apart (cc)
+      go (Some q) j b f = (q, refl, ap counter_in f)
 
 -- ---- the numbers of a slot
 -- a second last packet over the first
-pub last_twice : (numbers : List ℕ) (slot : ℕ) (a b : Last) → with_last (with_last numbers slot a) slot b ≡ with_last numbers slot b
+pub last_twice : (streams : Streams) (slot : ℕ) (a b : Option Last)
+    → with_last (with_last streams slot a) slot b ≡ with_last streams slot b
 unfolding with_last pick
-last_twice numbers slot a b =
+last_twice streams slot a b =
+    let numbers = streams.numbers in
     case (ltb slot most_records)
-    (λ t. rw t (
-    ap (λ (l : List ℕ). set l (2 * most_records + slot) (index_of b))
+    (λ t. rw t (ap (λ (l : List ℕ). record { numbers = l })
+    (ap (λ (l : List ℕ). set l (2 * most_records + slot) (index_of b))
     (set_comm (set numbers (most_records + slot) (mark_of a)) (2 * most_records + slot) (most_records + slot) (index_of a) (mark_of b)
     (λ z. absurd (omega (arith, z))))
     ∙ set-set (set (set numbers (most_records + slot) (mark_of a)) (most_records + slot) (mark_of b)) (2 * most_records + slot) (index_of a)
     (index_of b)
-    ∙ ap (λ (l : List ℕ). set l (2 * most_records + slot) (index_of b)) (set-set numbers (most_records + slot) (mark_of a) (mark_of b))))
+    ∙ ap (λ (l : List ℕ). set l (2 * most_records + slot) (index_of b)) (set-set numbers (most_records + slot) (mark_of a) (mark_of b)))))
     (λ t. rw t)
 
 -- ---- a packet
@@ -149,7 +154,7 @@ module _ (segment : Bytes) (records : List StreamRecord) (n slot counter : ℕ) 
       let right = right_after q p counter f (with_payload n counter p g) (counter_next n counter p g) in
       checks_right k old q p e right (not_equal q p right (with_payload n counter p g) (no_break n counter p g))
 
-  found_in : look_up (pid p) (pids_of records) ≡ slots.At slot
+  found_in : look_up (pid p) (pids_of records) ≡ Some slot
   found_in = ap (λ (m : ℕ). look_up m (pids_of records)) (of_pid n counter p g) ∙ d.found
 
   records_so : checked_in k records p ≡ passed after
@@ -158,7 +163,7 @@ module _ (segment : Bytes) (records : List StreamRecord) (n slot counter : ℕ) 
       found_at k p records slot found_in ∙ ap (λ (v : Verdict StreamRecord). v >>= λ r. passed (set records slot r)) checks
 
   -- its PID is found where it was
-  still : look_up n (pids_of after) ≡ slots.At slot
+  still : look_up n (pids_of after) ≡ Some slot
   still = ap (look_up n) (checked_pids k p records after records_so) ∙ d.found
 
   there : get_or after slot (named 0) ≡ new
@@ -171,10 +176,10 @@ module _ (segment : Bytes) (records : List StreamRecord) (n slot counter : ℕ) 
   no_repeat : last_repeats (record_of (pid p) after) ≡ false
   no_repeat =
       ap (λ (m : ℕ). last_repeats (record_of m after)) (of_pid n counter p g)
-      ∙ ap last_repeats (record_found after n slot still ∙ ap some there)
+      ∙ ap last_repeats (record_found after n slot still ∙ ap Some there)
 
 -- ---- by its rules
-module _ (segment : Bytes) (c : Tables) (numbers : List ℕ) (st : state.State) (kept : Kept segment c numbers st.tables)
+module _ (segment : Bytes) (c : Tables) (streams : Streams) (st : state.State) (kept : Kept segment c streams st.tables)
     (n slot counter : ℕ) (d : Due st.tables.records n slot counter) (k : ℕ) (g : counts_on n counter (packet_at segment k) ≡ true) where
   abbrev it : Bytes
   it = packet_at segment k
@@ -187,7 +192,7 @@ module _ (segment : Bytes) (c : Tables) (numbers : List ℕ) (st : state.State) 
   state_after = with_tables tables_after st
 
   unclocked : clocked k it st.tables ≡ st.tables
-  unclocked = ap (λ (x : Clock). state.with_pcr (last_pcr st.tables.pcr x) st.tables)
+  unclocked = ap (λ (x : Option Ticks27). state.with_pcr (last_pcr st.tables.pcr x) st.tables)
       (uncounted it st.tables.pmt (no_pcr n counter it g))
 
   checked_so : checked k it st.tables ≡ passed tables_after
@@ -201,14 +206,14 @@ module _ (segment : Bytes) (c : Tables) (numbers : List ℕ) (st : state.State) 
   pub not_repeating : is_repeat it state_after ≡ false
   not_repeating = no_repeat segment st.tables.records n slot counter d k g
 
-  pub kept_so : Kept segment c (with_last numbers slot (last.Packet (next_counter counter) k false)) tables_after
+  pub kept_so : Kept segment c (with_last streams slot (seen (next_counter counter) k false)) tables_after
   unfolding last_kept
   kept_so =
       record {
         valid = valid_checked (edition_says c.edition) segment k it st.tables tables_after refl checked_so kept.valid;
         tables = kept.tables;
         records =
-            ap₂ (λ (l : List ℕ) (m : ℕ). with_last l slot (last.Packet m k false)) kept.records (sym (counter_next n counter it g))
+            ap₂ (λ (x : Streams) (m : ℕ). with_last x slot (seen m k false)) kept.records (sym (counter_next n counter it g))
             ∙ put_kept st.tables.records slot (new segment st.tables.records n slot counter d k g)
-            (slot_within n st.tables.records slot d.found) (few segment c numbers st.tables kept) refl;
+            (slot_within n st.tables.records slot d.found) (few segment c streams st.tables kept) refl;
       }

@@ -16,6 +16,7 @@ use Rattle.descriptor.specs.Edition as rules
 use Rattle.descriptor.specs.Naming.{edition_says}
 use Rattle.descriptor.specs.declared.edition.Edition.{Edition}
 use Rattle.packet.specs.Header.{packet_length, packets, packet_at, pid, null_pid, fields}
+use Rattle.packet.specs.declared.streams.Streams.{Streams}
 use Rattle.plain.specs.Runs.{is_null, nulls_in}
 use Rattle.plain.proofs.Places.{next_packet, no_packet}
 use Rattle.plain.proofs.Plains.{null_pid_lem, null_passes}
@@ -126,28 +127,28 @@ module _ (edition : rules.Edition) (rooms : Rooms) (segment : Bytes) (old firsts
         (one_passed st next totals k (omega arith) r is p u) more)
 
 -- the loop goes on behind them, where what the code keeps is of the state that they lead to
-module _ {edition : Edition} {segment : Bytes} {before now : Outputs} {old firsts : List ℕ} {c : State} {numbers : List ℕ}
-    {totals : Totals} {k : ℕ} (inv : Running edition segment before now old firsts c numbers totals k) where
+module _ {edition : Edition} {segment : Bytes} {before now : Outputs} {old firsts : List ℕ} {c : State} {streams : Streams}
+    {totals : Totals} {k : ℕ} (inv : Running edition segment before now old firsts c streams totals k) where
   here : Reached (edition_says edition) (rooms_of before) segment old firsts inv.state totals k
   here = record { noted = inv.noted; counts = inv.counts; rest = inv.rest }
 
   behind : (kind : state.Kind) (n : ℕ) (st' : state.State) → k + n ≤ length segment / packet_length
       → Pass (edition_says edition) segment (rooms_of before) kind n k inv.state st'
-      → (after : Outputs) (c' : State) (numbers' : List ℕ) → StateKept edition segment before after c' numbers' st'
+      → (after : Outputs) (c' : State) (streams' : Streams) → StateKept edition segment before after c' streams' st'
       → (t : Totals) → t ≡ many kind n totals
-      → Running edition segment before after old firsts c' numbers' t (k + n)
-  behind kind n st' h p after c' numbers' s t same =
+      → Running edition segment before after old firsts c' streams' t (k + n)
+  behind kind n st' h p after c' streams' s t same =
       let r = all_passed (edition_says edition) (rooms_of before) segment old firsts kind n k inv.state st' totals h here p in
       let r' = subst (λ (x : Totals). Reached (edition_says edition) (rooms_of before) segment old firsts st' x (k + n)) (sym same) r in
       record { state = st'; stands = s; noted = r'.noted; counts = r'.counts; rest = r'.rest }
 
   -- packets that go on with their stream
-  pub passes_on : (r : Went) (numbers' : List ℕ) (after : Outputs) → GoOnRefines edition segment k c numbers now r numbers' after
+  pub passes_on : (r : Went) (streams' : Streams) (after : Outputs) → GoOnRefines edition segment k c streams now r streams' after
       → (r.packets ≡ 0 → ⊥) → k + r.packets ≤ length segment / packet_length
-      → Running edition segment before after old firsts (state_went c r) numbers' (totals_went totals r) (k + r.packets)
-  passes_on r numbers' after turn some within =
+      → Running edition segment before after old firsts (state_went c r) streams' (totals_went totals r) (k + r.packets)
+  passes_on r streams' after turn some within =
       let g = turn some before inv.state inv.stands in
-      behind (kind_went r) r.packets g.0 within g.1 after (state_went c r) numbers' g.2 (totals_went totals r)
+      behind (kind_went r) r.packets g.0 within g.1 after (state_went c r) streams' g.2 (totals_went totals r)
       (sym (many_went r.av1 r.packets totals))
 
 pub cons_first : {p q : Bytes} {l m : List Bytes} → p ∷ l ≡ q ∷ m → p ≡ q
@@ -200,11 +201,11 @@ module _ (edition : rules.Edition) (rooms : Rooms) (segment : Bytes) (st : state
       go false t w later = (omega (arith, h), refl)
 
 -- the loop goes on behind them
-pub passes_nulls : {edition : Edition} {segment : Bytes} {before now : Outputs} {old firsts : List ℕ} {c : State} {numbers : List ℕ}
-    {totals : Totals} {k : ℕ} (inv : Running edition segment before now old firsts c numbers totals k) → k ≤ length segment / packet_length
+pub passes_nulls : {edition : Edition} {segment : Bytes} {before now : Outputs} {old firsts : List ℕ} {c : State} {streams : Streams}
+    {totals : Totals} {k : ℕ} (inv : Running edition segment before now old firsts c streams totals k) → k ≤ length segment / packet_length
     → (n : ℕ) → n ≡ nulls_in (drop k (packets segment))
-    → (k + n ≤ length segment / packet_length) × Running edition segment before now old firsts c numbers (more_nulls n totals) (k + n)
-passes_nulls {edition} {segment} {before} {now} {old} {firsts} {c} {numbers} {totals} {k} inv h n same =
+    → (k + n ≤ length segment / packet_length) × Running edition segment before now old firsts c streams (more_nulls n totals) (k + n)
+passes_nulls {edition} {segment} {before} {now} {old} {firsts} {c} {streams} {totals} {k} inv h n same =
     let st = inv.state in
     let p =
     nulls_pass (edition_says edition) (rooms_of before) segment st inv.stands.tables.valid.named (drop k (packets segment)) k refl h in
@@ -212,5 +213,5 @@ passes_nulls {edition} {segment} {before} {now} {old} {firsts} {c} {numbers} {to
       within,
       behind inv state.Null n st within
           (subst (λ (x : ℕ). Pass (edition_says edition) segment (rooms_of before) state.Null x k st st) (sym same) p.1)
-          now c numbers inv.stands (more_nulls n totals) (sym (many_nulls n totals)),
+          now c streams inv.stands (more_nulls n totals) (sym (many_nulls n totals)),
     )

@@ -1,5 +1,6 @@
 -- What the packets of a segment in order lead to: the run of the rules over them. Assumes nothing.
-use Rattle.std.specs.Prelude.{ℕ, ◌≡◌, List}
+use Rattle.refusal.specs.Verdict.{NoValue}
+use Rattle.std.specs.Prelude.{ℕ, ◌≡◌, List, Result, Err}
 use Rattle.lists.specs.Lists.{Bytes, zeros}
 use Rattle.refusal.specs.Verdict as verdict
 use Rattle.refusal.specs.declared.Refused.{Refused}
@@ -10,8 +11,6 @@ use Rattle.packet.specs.Header.{packets}
 use Rattle.segment_rules.specs.State.{none_yet}
 use Rattle.segment_rules.specs.Rules.{Rooms}
 use Rattle.segment_rules.specs.Check.{Outputs, Progress, rooms_of, holding_firsts, cleared, start, run}
-use Rattle.tables.specs.declared.state.Outcome.{Outcome}
-use Rattle.tables.specs.declared.state.Outcome.TheVariants as outcome
 use Rattle.tables.specs.Tables.{Refines, tables_kept}
 use Rattle.units.specs.Extraction.{UnitsRepresent}
 use Rattle.extraction.specs.Packets.{fresh_state}
@@ -36,7 +35,7 @@ RunFirsts edition segment rooms old firsts =
     → firsts ≡ holding_firsts g.state.extraction.units old
 
 -- what there is before the first packet, beside a verdict
-abbrev pub fresh_result : Edition → Outcome → RunResult
+abbrev pub fresh_result : Edition → Result NoValue Refused → RunResult
 fresh_result edition outcome = record { state = fresh_state edition; totals = none_yet; outcome = outcome }
 
 -- nothing is kept of the packets: zeros throughout the outputs, which held `before`, and throughout the list of first
@@ -52,4 +51,4 @@ pub record Runs (edition : Edition) (segment : Bytes) (before : Outputs) (old : 
     (after : Outputs) (firsts : List ℕ) : Type 0 where
   pub verdict : RunRefines edition segment before r after
   pub noted : RunFirsts (edition_says edition) segment (rooms_of before) old firsts
-  pub refused : (q : Refused) → r.outcome ≡ outcome.Refused q → Afresh edition before old r after firsts
+  pub refused : (q : Refused) → r.outcome ≡ Err q → Afresh edition before old r after firsts

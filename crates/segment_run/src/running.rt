@@ -1,62 +1,57 @@
 // The packets of a segment in order, those of some runs at once.
 ghost use Rattle.std.specs.Prelude.{◌≡◌, ◌+◌, ◌*◌, ◌<◌, ◌^◌};
 ghost use Rattle.segment_rules.specs.Check.{outputs_of};
+ghost use Rattle.std.specs.Prelude.{Err};
 ghost use Rattle.segment_run.specs.Run.{Runs, fresh_result};
 ghost use Rattle.segment_run.specs.Parts.{state_went};
 
 use crate::going::{Went, go_on};
 use crate::totals::{count_packet, count_went, none_yet};
 use descriptor::Edition;
-use extraction::{State, fresh_state, step};
-use packet::PACKET_LENGTH;
+use extraction::State;
+use packet::{PACKET_LENGTH, Streams};
 use plain::{PAYLOAD_LENGTH, nulls};
+use refusal::Refused;
 use segment_rules::Totals;
-use tables::Outcome;
-use units::{Extraction, clear, note_first};
+use units::{clear, note_first};
 
-// What the packets have said, with the verdict on them; where one was refused, what there was before the first.
-#[derive(Drop)]
+// What the packets have said, with the verdict on them; if one was refused, what there was before the first.
+// Stays: the state and the totals beside the verdict, since `run` promises both on a refusal (`Afresh`).
+#[derive(Clone, Copy)]
 pub struct RunResult {
     pub state: State,
     pub totals: Totals,
-    pub outcome: Outcome,
+    pub outcome: Result<(), Refused>,
 }
 
-// A packet was refused: nothing is kept of those before it.
-fn stopped(edition: Edition, outcome: Outcome) -> RunResult
-    ensures { result ≡ fresh_result edition outcome }
+// Returns the result if a packet was refused: nothing is kept of those before it.
+fn stopped(edition: Edition, refused: Refused) -> RunResult
+    ensures { result ≡ fresh_result edition (Err refused) }
 {
     RunResult {
-        state: fresh_state(edition),
+        state: State::fresh(edition),
         totals: none_yet(),
-        outcome,
+        outcome: Err(refused),
     }
 }
 
-// The state after packets that went on: on the AV1 PID the open PES has so many bytes more.
+// Returns the state after packets that went on: on the AV1 PID the open PES has so many bytes more.
+#[tactic(auto, unfolding(lists::specs::Lists::pick))]
 fn went_on(state: State, went: Went) -> State
     requires { state.extraction.bytes + went.packets * 184 < 2 ^ 64 }
     ensures { result ≡ state_went state went }
 {
-    if !went.av1 {
-        return state;
+    let mut next = state;
+    if went.av1 {
+        next.extraction.bytes += went.packets * PAYLOAD_LENGTH;
     }
-    let tables = state.tables;
-    let extraction = state.extraction;
-    let pes = extraction.pes;
-    State {
-        tables,
-        extraction: Extraction {
-            pes,
-            units: extraction.units,
-            start: extraction.start,
-            bytes: extraction.bytes + went.packets * PAYLOAD_LENGTH,
-        },
-    }
+    next
 }
 
-// The packets in order, and in the outputs what is extracted of them; where one is refused, zeros throughout the four
-// outputs. Bytes behind the last whole packet are none of them.
+// Takes the packets in order, and writes into the outputs what is extracted of them. Bytes behind the last whole packet
+// are none of them. On a refusal there are zeros throughout the four outputs, and state and totals are those before the
+// first packet.
+// Stays: `out`, `lens`, `times` are parameters, since `run` is promised of each (docs/PROMISES.md).
 pub fn run(
     edition: Edition,
     segment: &[u8],
@@ -70,10 +65,11 @@ pub fn run(
         (outputs_of out.new lens.new times.new) firsts.new }
 {
     let count = segment.len() / PACKET_LENGTH;
-    let mut state = fresh_state(edition);
-    let mut records = [0u64; 42];
+    let mut state = State::fresh(edition);
+    let mut records = Streams::fresh();
     let mut totals = none_yet();
     let mut index: usize = 0;
+    // Stays: a `while`, since a step takes one packet or a run of packets, so that no range or iterator counts them.
     while index < count {
         let skipped = nulls(segment, index);
         totals.null += skipped;
@@ -88,24 +84,22 @@ pub fn run(
             index += went.packets;
             continue;
         }
-        let stepped = step(segment, index, state, &mut records, out, lens, times);
-        let outcome = stepped.outcome;
-        let Outcome::Passed = outcome else {
-            clear(out, lens, times, firsts);
-            return stopped(edition, outcome);
-        };
-        let kind = stepped.kind;
-        let next = stepped.state;
         let before = state.extraction;
-        let after = next.extraction;
-        note_first(before, after, firsts);
-        state = next;
-        totals = count_packet(kind, totals);
-        index += 1;
+        match state.step(segment, index, &mut records, out, lens, times) {
+            Err(refused) => {
+                clear(out, lens, times, firsts);
+                return stopped(edition, refused);
+            }
+            Ok(kind) => {
+                note_first(before, state.extraction, firsts);
+                totals = count_packet(kind, totals);
+                index += 1;
+            }
+        }
     }
     RunResult {
         state,
         totals,
-        outcome: Outcome::Passed,
+        outcome: Ok(()),
     }
 }

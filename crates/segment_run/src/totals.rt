@@ -8,7 +8,7 @@ use crate::going::Went;
 use segment_rules::Totals;
 use tables::Kind;
 
-// No packet yet.
+// Returns the totals before the first packet.
 pub(crate) fn none_yet() -> Totals
     ensures { result ≡ none_yet }
 {
@@ -21,7 +21,8 @@ pub(crate) fn none_yet() -> Totals
     }
 }
 
-// One more packet of this kind.
+// Returns the totals with one more packet of this kind.
+#[tactic(auto, unfolding(segment_rules::specs::State::counting))]
 pub(crate) fn count_packet(kind: Kind, totals: Totals) -> Totals
     requires { CountsUpTo 1 totals }
     ensures { result ≡ counting (kind_says kind) totals }
@@ -38,7 +39,8 @@ pub(crate) fn count_packet(kind: Kind, totals: Totals) -> Totals
     next
 }
 
-// The packets that went on.
+// Returns the totals with the packets that went on.
+#[tactic(auto, unfolding(lists::specs::Lists::pick))]
 pub(crate) fn count_went(went: Went, totals: Totals) -> Totals
     requires { CountsUpTo went.packets totals }
     ensures { result ≡ totals_went totals went }

@@ -1,6 +1,6 @@
 -- Units that stand back to back, one after the other by their lengths: the OBUs of this one, then those of the units to come, are the OBUs
 -- of the units from here on. Assumes nothing.
-use Prim.Native.Nat.{ℕ, suc, ◌+◌, ◌*◌, ◌≤◌, ◌<◌}
+use Prim.Native.Nat.{ℕ, ◌+◌, ◌*◌, ◌≤◌}
 use mathlib.Core.Bool.{false}
 use mathlib.Core.Path.{◌≡◌, sym, ap, ap₂, subst, ◌∙◌}
 use mathlib.Core.List.{List, [], ◌∷◌, ◌++◌}
@@ -8,8 +8,8 @@ use native.Mathlib.Omega.{arith}
 use native.Mathlib.Numerals.{add-one}
 use borrow.Author.Tests.{le-ltb}
 use lib.Dec.{ltb}
-use lib.ListN.{length, take, drop, get_or, length-append, length-take, length-drop, drop_of_length-le}
-use lib.Seq.{drop-drop, drop-cons, get_or-take, length-take-le}
+use lib.ListN.{length, take, drop, length-append, length-take, length-drop}
+use lib.Seq.{drop-drop}
 use Rattle.lists.specs.Lists.{Bytes, placed}
 use Rattle.sheet.specs.declared.rows.ObuRow.{ObuRow}
 use Rattle.sheet.specs.Sheet.{obu_numbers}
@@ -17,17 +17,6 @@ use Rattle.segment_sheet.specs.Parts.{cuts, Readable, CutsRight, obus_in, obus_f
 use Rattle.segment_sheet.proofs.Filling.{Filling, filling_start, filling_as, filling_next, filling_room, filling_done, filling_long}
 use Rattle.segment_sheet.proofs.Filling.{filling_place, row_none, row_append}
 use Rattle.segment_sheet.proofs.Walking.{obu_bytes, obus_long}
-
--- the length of the next unit
-pub next_length : (lens : List ℕ) (count i : ℕ) → i < count → count ≤ length lens
-    → drop i (take count lens) ≡ get_or lens i 0 ∷ drop (i + 1) (take count lens)
-next_length lens count i h k =
-    rw add-one
-    (drop-cons (take count lens) i 0 (omega (arith, length-take-le count lens k))
-    ∙ ap (λ (n : ℕ). n ∷ drop (suc i) (take count lens)) (get_or-take count lens i 0 h))
-
-pub no_length : (lens : List ℕ) (count i : ℕ) → count ≤ i → drop i (take count lens) ≡ []
-no_length lens count i h = drop_of_length-le (take count lens) {i = i} (omega (arith, length-take count lens))
 
 -- the OBUs of the units from here on
 abbrev pub obus_to_come : List ℕ → Bytes → ℕ → ℕ → List ObuRow
@@ -72,9 +61,6 @@ pub record Totalling (ns : List ℕ) (bytes : Bytes) (total from i : ℕ) : Type
   pub cutting : Cutting ns bytes i from
   pub few : total ≤ from
   pub sum : total + length (obus_to_come ns bytes i from) ≡ length (obus_from 0 (cuts ns bytes))
-
-pub totalling_start : (ns : List ℕ) (bytes : Bytes) → CutsRight ns bytes → Totalling ns bytes 0 0 0
-totalling_start ns bytes h = record { cutting = cutting_start ns bytes h; few = omega arith; sum = omega arith }
 
 module _ {ns : List ℕ} {bytes : Bytes} {total from i : ℕ} (t : Totalling ns bytes total from i) where
   pub totalling_next : (n : ℕ) → drop i ns ≡ n ∷ drop (i + 1) ns → (k : ℕ) → k ≡ length (obus_in i (take n (drop from bytes)))

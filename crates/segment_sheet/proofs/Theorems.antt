@@ -1,10 +1,10 @@
 -- The statements of specs/Theorems.antt. No condition of 45 holds of the content of an accepted segment, so that the sheet's own theorems
 -- say that it is read back; the units stand back to back in the check's output; and each place of an OBU cuts out its payload. Assumes
 -- nothing.
+use Rattle.std.specs.Prelude.{Option, Some, None}
 use Prim.Native.Nat.{ℕ, zero, suc, ◌+◌, ◌≤◌, ◌<◌}
 use mathlib.Core.Bool.{Bool, true, false}
 use mathlib.Core.Path.{◌≡◌, refl, sym, ap, ap₂, subst, ◌∙◌}
-use mathlib.Core.Option.{Option, none, some}
 use mathlib.Core.List.{List, [], ◌∷◌, ◌++◌, map, flatten, append-nil, append_assoc, map-append}
 use native.Mathlib.Omega.{arith}
 use borrow.Author.Tests.{eq-eqb, ne_eqb}
@@ -48,16 +48,16 @@ row_numbered [] n = refl
 row_numbered (u ∷ units) zero = refl
 row_numbered (u ∷ units) (suc n) = row_numbered units n
 
-some_none : {A P : Type 0} {a : A} → ◌≡◌ {A = Option A} (some a) none → P
+some_none : {A P : Type 0} {a : A} → ◌≡◌ {A = Option A} (Some a) None → P
 some_none e = let z : ◌≡◌ {A = ℕ} 0 1 = cc in absurd (omega arith)
 
-from_count : (units : List AccessUnit) (n : ℕ) → numbered units n ≡ none → length units ≤ n
+from_count : (units : List AccessUnit) (n : ℕ) → numbered units n ≡ None → length units ≤ n
 unfolding numbered
 from_count [] n e = omega arith
 from_count (u ∷ units) zero e = some_none e
 from_count (u ∷ units) (suc n) e = omega (arith, from_count units n e)
 
-none_from : (units : List AccessUnit) (n : ℕ) → length units ≤ n → numbered units n ≡ none
+none_from : (units : List AccessUnit) (n : ℕ) → length units ≤ n → numbered units n ≡ None
 unfolding numbered
 none_from [] n h = refl
 none_from (u ∷ units) zero h = absurd (omega arith)
@@ -72,10 +72,10 @@ found_is_extracted n rooms s a o e number =
     )
 
 -- ---- its bytes
-some_same : (u v : AccessUnit) → ◌≡◌ {A = Option AccessUnit} (some u) (some v) → u ≡ v
+some_same : (u v : AccessUnit) → ◌≡◌ {A = Option AccessUnit} (Some u) (Some v) → u ≡ v
 some_same u v e = cc
 
-bytes_at : (units : List AccessUnit) (n : ℕ) (u : AccessUnit) (r : Bytes) → numbered units n ≡ some u
+bytes_at : (units : List AccessUnit) (n : ℕ) (u : AccessUnit) (r : Bytes) → numbered units n ≡ Some u
     → take (length u.carried) (drop (sum (lengths (take n units))) (carried_units units ++ r)) ≡ u.carried
 unfolding numbered sum flatten
 bytes_at [] n u r e = some_none (sym e)
@@ -145,7 +145,7 @@ none_below n k (u ∷ units) h =
     ∙ ap₂ (λ (x y : List ObuRow). x ++ y) (foreign n k 0 (payloads u.carried) (λ z. omega (arith, h, z)))
     (none_below n (suc k) units (omega arith))
 
-unit_obus : (k n : ℕ) (units : List AccessUnit) (u : AccessUnit) → numbered units n ≡ some u
+unit_obus : (k n : ℕ) (units : List AccessUnit) (u : AccessUnit) → numbered units n ≡ Some u
     → of_unit (k + n) (map obu_of (places_of k units)) ≡ map obu_of (places_in (k + n) u.carried)
 unfolding numbered places_of
 unit_obus k n [] u e = some_none (sym e)
@@ -167,7 +167,7 @@ unit_obus k (suc n) (v ∷ units) u e =
     ∙ ap (λ (m : ℕ). map obu_of (places_in m u.carried)) (sym z)
 
 -- what is known of the unit with a number
-cut_numbered : (k n : ℕ) (units : List AccessUnit) (u : AccessUnit) → numbered units n ≡ some u → PlacesRight k units
+cut_numbered : (k n : ℕ) (units : List AccessUnit) (u : AccessUnit) → numbered units n ≡ Some u → PlacesRight k units
     → map (cut_out u.carried) (places_in (k + n) u.carried) ≡ payloads u.carried
 unfolding numbered
 cut_numbered k n [] u e h = some_none (sym e)

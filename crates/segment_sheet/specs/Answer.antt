@@ -1,16 +1,9 @@
 -- What the answer of the code says, and what writing leaves. Assumes nothing.
 use Rattle.std.specs.Prelude.{ℕ, ◌≡◌, length}
 use Rattle.lists.specs.Lists.{Bytes}
-use Rattle.refusal.specs.Verdict.{Verdict, passed}
-use Rattle.refusal.specs.Number.{refused_by}
+use Rattle.refusal.specs.Verdict.{Verdict}
 use Rattle.segment_rules.specs.Check.{Outputs, rooms_of, outputs_after, check_in}
 use Rattle.segment_sheet.specs.Content.{sheet_writing, sheet_after}
-use Rattle.segment_sheet.specs.declared.writing.Written.{Written}
-use Rattle.segment_sheet.specs.declared.writing.Written.TheVariants as written
-
-abbrev pub written_says : Written → Verdict ℕ
-written_says (written.Length n) = passed n
-written_says (written.Refused r) = refused_by r
 
 -- writing the sheet of a segment in the edition of this number: the verdict, the check's three outputs whatever the
 -- sheet's room is, and the sheet

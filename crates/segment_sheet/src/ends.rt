@@ -4,7 +4,7 @@ ghost use Rattle.refusal.specs.Verdict.{passed};
 ghost use Rattle.tsobu.specs.StartCodes.{split, code_from};
 ghost use Rattle.tsobu.specs.TsObu.{tsobu_refusal};
 
-use obu::{Judged, Size, read_header};
+use obu::read_header;
 use tsobu::find;
 
 // Where the payload from a place on ends, one that reading accepts. Its OBU has as many bytes as its header says, and
@@ -15,14 +15,11 @@ pub(crate) fn end_of(unit: &[u8], start: usize) -> usize
         × (tsobu_refusal (split (drop start unit.now)).before ≡ passed tt) }
     ensures { result ≡ code_from unit.now start }
 {
-    let read = read_header(&unit[start..]);
-    let Judged::Passed(header) = read else {
+    let Ok(header) = read_header(&unit[start..]) else {
         return find(unit, start);
     };
-    let content = header.content;
-    let size = header.size;
-    match size {
-        Size::Absent => find(unit, start),
-        Size::Present { value, width: _ } => find(unit, start + content + value as usize),
+    match header.size {
+        Some(leb) => find(unit, start + header.content + leb.value as usize),
+        None => find(unit, start),
     }
 }

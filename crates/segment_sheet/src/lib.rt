@@ -7,4 +7,4 @@ mod obus;
 mod sections;
 mod writing;
 
-pub use writing::{Written, write};
+pub use writing::write;

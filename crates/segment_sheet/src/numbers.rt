@@ -5,25 +5,15 @@ ghost use Rattle.sheet.specs.Sheet.{big_endian, in_bytes};
 
 use lists::copy;
 
-// A number from a place on.
+// Writes a number into `sheet` from `at` on.
 pub(crate) fn put_number(n: u64, sheet: &mut [u8], at: usize)
     requires { at + 8 ≤ length sheet.old }
     ensures { sheet.new ≡ placed sheet.old at (big_endian 8 n) }
 {
-    let bytes = [
-        (n / 72057594037927936 % 256) as u8,
-        (n / 281474976710656 % 256) as u8,
-        (n / 1099511627776 % 256) as u8,
-        (n / 4294967296 % 256) as u8,
-        (n / 16777216 % 256) as u8,
-        (n / 65536 % 256) as u8,
-        (n / 256 % 256) as u8,
-        (n % 256) as u8,
-    ];
-    copy(&bytes, &mut sheet[at..]);
+    copy(&n.to_be_bytes(), &mut sheet[at..]);
 }
 
-// Two numbers.
+// Writes two numbers into `sheet` from `at` on.
 pub(crate) fn put_two(a: u64, b: u64, sheet: &mut [u8], at: usize)
     requires { at + 16 ≤ length sheet.old }
     ensures { sheet.new ≡ placed sheet.old at (in_bytes (a ∷ b ∷ [])) }
@@ -32,7 +22,7 @@ pub(crate) fn put_two(a: u64, b: u64, sheet: &mut [u8], at: usize)
     put_number(b, sheet, at + 8);
 }
 
-// Four numbers.
+// Writes four numbers into `sheet` from `at` on.
 pub(crate) fn put_four(a: u64, b: u64, c: u64, d: u64, sheet: &mut [u8], at: usize)
     requires { at + 32 ≤ length sheet.old }
     ensures { sheet.new ≡ placed sheet.old at (in_bytes (a ∷ b ∷ c ∷ d ∷ [])) }

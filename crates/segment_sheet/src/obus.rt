@@ -8,17 +8,19 @@ use crate::ends::end_of;
 use crate::numbers::put_four;
 use lists::{byte_at, part};
 
+// Stays: `bytes`, `lens` and `count` are what the check handed out, which `content_in` (specs/Parts.antt) names apart.
+
 // The bytes of the rows of the most OBUs that a unit has.
 const MOST_ROWS: usize = 64 * 32;
 
-// The type in the first byte of an OBU.
+// Returns the type in the first byte of an OBU.
 fn type_of(first: u8) -> u64
     ensures { result ≡ type_bits first }
 {
     (first / 8 % 16) as u64
 }
 
-// How many OBUs a unit has.
+// Returns how many OBUs a unit has.
 fn obus_of(unit: &[u8]) -> usize
     requires { Readable unit.now }
     ensures { ((index : ℕ) → result ≡ length (obus_in index unit.now))
@@ -26,6 +28,7 @@ fn obus_of(unit: &[u8]) -> usize
 {
     let mut count: usize = 0;
     let mut code: usize = 0;
+    // Stays: `end_of` goes by the size that the OBU says; `tsobu::Payloads` would search each payload for its end.
     while code < unit.len() {
         count += 1;
         code = end_of(unit, code + 3);
@@ -33,25 +36,23 @@ fn obus_of(unit: &[u8]) -> usize
     count
 }
 
-// How many OBUs so many units of these lengths have.
+// Returns how many OBUs `count` units of these lengths have.
 fn count_obus(bytes: &[u8], lens: &[usize], count: usize) -> usize
     requires { (count ≤ length lens.now) × CutsRight (take count lens.now) bytes.now }
     ensures { result ≡ length (obus_of count lens.now bytes.now) }
 {
     let mut total: usize = 0;
     let mut at: usize = 0;
-    let mut i: usize = 0;
-    while i < count {
-        let unit = part(bytes, at, lens[i]);
+    for len in &lens[..count] {
+        let unit = part(bytes, at, *len);
         total += obus_of(unit);
-        at += lens[i];
-        i += 1;
+        at += *len;
     }
     total
 }
 
-// The OBUs of so many units of these lengths do not fit into so much room from a place on. They are counted only where
-// there is no room for the most.
+// Returns true if the OBUs of `count` units of these lengths do not fit into `room` bytes from `at` on. They are
+// counted only if there is no room for the most.
 pub(crate) fn short_of(bytes: &[u8], lens: &[usize], count: usize, at: usize, room: usize) -> bool
     requires { (count ≤ length lens.now) × CutsRight (take count lens.now) bytes.now
         × (length (obus_of count lens.now bytes.now) ≤ 64 * count) × (count ≤ 1024) × (at ≤ 65536) }
@@ -63,7 +64,7 @@ pub(crate) fn short_of(bytes: &[u8], lens: &[usize], count: usize, at: usize, ro
     room < at + 32 * count_obus(bytes, lens, count)
 }
 
-// The OBUs of the unit with this index, from a place on; answers the place behind them.
+// Writes the OBUs of the unit with this index into `sheet` from `at` on. Returns the place behind them.
 fn put_obus_of(index: u64, unit: &[u8], sheet: &mut [u8], at: usize) -> usize
     requires { Readable unit.now
         × (at + 32 * length (obus_in index unit.now) ≤ length sheet.old) }
@@ -73,6 +74,7 @@ fn put_obus_of(index: u64, unit: &[u8], sheet: &mut [u8], at: usize) -> usize
 {
     let mut to = at;
     let mut code: usize = 0;
+    // Stays: as in `obus_of`; here each row has the place of its payload, too.
     while code < unit.len() {
         let start = code + 3;
         let end = end_of(unit, start);
@@ -92,7 +94,7 @@ fn put_obus_of(index: u64, unit: &[u8], sheet: &mut [u8], at: usize) -> usize
     to
 }
 
-// The OBUs of so many units of these lengths, from a place on; answers the place behind them.
+// Writes the OBUs of `count` units of these lengths into `sheet` from `at` on. Returns the place behind them.
 pub(crate) fn put_obus(
     bytes: &[u8],
     lens: &[usize],
@@ -108,12 +110,10 @@ pub(crate) fn put_obus(
 {
     let mut to = at;
     let mut from: usize = 0;
-    let mut i: usize = 0;
-    while i < count {
-        let unit = part(bytes, from, lens[i]);
+    for (i, len) in lens[..count].iter().enumerate() {
+        let unit = part(bytes, from, *len);
         to = put_obus_of(i as u64, unit, sheet, to);
-        from += lens[i];
-        i += 1;
+        from += *len;
     }
     to
 }

@@ -6,25 +6,23 @@ ghost use Rattle.sheet.specs.Reading.{rows};
 ghost use Rattle.segment_sheet.specs.Parts.{stream_at, unit_at};
 
 use crate::numbers::{put_four, put_two};
-use pmt::Entry;
+use pmt::ProgramMap;
 
-// The streams in so many slots, from a place on.
-pub(crate) fn put_streams(entries: [Entry; 12], count: usize, sheet: &mut [u8], at: usize)
-    requires { (count ≤ 12) × (at + 16 * count ≤ length sheet.old) }
+// Writes the streams of the map into `sheet` from `at` on.
+pub(crate) fn put_streams(map: ProgramMap, sheet: &mut [u8], at: usize)
+    requires { (map.count ≤ 12) × (at + 16 * map.count ≤ length sheet.old) }
     ensures { sheet.new
-        ≡ placed sheet.old at (in_bytes (numbers_of stream_numbers (rows (stream_at entries) 1 count 0))) }
+        ≡ placed sheet.old at (in_bytes (numbers_of stream_numbers
+        (rows (stream_at map.entries) 1 map.count 0))) }
 {
     let mut to = at;
-    let mut i: usize = 0;
-    while i < count {
-        let entry = entries[i];
+    for entry in &map.entries[..map.count] {
         put_two(entry.pid as u64, entry.stream_type as u64, sheet, to);
         to += 16;
-        i += 1;
     }
 }
 
-// So many units, from a place on.
+// Writes `count` units into `sheet` from `at` on.
 pub(crate) fn put_units(
     firsts: &[usize],
     lens: &[usize],
@@ -40,8 +38,7 @@ pub(crate) fn put_units(
         (rows (unit_at firsts.now lens.now times.now) 1 count 0))) }
 {
     let mut to = at;
-    let mut i: usize = 0;
-    while i < count {
+    for i in 0..count {
         put_four(
             firsts[i] as u64,
             lens[i] as u64,
@@ -51,6 +48,5 @@ pub(crate) fn put_units(
             to,
         );
         to += 32;
-        i += 1;
     }
 }

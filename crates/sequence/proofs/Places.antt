@@ -1,22 +1,27 @@
 -- The next byte that a payload gives, the 03 of a 00 00 03 being passed over, and the next bit, from its byte. Assumes nothing.
 use Prim.Native.Nat.{ℕ, zero, suc, ◌+◌, ◌-◌, ◌/◌, ◌%◌, ◌^◌, ◌≤◌, ◌<◌}
-use mathlib.Core.Bool.{Bool, true, false}
+use mathlib.Core.Bool.{Bool, true, false, ◌&&◌}
 use mathlib.Core.Path.{◌≡◌, refl, sym, ap, ap₂, ◌∙◌}
 use mathlib.Core.List.{List, [], ◌∷◌, ◌++◌}
 use native.Mathlib.Omega.{arith}
 use native.Mathlib.Numerals.{add-one}
+use native.Mathlib.Nat.{mod-lt}
 use lib.ListN.{length, take, drop, get_or, drop_of_length-le, length-drop}
-use lib.Seq.{drop-nil}
+use borrow.Author.Tests.{eq-eqb, ne_eqb, eqb-true, eqb-false}
+use lib.Dec.{eqb}
+use lib.Seq.{drop-nil, drop-drop}
+use Rattle.std.proofs.lemmas.List.{take_all}
+use Rattle.std.specs.List.{starts_with}
 use Rattle.lists.specs.Lists.{Bytes, pick}
 use Rattle.lists.proofs.Tests.{case, clash}
 use Rattle.lists.proofs.Parts.{next}
 use Rattle.emulation.specs.Payload.{unescape}
 use Rattle.emulation.specs.Parts.{marked}
-use Rattle.emulation.proofs.Steps.{marked_is, marked_at, marked_long, marked_fits, unescape_at_marked, unescape_at_plain}
+use Rattle.emulation.proofs.Steps.{marked_is, marked_at, marked_fits, unescape_at_marked, unescape_at_plain}
 use Rattle.sequence.specs.Bits.{bits_of, read, cut_short, f, f_from}
 use Rattle.sequence.specs.Parts.{given, Follows, Starts, left, said, size, Reads, Falls}
-use Rattle.sequence.specs.declared.cursor.Place.{Place}
-use Rattle.sequence.specs.declared.cursor.Cursor.{Cursor}
+use Rattle.sequence.specs.declared.place.Place.{Place}
+use Rattle.sequence.specs.declared.reader.BitReader.{BitReader}
 use Rattle.sequence.proofs.Steps.{said_read}
 
 -- ---- the bits of a byte
@@ -62,11 +67,37 @@ module _ (payload : Bytes) (p : Place) where
   pair_opens h e =
       paired_is e ∙ ap (λ (l : Bytes). take 1 l ++ unescape (drop (p.byte + 2) payload)) (next payload p.byte h)
 
--- ---- from one place to the next
-pub marked_short : (s : Bytes) (i : ℕ) → length s - i < 3 → marked (drop i s) ≡ false
-marked_short s i h =
-    case (marked (drop i s)) (λ e. absurd (omega (arith, marked_long (drop i s) e, length-drop i s))) (λ e. e)
+-- ---- 00 00 03, as `starts_with` tests it
+neither : (x : Bool) → x && false ≡ false
+neither true = refl
+neither false = refl
 
+regrouped : (x y z : Bool) → x && (y && (z && true)) ≡ x && y && z
+regrouped true true true = refl
+regrouped true true false = refl
+regrouped true false z = refl
+regrouped false y z = refl
+
+turned : (a b : ℕ) → eqb a b ≡ eqb b a
+turned a b = case (eqb b a)
+    (λ e. let same : a ≡ b = sym (eqb-true b a e) in eq-eqb a b same ∙ sym e)
+    (λ e. ne_eqb a b (λ k. eqb-false b a e (sym k)) ∙ sym e)
+
+three_marked : (s : Bytes) → starts_with eqb s (0 ∷ 0 ∷ 3 ∷ []) ≡ marked s
+unfolding marked
+three_marked [] = refl
+three_marked (a ∷ []) = neither (eqb 0 a)
+three_marked (a ∷ b ∷ []) = ap (λ (x : Bool). eqb 0 a && x) (neither (eqb 0 b)) ∙ neither (eqb 0 a)
+three_marked (a ∷ b ∷ c ∷ s) =
+    regrouped (eqb 0 a) (eqb 0 b) (eqb 3 c)
+    ∙ ap₂ (λ (x y : Bool). x && y) (ap₂ (λ (x y : Bool). x && y) (turned 0 a) (turned 0 b)) (turned 3 c)
+
+pub starts_marked : (s : Bytes) (i : ℕ) → starts_with eqb (take (length s - i) (drop i s)) (0 ∷ 0 ∷ 3 ∷ []) ≡ marked (drop i s)
+starts_marked s i =
+    let all : take (length s - i) (drop i s) ≡ drop i s = take_all (length s - i) (drop i s) (omega (arith, length-drop i s)) in
+    ap (λ (l : Bytes). starts_with eqb l (0 ∷ 0 ∷ 3 ∷ [])) all ∙ three_marked (drop i s)
+
+-- ---- from one place to the next
 module _ (payload : Bytes) (p : Place) (h : p.byte < length payload) where
   -- behind a pair the 03 is passed over
   pub pair_ends : p.paired ≡ true → Follows payload p (record { byte = p.byte + 2; paired = false })
@@ -95,76 +126,70 @@ module _ (payload : Bytes) (p : Place) (h : p.byte < length payload) where
   pub some_place : (q : Place) × Follows payload p q
   some_place = case p.paired (λ e. (_, pair_ends e)) (λ e. (_, goes_on (marked (drop p.byte payload)) refl e))
 
--- ---- the way to the OBU's byte `at`: `left` bytes are to be passed from a place on
-pub record Going (payload : Bytes) (at : ℕ) (p : Place) (left : ℕ) : Type 0 where
-  pub same : drop left (given payload p) ≡ drop at (unescape payload)
+-- ---- the way to the OBU's byte `at`
+pub at_start : (payload : Bytes) → given payload (record { byte = 0; paired = false }) ≡ unescape payload
+at_start payload = single_is payload (record { byte = 0; paired = false }) refl
 
-pub going_start : (payload : Bytes) (at : ℕ) → Going payload at (record { byte = 0; paired = false }) at
-going_start payload at = record { same = ap (drop at) (single_is payload (record { byte = 0; paired = false }) refl) }
-
-abbrev pub front_of : Place → Cursor
-front_of p = record { place = p; bit = 0; cut = false }
-
-module _ {payload : Bytes} {at : ℕ} {p : Place} {k : ℕ} (g : Going payload at p k) where
-  pub going_next : {q : Place} → 0 < k → Follows payload p q → Going payload at q (k - 1)
-  going_next {q} h f =
-      let more : k ≡ suc (k - 1) = omega arith in
-      record {
-        same =
-            sym (ap₂ (λ (n : ℕ) (l : Bytes). drop n l) more f) ∙ g.same;
-      }
-
-  starts : given payload p ≡ drop at (unescape payload) → Starts payload at (front_of p)
-  unfolding left
-  starts e = record { inside = omega arith; uncut = refl; behind = ap bits_of e }
-
-  pub going_end : k ≤ 0 → Starts payload at (front_of p)
-  going_end h = let none : k ≡ 0 = omega arith in starts (sym (ap (λ (n : ℕ). drop n (given payload p)) none) ∙ g.same)
+module _ (payload : Bytes) (p : Place) (i : ℕ) (h : given payload p ≡ drop i (unescape payload)) where
+  pub one_passed : (q : Place) → Follows payload p q → given payload q ≡ drop (i + 1) (unescape payload)
+  one_passed q f = ap (drop 1) (sym f ∙ h) ∙ drop-drop 1 i (unescape payload)
 
   -- the payload ends before
-  pub going_past : length payload ≤ p.byte → Starts payload at (front_of p)
-  going_past h =
-      let none = none_given payload p h in
-      starts (none ∙ sym (drop-nil k) ∙ sym (ap (drop k) none) ∙ g.same)
+  pub all_passed : (at : ℕ) → length payload ≤ p.byte → i ≤ at → given payload p ≡ drop at (unescape payload)
+  all_passed at e less =
+      let none = none_given payload p e in
+      let there : i + (at - i) ≡ at = omega arith in
+      none
+      ∙ sym (drop-nil (at - i))
+      ∙ ap (drop (at - i)) (sym none ∙ h)
+      ∙ drop-drop (at - i) i (unescape payload)
+      ∙ ap (λ (n : ℕ). drop n (unescape payload)) there
+
+pub starts : (r : BitReader) (at : ℕ) → given r.payload.now r.place ≡ drop at (unescape r.payload.now) → r.bit ≡ 0 → r.cut ≡ false
+    → Starts r.payload.now at r
+unfolding left
+starts r at e z u = record { uncut = u; behind = rw (z, e) }
+
+-- what proves the steps from place to place
+pub ruleset place_steps = (pair_ends, goes_on, at_start, one_passed, all_passed)
 
 -- ---- the bits that are left
--- the bit at a cursor, and the cursor behind it
-abbrev pub bit_at : Bytes → Cursor → ℕ
-bit_at payload c = get_or payload c.place.byte 0 / 2 ^ (7 - c.bit) % 2
+-- the bit that is next
+abbrev pub bit_at : BitReader → ℕ
+bit_at r = get_or r.payload.now r.place.byte 0 / 2 ^ (7 - r.bit) % 2
 
-abbrev pub in_byte : Cursor → Cursor
-in_byte c = record { place = c.place; bit = c.bit + 1; cut = false }
+none_left : (r : BitReader) → length r.payload.now ≤ r.place.byte → left r ≡ []
+unfolding left
+none_left r h = ap (λ (s : Bytes). drop r.bit (bits_of s)) (none_given r.payload.now r.place h) ∙ none_of r.bit
 
-module _ (payload : Bytes) (c : Cursor) where
-  pub none_left : length payload ≤ c.place.byte → left payload c ≡ []
+module _ (r s : BitReader) (same : s.payload.now ≡ r.payload.now) where
+  module _ (q : Place) (f : Follows r.payload.now r.place q) where
+    opened : left r ≡ drop r.bit (bits_of (get_or r.payload.now r.place.byte 0 ∷ given r.payload.now q))
+    unfolding left
+    opened = ap (λ (s : Bytes). drop r.bit (bits_of s)) f
+
+    within : r.bit < 7 → s.place ≡ r.place → s.bit ≡ r.bit + 1 → left r ≡ bit_at r ∷ left s
+    unfolding left
+    within b e k =
+        opened
+        ∙ bit_of (get_or r.payload.now r.place.byte 0) (given r.payload.now q) r.bit b
+        ∙ ap (λ (l : List ℕ). bit_at r ∷ l)
+        (ap (λ (n : ℕ). drop n (bits_of (get_or r.payload.now r.place.byte 0 ∷ given r.payload.now q))) (sym (k ∙ add-one r.bit))
+        ∙ ap (λ (l : Bytes). drop s.bit (bits_of l)) (sym f)
+        ∙ ap₂ (λ (l : Bytes) (p : Place). drop s.bit (bits_of (given l p))) (sym same) (sym e))
+
+  pub in_byte_lem : r.place.byte < length r.payload.now → r.bit < 7 → s.place ≡ r.place → s.bit ≡ r.bit + 1 → left r ≡ bit_at r ∷ left s
+  in_byte_lem h b e k = let p = some_place r.payload.now r.place h in within p.0 p.1 b e k
+
+  last_of : Follows r.payload.now r.place s.place → r.bit ≡ 7 → s.bit ≡ 0 → left r ≡ bit_at r ∷ left s
   unfolding left
-  none_left h = ap (λ (s : Bytes). drop c.bit (bits_of s)) (none_given payload c.place h) ∙ none_of c.bit
-
-  module _ (q : Place) (f : Follows payload c.place q) where
-    opened : left payload c ≡ drop c.bit (bits_of (get_or payload c.place.byte 0 ∷ given payload q))
-    unfolding left
-    opened = ap (λ (s : Bytes). drop c.bit (bits_of s)) f
-
-    within : c.bit < 7 → left payload c ≡ bit_at payload c ∷ left payload (in_byte c)
-    unfolding left
-    within b =
-        opened
-        ∙ bit_of (get_or payload c.place.byte 0) (given payload q) c.bit b
-        ∙ ap (λ (l : List ℕ). bit_at payload c ∷ l)
-        (ap (λ (n : ℕ). drop n (bits_of (get_or payload c.place.byte 0 ∷ given payload q))) (sym (add-one c.bit))
-        ∙ ap (λ (s : Bytes). drop (c.bit + 1) (bits_of s)) (sym f))
-
-    pub last_of : c.bit ≡ 7 → left payload c ≡ bit_at payload c ∷ left payload (front_of q)
-    unfolding left
-    last_of b =
-        let zeroth : 7 - c.bit ≡ 0 = omega arith in
-        opened
-        ∙ ap (λ (n : ℕ). drop n (bits_of (get_or payload c.place.byte 0 ∷ given payload q))) b
-        ∙ lowest_of (get_or payload c.place.byte 0) (given payload q)
-        ∙ ap (λ (k : ℕ). (get_or payload c.place.byte 0 / 2 ^ k % 2) ∷ bits_of (given payload q)) (sym zeroth)
-
-  pub in_byte_lem : c.place.byte < length payload → c.bit < 7 → left payload c ≡ bit_at payload c ∷ left payload (in_byte c)
-  in_byte_lem h b = let s = some_place payload c.place h in within s.0 s.1 b
+  last_of f b z =
+      let zeroth : 7 - r.bit ≡ 0 = omega arith in
+      opened s.place f
+      ∙ ap (λ (n : ℕ). drop n (bits_of (get_or r.payload.now r.place.byte 0 ∷ given r.payload.now s.place))) b
+      ∙ lowest_of (get_or r.payload.now r.place.byte 0) (given r.payload.now s.place)
+      ∙ ap (λ (k : ℕ). (get_or r.payload.now r.place.byte 0 / 2 ^ k % 2) ∷ bits_of (given r.payload.now s.place)) (sym zeroth)
+      ∙ rw (z, same) refl
 
 -- ---- one bit read
 one : (x : ℕ) (l : List ℕ) → f 1 (x ∷ l) ≡ read x l
@@ -175,52 +200,46 @@ no_bit : f 1 [] ≡ cut_short
 unfolding f_from
 no_bit = refl
 
-module _ (payload : Bytes) (c d : Cursor) where
-  size_end : d.cut ≡ true → size payload d ≡ 0
-  unfolding size pick
-  size_end e = ap (λ (t : Bool). pick t 0 (suc (length (left payload d)))) e
+size_cut : (r : BitReader) → r.cut ≡ true → size r ≡ 0
+unfolding size pick
+size_cut r e = ap (λ (t : Bool). pick t 0 (suc (length (left r)))) e
 
-  size_left : (a : Cursor) → a.cut ≡ false → size payload a ≡ suc (length (left payload a))
-  unfolding size pick
-  size_left a e = ap (λ (t : Bool). pick t 0 (suc (length (left payload a)))) e
+size_left : (r : BitReader) → r.cut ≡ false → size r ≡ suc (length (left r))
+unfolding size pick
+size_left r e = ap (λ (t : Bool). pick t 0 (suc (length (left r)))) e
 
-  falls_to_end : d.cut ≡ true → Falls payload c d
-  falls_to_end e u = omega (arith, size_end e, size_left c u)
+abbrev pub ReadsBit : BitReader → ℕ → BitReader → Type 0
+ReadsBit r b s = Reads r (f 1) b s × (b < 2) × Falls r s
 
-  module _ (ends : d.cut ≡ true) (start : d.bit < 8) where
-    -- the end was passed before
-    pub cut_before : c.cut ≡ true → Reads payload c (f 1) 0 d × (0 < 2) × Falls payload c d
-    cut_before e =
-        (record { inside = λ _. start; stays = λ _. ends; says = λ b u. clash e u }, omega arith, falls_to_end ends)
+-- the end was passed before
+pub cut_before : {r : BitReader} → r.cut ≡ true → ReadsBit r 0 r
+cut_before e = (record { same = refl; stays = λ u. u; says = λ u. clash e u }, omega arith, λ u. clash e u)
 
-    -- no bit is left
-    pub at_end : left payload c ≡ [] → Reads payload c (f 1) 0 d × (0 < 2) × Falls payload c d
-    unfolding said pick
-    at_end e = (
-      record { inside = λ _. start; stays = λ _. ends; says = λ b u. rw ends (sym (ap (f 1) e ∙ no_bit)) },
-      omega arith,
-      falls_to_end ends,
-    )
-
-    -- no cursor of this payload
-    pub no_place : 7 < c.bit → Reads payload c (f 1) 0 d × (0 < 2) × Falls payload c d
-    no_place h =
-        (record { inside = λ _. start; stays = λ _. ends; says = λ b u. absurd (omega arith) }, omega arith, falls_to_end ends)
-
-  falls_by_one : (x : ℕ) → left payload c ≡ x ∷ left payload d → d.cut ≡ false → Falls payload c d
-  falls_by_one x e g u =
-      let n : length (left payload c) ≡ suc (length (left payload d)) = ap length e in
-      omega (arith, size_left c u, size_left d g)
+module _ (r s : BitReader) (same : s.payload.now ≡ r.payload.now) where
+  -- no bit is left
+  pub at_end : length r.payload.now ≤ r.place.byte → s.cut ≡ true → ReadsBit r 0 s
+  unfolding said pick
+  at_end h e = (
+    record { same = same; stays = λ _. e; says = λ u. rw e (sym (ap (f 1) (none_left r h) ∙ no_bit)) },
+    omega arith,
+    λ u. omega (arith, size_cut s e, size_left r u),
+  )
 
   -- one bit is taken
-  pub taken : (x : ℕ) → c.cut ≡ false → d.cut ≡ false → d.bit < 8 → x < 2 → left payload c ≡ x ∷ left payload d
-      → Reads payload c (f 1) x d × (x < 2) × Falls payload c d
-  taken x u g start below e = (
-    record {
-      inside = λ _. start;
-      stays = λ t. clash t u;
-      says = λ b v. said_read payload x d g ∙ sym (ap (f 1) e ∙ one x (left payload d));
-    },
-    below,
-    falls_by_one x e g,
-  )
+  module _ (u : r.cut ≡ false) (e : s.cut ≡ false) where
+    taken : left r ≡ bit_at r ∷ left s → ReadsBit r (bit_at r) s
+    taken l = (
+      record {
+        same = same;
+        stays = λ t. clash t u;
+        says = λ _. said_read (bit_at r) s e ∙ sym (ap (f 1) l ∙ one (bit_at r) (left s));
+      },
+      mod-lt _ (omega arith),
+      λ _. omega (arith, size_left r u, size_left s e, ap length l),
+    )
+
+    pub in_byte : r.place.byte < length r.payload.now → r.bit < 7 → s.place ≡ r.place → s.bit ≡ r.bit + 1 → ReadsBit r (bit_at r) s
+    in_byte h b p k = taken (in_byte_lem r s same h b p k)
+
+    pub last_bit : Follows r.payload.now r.place s.place → r.bit ≡ 7 → s.bit ≡ 0 → ReadsBit r (bit_at r) s
+    last_bit h b z = taken (last_of r s same h b z)

@@ -1,19 +1,12 @@
 -- The comparison of a sequence header with a descriptor. `Fields` is the descriptor's (crates/descriptor). The words of
 -- document 02, request 2026-04, stand over each definition. Assumes nothing.
-use Rattle.std.specs.Prelude.{ℕ, suc, true, false, List, [], ◌∷◌, eqb}
+use Rattle.std.specs.Prelude.{ℕ, suc, true, false, Option, Some, None, List, [], ◌∷◌, eqb}
 use Rattle.lists.specs.Lists.{Bytes}
 use Rattle.refusal.specs.Verdict.{Verdict, passed, refused, ◌>>=◌}
-use Rattle.refusal.specs.Number.{refused_by}
 use Rattle.descriptor.specs.declared.fields.Fields.{Fields}
 use Rattle.sequence.specs.Bits.{Outcome, read, cut_short}
 use Rattle.sequence.specs.Header.{header_of}
 use Rattle.sequence.specs.declared.fields.Sequence.{Sequence}
-use Rattle.sequence.specs.declared.header.SequenceRead.{SequenceRead}
-use Rattle.sequence.specs.declared.header.SequenceRead.TheVariants as sequence_read
-use Rattle.sequence.specs.declared.comparing.Difference.{Difference}
-use Rattle.sequence.specs.declared.comparing.Difference.TheVariants as difference
-use Rattle.sequence.specs.declared.comparing.Compared.{Compared}
-use Rattle.sequence.specs.declared.comparing.Compared.TheVariants as compared
 
 -- "the nine fields from seq_profile to chroma_sample_position", of a header and of a descriptor
 unfoldable pub of_header : Sequence → List ℕ
@@ -28,13 +21,13 @@ of_descriptor d =
 
 -- "its first differing field in descriptor order, or none": its index, seq_profile's being 0; of these fields, of which
 -- the first has this index
-unfoldable pub first_differing : ℕ → List ℕ → List ℕ → Difference
-first_differing index [] t = difference.None
-first_differing index (a ∷ s) [] = difference.None
+unfoldable pub first_differing : ℕ → List ℕ → List ℕ → Option ℕ
+first_differing index [] t = None
+first_differing index (a ∷ s) [] = None
 first_differing index (a ∷ s) (b ∷ t) =
-    elim (eqb a b) [ true ↦ first_differing (suc index) s t | false ↦ difference.Field index ]
+    elim (eqb a b) [ true ↦ first_differing (suc index) s t | false ↦ Some index ]
 
-abbrev pub differing : Sequence → Fields → Difference
+abbrev pub differing : Sequence → Fields → Option ℕ
 differing h d = first_differing 0 (of_header h) (of_descriptor d)
 
 -- "43 in place of the field where that header is cut short, whatever differs before"
@@ -46,16 +39,7 @@ or_cut_short cut_short = refused 43 0
 unfoldable pub reading : Bytes → Verdict Sequence
 reading content = or_cut_short (header_of content)
 
-unfoldable pub comparing : Bytes → Fields → Verdict Difference
+unfoldable pub comparing : Bytes → Fields → Verdict (Option ℕ)
 comparing content d = do
   h ← reading content
   passed (differing h d)
-
--- ---- what the answers of the code say
-abbrev pub read_says : SequenceRead → Verdict Sequence
-read_says (sequence_read.Fields h) = passed h
-read_says (sequence_read.Refused r) = refused_by r
-
-abbrev pub compared_says : Compared → Verdict Difference
-compared_says (compared.Difference d) = passed d
-compared_says (compared.Refused r) = refused_by r

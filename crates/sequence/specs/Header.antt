@@ -90,7 +90,7 @@ frame_size = do
   skip (width + 1)  -- max_frame_width_minus_1
   skip (height + 1)  -- max_frame_height_minus_1
 
-unfoldable pub id_lengths : Reader NoValue
+abbrev pub id_lengths : Reader NoValue
 id_lengths = do
   skip 4  -- delta_frame_id_length_minus_2
   skip 3  -- additional_frame_id_length_minus_1
@@ -129,7 +129,7 @@ inter_tools = do
   when order_hint (skip 3)  -- order_hint_bits_minus_1
 
 -- ---- color_config (5.5.2); `Color` and `Description` are in src/color.rt
-unfoldable pub described_color : Reader Description
+abbrev pub described_color : Reader Description
 described_color = do
   primaries ← f 8  -- color_primaries
   transfer ← f 8  -- transfer_characteristics
@@ -188,7 +188,7 @@ chroma_format profile twelve_bit monochrome d =
     pick (eqb monochrome 1) grey (pick (is_srgb d) (return (chroma 0 0 0)) (other_color profile twelve_bit))
 
 -- ---- the nine fields
-unfoldable pub nine : ℕ → Point → ℕ → ℕ → ℕ → Color → Sequence
+abbrev pub nine : ℕ → Point → ℕ → ℕ → ℕ → Color → Sequence
 nine profile p high_bitdepth twelve_bit monochrome c =
     record {
       seq_profile = profile;

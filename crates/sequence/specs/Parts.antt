@@ -1,11 +1,11 @@
--- What the code's reads promise of a payload: `Cursor` (src/cursor.rt) is the place that they have come to. Assumes
--- nothing.
+-- What the code's reads promise: `BitReader` (src/reader.rt) holds the payload and the place that it has come to.
+-- Assumes nothing.
 use Rattle.std.specs.Prelude.{ℕ, suc, ◌+◌, ◌<◌, min, true, false, ◌≡◌, List, ◌∷◌, ◌++◌, length, take, drop, get_or}
 use Rattle.lists.specs.Lists.{Bytes, pick}
 use Rattle.emulation.specs.Payload.{unescape}
 use Rattle.sequence.specs.Bits.{Reader, Outcome, read, cut_short, bits_of, zeros_from}
-use Rattle.sequence.specs.declared.cursor.Place.{Place}
-use Rattle.sequence.specs.declared.cursor.Cursor.{Cursor}
+use Rattle.sequence.specs.declared.place.Place.{Place}
+use Rattle.sequence.specs.declared.reader.BitReader.{BitReader}
 
 -- the bytes of the OBU that its payload gives from a place on. A paired place is that of the second 00 of a 00 00 03,
 -- behind which the 03 is dropped.
@@ -20,37 +20,32 @@ given payload p =
 abbrev pub Follows : Bytes → Place → Place → Type 0
 Follows payload p q = given payload p ≡ get_or payload p.byte 0 ∷ given payload q
 
--- the bits that are left from a cursor on: it says the place of the byte and the bit of the byte, the highest being 0
-unfoldable pub left : Bytes → Cursor → List ℕ
-left payload c = drop c.bit (bits_of (given payload c.place))
+-- the bits that are left to a reader
+unfoldable pub left : BitReader → List ℕ
+left r = drop r.bit (bits_of (given r.payload.now r.place))
 
--- what is left are the bits of the OBU behind so many of its bytes
-pub record Starts (payload : Bytes) (at : ℕ) (c : Cursor) : Type 0 where
-  pub inside : c.bit < 8
-  pub uncut : c.cut ≡ false
-  pub behind : left payload c ≡ bits_of (drop at (unescape payload))
+-- what is left are the bits of the payload's OBU behind so many of its bytes
+pub record Starts (payload : Bytes) (at : ℕ) (r : BitReader) : Type 0 where
+  pub uncut : r.cut ≡ false
+  pub behind : left r ≡ bits_of (drop at (unescape payload))
 
--- a value and the cursor behind it; a cursor that is cut has passed the payload's end
-unfoldable pub said : {A : Type 0} → Bytes → A → Cursor → Outcome A
-said payload v c = pick c.cut cut_short (read v (left payload c))
+-- a value and the reader behind it; a reader that is cut has passed the payload's end
+unfoldable pub said : {A : Type 0} → A → BitReader → Outcome A
+said v r = pick r.cut cut_short (read v (left r))
 
--- the cursor that the code answers where the end is passed
-abbrev pub ended : Cursor
-ended = record { place = record { byte = 0; paired = false }; bit = 0; cut = true }
+-- from r on, its payload reads as m: the value is v and the reader behind it s, or s is cut
+pub record Reads {A : Type 0} (r : BitReader) (m : Reader A) (v : A) (s : BitReader) : Type 0 where
+  pub same : s.payload.now ≡ r.payload.now
+  pub stays : r.cut ≡ true → s.cut ≡ true
+  pub says : r.cut ≡ false → said v s ≡ m (left r)
 
--- from c on, the payload reads as m: the value is v and the cursor behind it d, or d is cut
-pub record Reads {A : Type 0} (payload : Bytes) (c : Cursor) (m : Reader A) (v : A) (d : Cursor) : Type 0 where
-  pub inside : c.bit < 8 → d.bit < 8
-  pub stays : c.cut ≡ true → d.cut ≡ true
-  pub says : c.bit < 8 → c.cut ≡ false → said payload v d ≡ m (left payload c)
+-- how much a reader can still read, and that it falls
+unfoldable pub size : BitReader → ℕ
+size r = pick r.cut 0 (suc (length (left r)))
 
--- how much can still be read from a cursor on, and that it falls
-unfoldable pub size : Bytes → Cursor → ℕ
-size payload c = pick c.cut 0 (suc (length (left payload c)))
-
-abbrev pub Falls : Bytes → Cursor → Cursor → Type 0
-Falls payload c d = c.cut ≡ false → size payload d < size payload c
+abbrev pub Falls : BitReader → BitReader → Type 0
+Falls r s = r.cut ≡ false → size s < size r
 
 -- zeros up to a one, counted to 32
-abbrev pub CountsZeros : Bytes → Cursor → ℕ → Cursor → Type 0
-CountsZeros payload c count d = (n : ℕ) × Reads payload c (zeros_from 0) n d × (count ≡ min n 32)
+abbrev pub CountsZeros : BitReader → ℕ → BitReader → Type 0
+CountsZeros r count s = (n : ℕ) × Reads r (zeros_from 0) n s × (count ≡ min n 32)

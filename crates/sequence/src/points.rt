@@ -1,198 +1,156 @@
 // Timing, decoder model and operating points (AV1 5.5.1, 5.5.3 to 5.5.5).
-ghost use Rattle.std.specs.Prelude.{◌≤◌};
 ghost use Rattle.lists.specs.Lists.{pick};
-ghost use Rattle.sequence.specs.Bits.{when, times};
+ghost use Rattle.sequence.specs.Bits.{times};
 ghost use Rattle.sequence.specs.Header.{timing_info, decoder_model_info, timed_model, delay_length};
 ghost use Rattle.sequence.specs.Header.{operating_parameters, decoder_model, display_delay};
 ghost use Rattle.sequence.specs.Header.{operating_point, operating_points, reduced_point};
 ghost use Rattle.sequence.specs.Parts.{Reads};
 
-use crate::cursor::{Cursor, NumberRead, flag, number, number_if, skip, skip_if, uvlc};
+use crate::reader::BitReader;
 
 // seq_level_idx and seq_tier of an operating point.
-#[derive(Drop)]
+#[derive(Clone, Copy)]
 pub(crate) struct Point {
     pub level: u8,
     pub tier: u8,
 }
 
-// An operating point, and the cursor behind it.
-#[derive(Drop)]
-pub(crate) struct PointRead {
-    pub point: Point,
-    pub next: Cursor,
-}
-
-fn timing_info(payload: &[u8], at: Cursor) -> Cursor
-    ensures { Reads payload.now at timing_info tt result }
+// Reads timing_info (5.5.3).
+#[tactic(auto, using(crate::proofs::Steps::reads), unfolding(crate::specs::Header::timing_info))]
+fn timing_info(reader: &mut BitReader)
+    ensures { Reads reader.old timing_info tt reader.new }
 {
-    let first = skip(payload, at, 32);
-    let second = skip(payload, first, 32);
-    let equal = flag(payload, second);
-    let next = equal.next;
-    if equal.set {
-        return uvlc(payload, next);
-    }
-    next
-}
-
-fn decoder_model_info(payload: &[u8], at: Cursor) -> NumberRead
-    ensures reads { Reads payload.now at decoder_model_info result.value result.next }
-    ensures value_bound { result.value ≤ 32 }
-{
-    let length = number(payload, at, 5);
-    let behind = length.next;
-    let first = skip(payload, behind, 32);
-    let second = skip(payload, first, 5);
-    let next = skip(payload, second, 5);
-    NumberRead {
-        value: length.value + 1,
-        next,
+    reader.skip(32); // num_units_in_display_tick
+    reader.skip(32); // time_scale
+    if reader.flag() {
+        reader.uvlc();
     }
 }
 
-fn timed_model(payload: &[u8], at: Cursor) -> NumberRead
-    ensures reads { Reads payload.now at timed_model result.value result.next }
-    ensures value_bound { result.value ≤ 32 }
+// Reads decoder_model_info (5.5.4). Returns how many bits a buffer delay has.
+#[tactic(auto, using(crate::proofs::Steps::reads), unfolding(crate::specs::Header::decoder_model_info))]
+fn decoder_model_info(reader: &mut BitReader) -> u8
+    ensures { Reads reader.old decoder_model_info result reader.new }
 {
-    let timed = timing_info(payload, at);
-    let present = flag(payload, timed);
-    let next = present.next;
-    if present.set {
-        return decoder_model_info(payload, next);
-    }
-    NumberRead { value: 0, next }
+    let minus_one = reader.number(5); // buffer_delay_length_minus_1
+    reader.skip(32); // num_units_in_decoding_tick
+    reader.skip(5); // buffer_removal_time_length_minus_1
+    reader.skip(5); // frame_presentation_time_length_minus_1
+    minus_one + 1
 }
 
-fn delay_length(payload: &[u8], at: Cursor) -> NumberRead
-    ensures reads { Reads payload.now at delay_length result.value result.next }
-    ensures value_bound { result.value ≤ 32 }
+// Reads the two. Returns how many bits a buffer delay has, 0 without a decoder model.
+#[tactic(auto, using(crate::proofs::Steps::reads), unfolding(crate::specs::Header::timed_model))]
+fn timed_model(reader: &mut BitReader) -> u8
+    ensures { Reads reader.old timed_model result reader.new }
 {
-    let present = flag(payload, at);
-    let next = present.next;
-    if present.set {
-        return timed_model(payload, next);
-    }
-    NumberRead { value: 0, next }
-}
-
-fn operating_parameters(payload: &[u8], at: Cursor, length: u8) -> Cursor
-    ensures { Reads payload.now at (operating_parameters length) tt result }
-{
-    let first = skip(payload, at, length);
-    let second = skip(payload, first, length);
-    skip(payload, second, 1)
-}
-
-fn decoder_model(payload: &[u8], at: Cursor, length: u8) -> Cursor
-    ensures { Reads payload.now at (decoder_model length) tt result }
-{
-    let present = flag(payload, at);
-    let next = present.next;
-    if present.set {
-        return operating_parameters(payload, next, length);
-    }
-    next
-}
-
-// The decoder model, where there is one.
-fn decoder_model_if(test: bool, payload: &[u8], at: Cursor, length: u8) -> Cursor
-    ensures { Reads payload.now at (when test (decoder_model length)) tt result }
-{
-    if test {
-        return decoder_model(payload, at, length);
-    }
-    at
-}
-
-// The display delay, where there is one.
-fn display_delay_if(test: bool, payload: &[u8], at: Cursor) -> Cursor
-    ensures { Reads payload.now at (when test display_delay) tt result }
-{
-    if test {
-        let present = flag(payload, at);
-        let next = present.next;
-        return skip_if(present.set, payload, next, 4);
-    }
-    at
-}
-
-fn operating_point(payload: &[u8], at: Cursor, length: u8, delay_present: bool) -> PointRead
-    ensures { Reads payload.now at (operating_point length delay_present) result.point result.next }
-{
-    let idc = skip(payload, at, 12);
-    let level = number(payload, idc, 5);
-    let behind_level = level.next;
-    let tier = number_if(7 < level.value, payload, behind_level, 1);
-    let behind_tier = tier.next;
-    let modelled = decoder_model_if(0 < length, payload, behind_tier, length);
-    let next = display_delay_if(delay_present, payload, modelled);
-    PointRead {
-        point: Point {
-            level: level.value,
-            tier: tier.value,
-        },
-        next,
+    timing_info(reader);
+    if reader.flag() {
+        decoder_model_info(reader)
+    } else {
+        0
     }
 }
 
-// So many operating points, which are not looked at.
-fn more_points(payload: &[u8], at: Cursor, count: u8, length: u8, delay_present: bool) -> Cursor
-    ensures { Reads payload.now at (times count (operating_point length delay_present)) tt result }
+// Reads the two if they are present. Returns how many bits a buffer delay has, 0 without a decoder model.
+#[tactic(auto, using(crate::proofs::Steps::reads), unfolding(crate::specs::Header::delay_length))]
+fn delay_length(reader: &mut BitReader) -> u8
+    ensures { Reads reader.old delay_length result reader.new }
 {
-    let mut next = at;
-    let mut left = count;
-    while 0 < left {
-        let point = operating_point(payload, next, length, delay_present);
-        next = point.next;
-        left -= 1;
-    }
-    next
-}
-
-fn operating_points(payload: &[u8], at: Cursor) -> PointRead
-    ensures { Reads payload.now at operating_points result.point result.next }
-{
-    let length = delay_length(payload, at);
-    let behind_length = length.next;
-    let present = flag(payload, behind_length);
-    let behind_flag = present.next;
-    let count = number(payload, behind_flag, 5);
-    let behind_count = count.next;
-    let first = operating_point(payload, behind_count, length.value, present.set);
-    let behind_first = first.next;
-    let next = more_points(
-        payload,
-        behind_first,
-        count.value,
-        length.value,
-        present.set,
-    );
-    let point = first.point;
-    PointRead { point, next }
-}
-
-fn reduced_point(payload: &[u8], at: Cursor) -> PointRead
-    ensures { Reads payload.now at reduced_point result.point result.next }
-{
-    let level = number(payload, at, 5);
-    let next = level.next;
-    PointRead {
-        point: Point {
-            level: level.value,
-            tier: 0,
-        },
-        next,
+    if reader.flag() {
+        timed_model(reader)
+    } else {
+        0
     }
 }
 
-// The operating point of a header of either kind.
-pub(crate) fn point_of(reduced: bool, payload: &[u8], at: Cursor) -> PointRead
-    ensures { Reads payload.now at (pick reduced reduced_point operating_points)
-        result.point result.next }
+// Reads operating_parameters_info (5.5.5).
+#[tactic(auto, using(crate::proofs::Steps::reads), unfolding(crate::specs::Header::operating_parameters))]
+fn operating_parameters(reader: &mut BitReader, length: u8)
+    ensures { Reads reader.old (operating_parameters length) tt reader.new }
+{
+    reader.skip(length); // decoder_buffer_delay
+    reader.skip(length); // encoder_buffer_delay
+    reader.skip(1); // low_delay_mode_flag
+}
+
+// Reads the decoder model of an operating point, if it is present.
+#[tactic(auto, using(crate::proofs::Steps::reads), unfolding(crate::specs::Header::decoder_model))]
+fn decoder_model(reader: &mut BitReader, length: u8)
+    ensures { Reads reader.old (decoder_model length) tt reader.new }
+{
+    if reader.flag() {
+        operating_parameters(reader, length);
+    }
+}
+
+// Reads the display delay of an operating point, if it is present.
+#[tactic(auto, using(crate::proofs::Steps::reads), unfolding(crate::specs::Header::display_delay))]
+fn display_delay(reader: &mut BitReader)
+    ensures { Reads reader.old display_delay tt reader.new }
+{
+    let present = reader.flag();
+    reader.skip_if(present, 4);
+}
+
+// Reads an operating point.
+#[tactic(auto, using(crate::proofs::Steps::reads), unfolding(crate::specs::Header::operating_point))]
+fn operating_point(reader: &mut BitReader, length: u8, delay_present: bool) -> Point
+    ensures { Reads reader.old (operating_point length delay_present) result reader.new }
+{
+    reader.skip(12); // operating_point_idc
+    let level = reader.number(5);
+    let tier = reader.number_if(7 < level, 1);
+    if 0 < length {
+        decoder_model(reader, length);
+    }
+    if delay_present {
+        display_delay(reader);
+    }
+    Point { level, tier }
+}
+
+// Reads so many operating points, which are not looked at.
+fn more_points(reader: &mut BitReader, count: u8, length: u8, delay_present: bool)
+    ensures { Reads reader.old (times count (operating_point length delay_present)) tt reader.new }
+{
+    for _ in 0..count {
+        operating_point(reader, length, delay_present);
+    }
+}
+
+// Reads all operating points. Returns the first.
+#[tactic(auto, using(crate::proofs::Steps::reads), unfolding(crate::specs::Header::operating_points))]
+fn operating_points(reader: &mut BitReader) -> Point
+    ensures { Reads reader.old operating_points result reader.new }
+{
+    let length = delay_length(reader);
+    let delay_present = reader.flag();
+    let minus_one = reader.number(5); // operating_points_cnt_minus_1
+    let first = operating_point(reader, length, delay_present);
+    more_points(reader, minus_one, length, delay_present);
+    first
+}
+
+// Reads the operating point of a reduced header.
+#[tactic(auto, using(crate::proofs::Steps::reads), unfolding(crate::specs::Header::reduced_point))]
+fn reduced_point(reader: &mut BitReader) -> Point
+    ensures { Reads reader.old reduced_point result reader.new }
+{
+    Point {
+        level: reader.number(5),
+        tier: 0,
+    }
+}
+
+// Reads the operating points of a header that is reduced or not. Returns the first.
+#[tactic(auto, using(crate::proofs::Steps::reads))]
+pub(crate) fn point_of(reduced: bool, reader: &mut BitReader) -> Point
+    ensures { Reads reader.old (pick reduced reduced_point operating_points) result reader.new }
 {
     if reduced {
-        return reduced_point(payload, at);
+        reduced_point(reader)
+    } else {
+        operating_points(reader)
     }
-    operating_points(payload, at)
 }

@@ -1,108 +1,95 @@
 // Frame sizes and tools (AV1 5.5.1).
-ghost use Rattle.sequence.specs.Bits.{when};
 ghost use Rattle.sequence.specs.Header.{frame_size, frame_ids, frames_and_tools};
 ghost use Rattle.sequence.specs.Header.{integer_mv, order_tools, screen_tools, inter_tools};
 ghost use Rattle.sequence.specs.Parts.{Reads};
 
-use crate::cursor::{Cursor, NumberRead, flag, number, skip, skip_if};
+use crate::reader::BitReader;
 
-fn frame_size(payload: &[u8], at: Cursor) -> Cursor
-    ensures { Reads payload.now at frame_size tt result }
+// Reads the largest frame size.
+#[tactic(auto, using(crate::proofs::Steps::reads), unfolding(crate::specs::Header::frame_size))]
+fn frame_size(reader: &mut BitReader)
+    ensures { Reads reader.old frame_size tt reader.new }
 {
-    let width = number(payload, at, 4);
-    let behind_width = width.next;
-    let height = number(payload, behind_width, 4);
-    let behind_height = height.next;
-    let first = skip(payload, behind_height, width.value + 1);
-    skip(payload, first, height.value + 1)
+    let width = reader.number(4); // frame_width_bits_minus_1
+    let height = reader.number(4); // frame_height_bits_minus_1
+    reader.skip(width + 1); // max_frame_width_minus_1
+    reader.skip(height + 1); // max_frame_height_minus_1
 }
 
-// The lengths of frame ids, where the test holds.
-fn frame_ids_if(test: bool, payload: &[u8], at: Cursor) -> Cursor
-    ensures { Reads payload.now at (when test frame_ids) tt result }
+// Reads the lengths of frame ids, if they are present.
+#[tactic(auto, using(crate::proofs::Steps::reads), unfolding(crate::specs::Header::frame_ids))]
+fn frame_ids(reader: &mut BitReader)
+    ensures { Reads reader.old frame_ids tt reader.new }
 {
-    if test {
-        let present = flag(payload, at);
-        let next = present.next;
-        if present.set {
-            let first = skip(payload, next, 4);
-            return skip(payload, first, 3);
-        }
-        return next;
+    if reader.flag() {
+        reader.skip(4); // delta_frame_id_length_minus_2
+        reader.skip(3); // additional_frame_id_length_minus_1
     }
-    at
 }
 
-// seq_choose_integer_mv and seq_force_integer_mv, where the test holds.
-fn integer_mv_if(test: bool, payload: &[u8], at: Cursor) -> Cursor
-    ensures { Reads payload.now at (when test integer_mv) tt result }
+// Reads seq_choose_integer_mv and seq_force_integer_mv.
+#[tactic(auto, using(crate::proofs::Steps::reads), unfolding(crate::specs::Header::integer_mv))]
+fn integer_mv(reader: &mut BitReader)
+    ensures { Reads reader.old integer_mv tt reader.new }
 {
-    if test {
-        let choose = flag(payload, at);
-        let next = choose.next;
-        return skip_if(!choose.set, payload, next, 1);
+    let choose = reader.flag();
+    reader.skip_if(!choose, 1);
+}
+
+// Reads the tools of the order hint.
+#[tactic(auto, using(crate::proofs::Steps::reads), unfolding(crate::specs::Header::order_tools))]
+fn order_tools(reader: &mut BitReader)
+    ensures { Reads reader.old order_tools tt reader.new }
+{
+    reader.skip(1); // enable_jnt_comp
+    reader.skip(1); // enable_ref_frame_mvs
+}
+
+// Reads seq_choose_screen_content_tools and seq_force_screen_content_tools. Returns the latter, which is 2
+// (SELECT_SCREEN_CONTENT_TOOLS) if it is not coded.
+#[tactic(auto, using(crate::proofs::Steps::reads), unfolding(crate::specs::Header::screen_tools))]
+fn screen_tools(reader: &mut BitReader) -> u8
+    ensures { Reads reader.old screen_tools result reader.new }
+{
+    if reader.flag() { 2 } else { reader.number(1) }
+}
+
+// Reads the tools of inter frames.
+#[tactic(auto, using(crate::proofs::Steps::reads), unfolding(crate::specs::Header::inter_tools))]
+fn inter_tools(reader: &mut BitReader)
+    ensures { Reads reader.old inter_tools tt reader.new }
+{
+    reader.skip(1); // enable_interintra_compound
+    reader.skip(1); // enable_masked_compound
+    reader.skip(1); // enable_warped_motion
+    reader.skip(1); // enable_dual_filter
+    let hint = reader.flag(); // enable_order_hint
+    if hint {
+        order_tools(reader);
     }
-    at
-}
-
-// enable_jnt_comp and enable_ref_frame_mvs, where the test holds.
-fn order_tools_if(test: bool, payload: &[u8], at: Cursor) -> Cursor
-    ensures { Reads payload.now at (when test order_tools) tt result }
-{
-    if test {
-        let first = skip(payload, at, 1);
-        return skip(payload, first, 1);
+    let tools = screen_tools(reader);
+    if 0 < tools {
+        integer_mv(reader);
     }
-    at
+    reader.skip_if(hint, 3); // order_hint_bits_minus_1
 }
 
-// seq_choose_screen_content_tools and seq_force_screen_content_tools.
-fn screen_tools(payload: &[u8], at: Cursor) -> NumberRead
-    ensures { Reads payload.now at screen_tools result.value result.next }
+// Reads from the frame size to the tools, of a header that is reduced or not.
+#[tactic(auto, using(crate::proofs::Steps::reads), unfolding(crate::specs::Header::frames_and_tools))]
+pub(crate) fn frames_and_tools(reduced: bool, reader: &mut BitReader)
+    ensures { Reads reader.old (frames_and_tools reduced) tt reader.new }
 {
-    let choose = flag(payload, at);
-    let next = choose.next;
-    if choose.set {
-        return NumberRead { value: 2, next };
+    frame_size(reader);
+    if !reduced {
+        frame_ids(reader);
     }
-    number(payload, next, 1)
-}
-
-fn inter_tools(payload: &[u8], at: Cursor) -> Cursor
-    ensures { Reads payload.now at inter_tools tt result }
-{
-    let first = skip(payload, at, 1);
-    let second = skip(payload, first, 1);
-    let third = skip(payload, second, 1);
-    let fourth = skip(payload, third, 1);
-    let hint = flag(payload, fourth);
-    let behind_hint = hint.next;
-    let ordered = order_tools_if(hint.set, payload, behind_hint);
-    let tools = screen_tools(payload, ordered);
-    let behind_tools = tools.next;
-    let moved = integer_mv_if(0 < tools.value, payload, behind_tools);
-    skip_if(hint.set, payload, moved, 3)
-}
-
-fn inter_tools_if(test: bool, payload: &[u8], at: Cursor) -> Cursor
-    ensures { Reads payload.now at (when test inter_tools) tt result }
-{
-    if test {
-        return inter_tools(payload, at);
+    reader.skip(1); // use_128x128_superblock
+    reader.skip(1); // enable_filter_intra
+    reader.skip(1); // enable_intra_edge_filter
+    if !reduced {
+        inter_tools(reader);
     }
-    at
-}
-
-pub(crate) fn frames_and_tools(reduced: bool, payload: &[u8], at: Cursor) -> Cursor
-    ensures { Reads payload.now at (frames_and_tools reduced) tt result }
-{
-    let sized = frame_size(payload, at);
-    let named = frame_ids_if(!reduced, payload, sized);
-    let first = skip(payload, named, 1);
-    let second = skip(payload, first, 1);
-    let third = skip(payload, second, 1);
-    let tools = inter_tools_if(!reduced, payload, third);
-    let fourth = skip(payload, tools, 1);
-    let fifth = skip(payload, fourth, 1);
-    skip(payload, fifth, 1)
+    reader.skip(1); // enable_superres
+    reader.skip(1); // enable_cdef
+    reader.skip(1); // enable_restoration
 }

@@ -1,54 +1,30 @@
--- The loop that puts a number together from its eight bytes: the bytes to come say, behind the value so far, what the eight say. Assumes
--- nothing.
-use Prim.Native.Nat.{ℕ, suc, ◌+◌, ◌-◌, ◌*◌, ◌^◌, ◌≤◌, ◌<◌}
-use mathlib.Core.Path.{◌≡◌, sym, ap, subst, ◌∙◌}
+-- A number of eight bytes, as `from_be_bytes` puts it together. Assumes nothing.
+use mathlib.Core.Path.{◌≡◌, sym, ap, ◌∙◌}
+use mathlib.Core.List.{[], ◌∷◌}
 use native.Mathlib.Omega.{arith}
-use native.Mathlib.Nat.{pow-suc, pow-le-pow_right}
-use lib.ListN.{length, take, drop, get_or}
+use lib.ListN.{length, get_or, drop_of_length-le}
+use Rattle.std.specs.Int.{w64, from_be_bytes}
 use Rattle.lists.specs.Lists.{Bytes}
 use Rattle.lists.proofs.Parts.{next}
-use Rattle.sheet.specs.Reading.{value_from, number}
+use Rattle.sheet.specs.Reading.{value_from}
 
-pub record Joining (s : Bytes) (at whole value k : ℕ) : Type 0 where
-  pub says : whole ≡ value_from value (take (8 - k) (drop (at + k) s))
-  pub below : value < 256 ^ k
-  pub within : k ≤ 8
+-- eight bytes one by one
+eight : (s : Bytes) → length s ≡ 8
+    → s ≡ get_or s 0 0 ∷ get_or s 1 0 ∷ get_or s 2 0 ∷ get_or s 3 0 ∷ get_or s 4 0 ∷ get_or s 5 0 ∷ get_or s 6 0 ∷ get_or s 7 0 ∷ []
+eight s e =
+    next s 0 (omega arith)
+    ∙ ap (λ (t : Bytes). get_or s 0 0 ∷ t) (next s 1 (omega arith)
+    ∙ ap (λ (t : Bytes). get_or s 1 0 ∷ t) (next s 2 (omega arith)
+    ∙ ap (λ (t : Bytes). get_or s 2 0 ∷ t) (next s 3 (omega arith)
+    ∙ ap (λ (t : Bytes). get_or s 3 0 ∷ t) (next s 4 (omega arith)
+    ∙ ap (λ (t : Bytes). get_or s 4 0 ∷ t) (next s 5 (omega arith)
+    ∙ ap (λ (t : Bytes). get_or s 5 0 ∷ t) (next s 6 (omega arith)
+    ∙ ap (λ (t : Bytes). get_or s 6 0 ∷ t) (next s 7 (omega arith)
+    ∙ ap (λ (t : Bytes). get_or s 7 0 ∷ t) (drop_of_length-le s {i = 8} (omega arith)))))))))
 
-pub joining_start : (s : Bytes) (i : ℕ) → Joining s (8 * i) (number s i) 0 0
-unfolding number
-joining_start s i =
-    let e : 8 * i ≡ 8 * i + 0 = omega arith in
-    record { says = ap (λ (n : ℕ). value_from 0 (take 8 (drop n s))) e; below = omega arith; within = omega arith }
-
-module _ {s : Bytes} {at whole value k : ℕ} (h : Joining s at whole value k) where
-  pub joining_room : k < 8 → value < 72057594037927936
-  joining_room l =
-      let m : 256 ^ k ≤ 256 ^ 7 = pow-le-pow_right (omega arith) {j = 7} (omega arith) in
-      omega (arith, h.below, m)
-
-  taken : k < 8 → at + 8 ≤ length s
-      → value_from value (take (8 - k) (drop (at + k) s))
-      ≡ value_from (value * 256 + get_or s (at + k) 0) (take (8 - (k + 1)) (drop (at + (k + 1)) s))
-  unfolding value_from
-  taken l m =
-      let e : 8 - k ≡ suc (8 - (k + 1)) = omega arith in
-      let f : at + k + 1 ≡ at + (k + 1) = omega arith in
-      ap (λ (n : ℕ). value_from value (take n (drop (at + k) s))) e
-      ∙ ap (λ (l : Bytes). value_from value (take (suc (8 - (k + 1))) l)) (next s (at + k) (omega arith))
-      ∙ ap (λ (n : ℕ). value_from (value * 256 + get_or s (at + k) 0) (take (8 - (k + 1)) (drop n s))) f
-
-  pub joining_next : k < 8 → at + 8 ≤ length s → get_or s (at + k) 0 < 256 → Joining s at whole (value * 256 + get_or s (at + k) 0) (k + 1)
-  joining_next l m b =
-      let p : 256 ^ suc k ≡ 256 ^ k * 256 = pow-suc 256 k in
-      let q : k + 1 ≡ suc k = omega arith in
-      record {
-        says = h.says ∙ taken l m;
-        below = subst (λ (n : ℕ). value * 256 + get_or s (at + k) 0 < 256 ^ n) (sym q) (omega (arith, h.below, p));
-        within = omega arith;
-      }
-
-  pub joining_end : 8 ≤ k → value ≡ whole
-  unfolding value_from
-  joining_end l =
-      let e : 8 - k ≡ 0 = omega arith in
-      sym (h.says ∙ ap (λ (n : ℕ). value_from value (take n (drop (at + k) s))) e)
+pub eight_joined : (s : Bytes) → length s ≡ 8 → from_be_bytes w64 s ≡ value_from 0 s
+unfolding value_from
+eight_joined s e =
+    let joined : from_be_bytes w64 s ≡ value_from 0 (get_or s 0 0 ∷ get_or s 1 0 ∷ get_or s 2 0 ∷ get_or s 3 0 ∷ get_or s 4 0 ∷
+    get_or s 5 0 ∷ get_or s 6 0 ∷ get_or s 7 0 ∷ []) = omega arith in
+    joined ∙ ap (value_from 0) (sym (eight s e))

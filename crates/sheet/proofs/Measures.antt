@@ -1,7 +1,7 @@
 -- The counts and the length of a sheet, and the sections that follow from them; and the check, part by part. Assumes nothing.
+use Rattle.std.specs.Prelude.{Some, None}
 use Prim.Native.Nat.{ℕ, ◌+◌, ◌*◌, ◌≤◌, ◌<◌}
 use mathlib.Core.Bool.{Bool, true, false, not, ◌||◌}
-use mathlib.Core.Option.{none, some}
 use mathlib.Core.Path.{◌≡◌, sym, ap, subst, ◌∙◌}
 use native.Mathlib.Omega.{arith}
 use lib.Dec.{eqb, ltb}
@@ -60,26 +60,26 @@ module _ (s : Bytes) where
       (counts_past s ∙ neither (neither (le-ltb _ _ h.streams) (le-ltb _ _ h.units)) (le-ltb _ _ h.obus))
 
   -- something is wrong with it
-  no_form : (Form s → ⊥) → none ≡ measuring s
+  no_form : (Form s → ⊥) → None ≡ measuring s
   unfolding measuring pick
   no_form h = case (form_wrong s) (λ t. rw t) (λ t. absurd (h (form_right t)))
 
   -- numbers that the code has read, one behind the other
   module _ (a : ℕ) (ea : a ≡ number s 0) where
-    pub too_short : length s < 8 * (1 + 2 * a + 1) → none ≡ measuring s
+    pub too_short : length s < 8 * (1 + 2 * a + 1) → None ≡ measuring s
     too_short h = no_form (λ f. absurd (omega (arith, f.long)))
 
-    pub many_streams : 12 < a → none ≡ measuring s
+    pub many_streams : 12 < a → None ≡ measuring s
     many_streams h = no_form (λ f. absurd (omega (arith, f.streams)))
 
     module _ (b : ℕ) (eb : b ≡ number s (1 + 2 * a)) where
       units_as : b ≡ unit_count s
       units_as = eb ∙ ap (λ (n : ℕ). number s (1 + 2 * n)) ea
 
-      pub short_of_obus : length s < 8 * (1 + 2 * a + 1 + 4 * b + 1) → none ≡ measuring s
+      pub short_of_obus : length s < 8 * (1 + 2 * a + 1 + 4 * b + 1) → None ≡ measuring s
       short_of_obus h = no_form (λ f. absurd (omega (arith, f.long, units_as)))
 
-      pub many_units : 1024 < b → none ≡ measuring s
+      pub many_units : 1024 < b → None ≡ measuring s
       many_units h = no_form (λ f. absurd (omega (arith, f.units, units_as)))
 
       module _ (d : ℕ) (ed : d ≡ number s (1 + 2 * a + 1 + 4 * b)) where
@@ -88,14 +88,14 @@ module _ (s : Bytes) where
             ed ∙ ap (λ (n : ℕ). number s (1 + 2 * n + 1 + 4 * b)) ea ∙ ap (λ (n : ℕ). number s (1 + 2 * stream_count s + 1 + 4 * n))
             units_as
 
-        pub many_obus : 65536 < d → none ≡ measuring s
+        pub many_obus : 65536 < d → None ≡ measuring s
         many_obus h = no_form (λ f. absurd (omega (arith, f.obus, obus_as)))
 
-        pub other_length : (length s ≡ 8 * (1 + 2 * a + 1 + 4 * b + 1 + 4 * d) → ⊥) → none ≡ measuring s
+        pub other_length : (length s ≡ 8 * (1 + 2 * a + 1 + 4 * b + 1 + 4 * d) → ⊥) → None ≡ measuring s
         other_length h = no_form (λ f. h (omega (arith, f.long, ea, units_as, obus_as)))
 
         pub measured : a ≤ 12 → b ≤ 1024 → d ≤ 65536 → length s ≡ 8 * (1 + 2 * a + 1 + 4 * b + 1 + 4 * d)
-            → some (sections_by a b d) ≡ measuring s
+            → Some (sections_by a b d) ≡ measuring s
         unfolding measuring pick
         measured ha hb hd e =
             let f : Form s =
@@ -106,12 +106,12 @@ module _ (s : Bytes) where
               obus = omega (arith, obus_as);
             } in
             rw (right_form f)
-            (ap (λ (n : ℕ). some (sections_by n b d)) ea
-            ∙ ap (λ (n : ℕ). some (sections_by (stream_count s) n d)) units_as
-            ∙ ap (λ (n : ℕ). some (sections_by (stream_count s) (unit_count s) n)) obus_as)
+            (ap (λ (n : ℕ). Some (sections_by n b d)) ea
+            ∙ ap (λ (n : ℕ). Some (sections_by (stream_count s) n d)) units_as
+            ∙ ap (λ (n : ℕ). Some (sections_by (stream_count s) (unit_count s) n)) obus_as)
 
 -- too short for its first count
-pub no_count : (s : Bytes) → length s < 8 → none ≡ measuring s
+pub no_count : (s : Bytes) → length s < 8 → None ≡ measuring s
 no_count s h = no_form s (λ f. absurd (omega (arith, f.long)))
 
 -- ---- the check
@@ -120,11 +120,11 @@ module _ (s : Bytes) where
   unfolding form_wrong
   form_of e = let h = right_parts s e in neither h.0 h.1.counts
 
-  refused_by_lem : (wrong s ≡ false → ⊥) → none ≡ checking s
+  refused_by_lem : (wrong s ≡ false → ⊥) → None ≡ checking s
   unfolding checking pick
   refused_by_lem h = case (wrong s) (λ t. rw t) (λ t. absurd (h t))
 
-  pub unmeasured : none ≡ measuring s → none ≡ checking s
+  pub unmeasured : None ≡ measuring s → None ≡ checking s
   unfolding measuring
   unmeasured e = refused_by_lem (λ w. clash (picked_none (form_wrong s) (sections_of s) e) (form_of w))
 
@@ -161,7 +161,7 @@ module _ (s : Bytes) where
       (omega (arith, f.long), omega (arith, f.long), omega (arith, f.long), f.streams, f.units, f.obus)
 
   -- the sections of a sheet of the right form
-  module _ (t : Sections) (e : some t ≡ measuring s) where
+  module _ (t : Sections) (e : Some t ≡ measuring s) where
     form : form_wrong s ≡ false
     unfolding measuring
     form = (picked_some (form_wrong s) (sections_of s) t e).0
@@ -178,24 +178,24 @@ module _ (s : Bytes) where
     right_here w = subst Right same (right_of w)
 
     -- a part of it is wrong
-    pub streams_refused : streams_at t ≡ true → none ≡ checking s
+    pub streams_refused : streams_at t ≡ true → None ≡ checking s
     streams_refused h = refused_by_lem (λ w. clash h (right_here w).0)
 
-    pub units_refused : units_at t ≡ true → none ≡ checking s
+    pub units_refused : units_at t ≡ true → None ≡ checking s
     units_refused h = refused_by_lem (λ w. clash h (right_here w).1)
 
-    pub obus_refused : obus_at t ≡ true → none ≡ checking s
+    pub obus_refused : obus_at t ≡ true → None ≡ checking s
     obus_refused h = refused_by_lem (λ w. clash h (right_here w).2)
 
     -- or nothing is
-    pub accepted : streams_at t ≡ false → units_at t ≡ false → obus_at t ≡ false → some t ≡ checking s
+    pub accepted : streams_at t ≡ false → units_at t ≡ false → obus_at t ≡ false → Some t ≡ checking s
     unfolding checking pick
     accepted h k l =
         let w = of_right form (subst Right (sym same) (h, k, l)) in
-        rw w (ap some (sym same))
+        rw w (ap Some (sym same))
 
   -- what a check that passed says
-  module _ (t : Sections) (e : some t ≡ checking s) where
+  module _ (t : Sections) (e : Some t ≡ checking s) where
     pub is_right : wrong s ≡ false
     unfolding checking
     is_right = (picked_some (wrong s) (sections_of s) t e).0
@@ -207,6 +207,6 @@ module _ (s : Bytes) where
     pub checked_within : Within t
     checked_within = subst Within sections_same (form_within (form_of is_right))
 
-  pub is_wrong : none ≡ checking s → wrong s ≡ true
+  pub is_wrong : None ≡ checking s → wrong s ≡ true
   unfolding checking
   is_wrong e = picked_none (wrong s) (sections_of s) e

@@ -1,7 +1,7 @@
 -- Tests of each element of a list and of any two of them, one behind the other. Assumes nothing.
+use Rattle.std.specs.Prelude.{Option, Some, None}
 use Prim.Native.Nat.{ℕ, zero, suc, ◌<◌}
 use mathlib.Core.Bool.{Bool, true, false, ◌&&◌, ◌||◌}
-use mathlib.Core.Option.{Option, none, some}
 use mathlib.Core.Path.{◌≡◌, refl, sym, subst}
 use mathlib.Core.List.{List, [], ◌∷◌}
 use native.Mathlib.Omega.{arith}
@@ -27,12 +27,12 @@ not_both true y h = h refl
 not_both false y h = refl
 
 -- what a value that a test picks says of the test
-pub picked_none : {A : Type 0} (t : Bool) (a : A) → ◌≡◌ {A = Option A} none (pick t none (some a)) → t ≡ true
+pub picked_none : {A : Type 0} (t : Bool) (a : A) → ◌≡◌ {A = Option A} None (pick t None (Some a)) → t ≡ true
 unfolding pick
 picked_none true a e = refl
 picked_none false a e = let z : ◌≡◌ {A = ℕ} 0 1 = cc in absurd (omega arith)
 
-pub picked_some : {A : Type 0} (t : Bool) (a b : A) → ◌≡◌ {A = Option A} (some b) (pick t none (some a)) → (t ≡ false) × (a ≡ b)
+pub picked_some : {A : Type 0} (t : Bool) (a b : A) → ◌≡◌ {A = Option A} (Some b) (pick t None (Some a)) → (t ≡ false) × (a ≡ b)
 unfolding pick
 picked_some true a b e = let z : ◌≡◌ {A = ℕ} 0 1 = cc in absurd (omega arith)
 picked_some false a b e = (refl, cc)

@@ -1,7 +1,7 @@
 -- One OBU: whether its payload passes its unit's length, and the progress behind it. Assumes nothing.
+use Rattle.std.specs.Prelude.{Some, None}
 use Prim.Native.Nat.{ℕ, ◌+◌, ◌-◌, ◌*◌, ◌≤◌, ◌<◌}
 use mathlib.Core.Bool.{true, ◌||◌}
-use mathlib.Core.Option.{none, some}
 use mathlib.Core.Path.{◌≡◌, sym, ◌∙◌}
 use native.Mathlib.Omega.{arith}
 use lib.Dec.{eqb, ltb, leb}
@@ -48,28 +48,28 @@ module _ (s : Bytes) (n i : ℕ) (o : ObuRow) where
 
 -- ---- the progress behind an OBU
 module _ (p : Progress) (o : ObuRow) where
-  pub begins : o.unit ≡ p.begun → some (record { begun = o.unit + 1; count = 1; end = o.offset + o.length }) ≡ placing p o
+  pub begins : o.unit ≡ p.begun → Some (record { begun = o.unit + 1; count = 1; end = o.offset + o.length }) ≡ placing p o
   unfolding placing misplaced after pick
   begins e = rw (eq-eqb o.unit p.begun e)
 
   module _ (n : o.unit ≡ p.begun → ⊥) where
-    pub elsewhere : (o.unit + 1 ≡ p.begun → ⊥) → none ≡ placing p o
+    pub elsewhere : (o.unit + 1 ≡ p.begun → ⊥) → None ≡ placing p o
     unfolding placing misplaced after pick
     elsewhere e = rw (ne_eqb o.unit p.begun n, ne_eqb (o.unit + 1) p.begun e)
 
     module _ (e : o.unit + 1 ≡ p.begun) where
-      pub full : 64 ≤ p.count → none ≡ placing p o
+      pub full : 64 ≤ p.count → None ≡ placing p o
       unfolding placing misplaced after pick
       full h = rw (ne_eqb o.unit p.begun n, eq-eqb (o.unit + 1) p.begun e, le-leb 64 p.count h)
 
       module _ (h : p.count < 64) where
-        pub too_early : o.offset < p.end → none ≡ placing p o
+        pub too_early : o.offset < p.end → None ≡ placing p o
         unfolding placing misplaced after pick
         too_early k =
             rw (ne_eqb o.unit p.begun n, eq-eqb (o.unit + 1) p.begun e, lt-leb 64 p.count h, lt-ltb o.offset p.end k)
 
         pub goes_on : p.end ≤ o.offset
-            → some (record { begun = o.unit + 1; count = p.count + 1; end = o.offset + o.length }) ≡ placing p o
+            → Some (record { begun = o.unit + 1; count = p.count + 1; end = o.offset + o.length }) ≡ placing p o
         unfolding placing misplaced after pick
         goes_on k =
             rw (ne_eqb o.unit p.begun n, eq-eqb (o.unit + 1) p.begun e, lt-leb 64 p.count h, le-ltb o.offset p.end k)

@@ -1,7 +1,7 @@
 -- The numbers of a section row by row, and the answers of reading and finding, from what the check says. Assumes nothing.
+use Rattle.std.specs.Prelude.{Some, None}
 use Prim.Native.Nat.{ℕ, zero, suc, ◌+◌, ◌*◌, ◌≤◌, ◌<◌}
 use mathlib.Core.Bool.{true, false, ◌||◌}
-use mathlib.Core.Option.{none, some}
 use mathlib.Core.Path.{◌≡◌, refl, sym, ap, subst, ◌∙◌}
 use mathlib.Core.List.{List, ◌∷◌, flatten}
 use native.Mathlib.Omega.{arith}
@@ -60,7 +60,7 @@ module _ (s : Bytes) where
       ∙ sym (four_more n i)
 
 -- ---- a bad sheet
-module _ (s : Bytes) (e : none ≡ checking s) where
+module _ (s : Bytes) (e : None ≡ checking s) where
   pub read_refused : (a b d : ℕ) → refused 45 0 ≡ reading s a b d
   unfolding reading
   read_refused a b d = refuse 45 _ (is_wrong s e)
@@ -70,7 +70,7 @@ module _ (s : Bytes) (e : none ≡ checking s) where
   find_refused n = refuse 45 _ (is_wrong s e)
 
 -- ---- a good one, with the sections that were found
-module _ (s : Bytes) (t : Sections) (e : some t ≡ checking s) where
+module _ (s : Bytes) (t : Sections) (e : Some t ≡ checking s) where
   as_sections : sections_of s ≡ t
   as_sections = sections_same s t e
 
@@ -149,17 +149,17 @@ module _ (s : Bytes) (t : Sections) (e : some t ≡ checking s) where
 
   -- a unit by its number
   module _ (n : ℕ) where
-    pub find_none : t.units ≤ n → passed none ≡ finding s n
+    pub find_none : t.units ≤ n → passed None ≡ finding s n
     unfolding finding content_of
     find_none h =
         pass_on 45 (is_right s t e)
         (ap passed
-        (subst (λ (u : Sections). none ≡ row_at (rows (unit_row s) 4 u.units u.unit_rows) n) (sym as_sections) (no_row_at s _ _ n h)))
+        (subst (λ (u : Sections). None ≡ row_at (rows (unit_row s) 4 u.units u.unit_rows) n) (sym as_sections) (no_row_at s _ _ n h)))
 
-    pub find_row : n < t.units → passed (some (unit_row s (t.unit_rows + 4 * n))) ≡ finding s n
+    pub find_row : n < t.units → passed (Some (unit_row s (t.unit_rows + 4 * n))) ≡ finding s n
     unfolding finding content_of
     find_row h =
         pass_on 45 (is_right s t e)
         (ap passed
-        (subst (λ (u : Sections). some (unit_row s (t.unit_rows + 4 * n)) ≡ row_at (rows (unit_row s) 4 u.units u.unit_rows) n)
+        (subst (λ (u : Sections). Some (unit_row s (t.unit_rows + 4 * n)) ≡ row_at (rows (unit_row s) 4 u.units u.unit_rows) n)
         (sym as_sections) (row_at_lem s _ _ n h)))

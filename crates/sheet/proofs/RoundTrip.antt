@@ -1,9 +1,9 @@
 -- The statements of specs/RoundTrip.antt. The numbers of a sheet are those that were written, so each section's rows come back from its
 -- count on. Assumes nothing.
+use Rattle.std.specs.Prelude.{None}
 use Prim.Native.Nat.{ℕ, zero, suc, ◌+◌, ◌*◌, ◌^◌, ◌≤◌, ◌<◌}
 use mathlib.Core.Bool.{true, false, not, ◌||◌}
 use mathlib.Core.Path.{◌≡◌, refl, sym, ap, ◌∙◌}
-use mathlib.Core.Option.{none}
 use mathlib.Core.List.{List, [], ◌∷◌, ◌++◌, flatten}
 use native.Mathlib.Omega.{arith}
 use lib.Dec.{ltb}
@@ -267,13 +267,13 @@ counts_back c streams units obus e r =
     let room = ap (outputs_short streams units obus) h.1 ∙ r in
     sym (pass_on 45 h.0 (pass_on 8 room (ap (λ (b : Content). passed (counts_of b)) (sym h.1))))
 
-none_from : (units : List UnitRow) (n : ℕ) → row_at units n ≡ none → length units ≤ n
+none_from : (units : List UnitRow) (n : ℕ) → row_at units n ≡ None → length units ≤ n
 unfolding row_at
 none_from [] n e = omega arith
 none_from (u ∷ units) zero e = let z : ◌≡◌ {A = ℕ} 0 1 = cc in absurd (omega arith)
 none_from (u ∷ units) (suc n) e = let h = none_from units n e in omega arith
 
-from_none : (units : List UnitRow) (n : ℕ) → length units ≤ n → row_at units n ≡ none
+from_none : (units : List UnitRow) (n : ℕ) → length units ≤ n → row_at units n ≡ None
 unfolding row_at
 from_none [] n h = refl
 from_none (u ∷ units) zero h = absurd (omega arith)

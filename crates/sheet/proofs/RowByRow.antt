@@ -1,8 +1,8 @@
 -- The rows of a section one by one, as the loops over them go: the rows from here on say what the whole section says. Assumes nothing.
+use Rattle.std.specs.Prelude.{Some, None}
 use Prim.Native.Nat.{ℕ, zero, suc, ◌+◌, ◌-◌, ◌*◌, ◌≤◌, ◌<◌}
 use mathlib.Core.Bool.{Bool, true, false, not, ◌||◌}
-use mathlib.Core.Option.{none, some}
-use mathlib.Core.Path.{◌≡◌, refl, sym, ap, ◌∙◌}
+use mathlib.Core.Path.{◌≡◌, refl, sym, ap, ap₂, ◌∙◌}
 use mathlib.Core.List.{List, [], ◌∷◌}
 use native.Mathlib.Omega.{arith}
 use lib.Dec.{eqb}
@@ -34,6 +34,32 @@ module _ {A : Type 0} (row : ℕ → A) (width : ℕ) where
   length_rows zero i = refl
   length_rows (suc n) i = ap suc (length_rows n (i + width))
 
+-- the first of them, and the next, as a loop over their indexes has them
+module _ {A : Type 0} (row : ℕ → A) (count i : ℕ) where
+  pub pairs_first : rows row 2 count i ≡ rows row 2 (count - 0) (i + 2 * 0)
+  pairs_first =
+      let m : count ≡ count - 0 = omega arith in
+      let k : i ≡ i + 2 * 0 = omega arith in
+      ap₂ (λ (x y : ℕ). rows row 2 x y) m k
+
+  pub pairs_step : (n : ℕ) → rows row 2 (count - n - 1) (i + 2 * n + 2) ≡ rows row 2 (count - (n + 1)) (i + 2 * (n + 1))
+  pairs_step n =
+      let m : count - n - 1 ≡ count - (n + 1) = omega arith in
+      let k : i + 2 * n + 2 ≡ i + 2 * (n + 1) = omega arith in
+      ap₂ (λ (x y : ℕ). rows row 2 x y) m k
+
+  pub fours_first : rows row 4 count i ≡ rows row 4 (count - 0) (i + 4 * 0)
+  fours_first =
+      let m : count ≡ count - 0 = omega arith in
+      let k : i ≡ i + 4 * 0 = omega arith in
+      ap₂ (λ (x y : ℕ). rows row 4 x y) m k
+
+  pub fours_step : (n : ℕ) → rows row 4 (count - n - 1) (i + 4 * n + 4) ≡ rows row 4 (count - (n + 1)) (i + 4 * (n + 1))
+  fours_step n =
+      let m : count - n - 1 ≡ count - (n + 1) = omega arith in
+      let k : i + 4 * n + 4 ≡ i + 4 * (n + 1) = omega arith in
+      ap₂ (λ (x y : ℕ). rows row 4 x y) m k
+
 module _ (s : Bytes) where
   -- the carried length of a unit, by its number, and its row
   pub length_at : (n i m : ℕ) → m < n → length_of (rows (unit_row s) 4 n i) m ≡ number s (i + 4 * m + 1)
@@ -44,15 +70,15 @@ module _ (s : Bytes) where
       let e : i + 4 + 4 * m + 1 ≡ i + 4 * suc m + 1 = omega arith in
       length_at n (i + 4) m (omega arith) ∙ ap (number s) e
 
-  pub row_at_lem : (n i m : ℕ) → m < n → some (unit_row s (i + 4 * m)) ≡ row_at (rows (unit_row s) 4 n i) m
+  pub row_at_lem : (n i m : ℕ) → m < n → Some (unit_row s (i + 4 * m)) ≡ row_at (rows (unit_row s) 4 n i) m
   unfolding rows row_at
   row_at_lem zero i m h = absurd (omega arith)
-  row_at_lem (suc n) i zero h = let e : i + 4 * 0 ≡ i = omega arith in ap (λ (k : ℕ). some (unit_row s k)) e
+  row_at_lem (suc n) i zero h = let e : i + 4 * 0 ≡ i = omega arith in ap (λ (k : ℕ). Some (unit_row s k)) e
   row_at_lem (suc n) i (suc m) h =
       let e : i + 4 * suc m ≡ i + 4 + 4 * m = omega arith in
-      ap (λ (k : ℕ). some (unit_row s k)) e ∙ row_at_lem n (i + 4) m (omega arith)
+      ap (λ (k : ℕ). Some (unit_row s k)) e ∙ row_at_lem n (i + 4) m (omega arith)
 
-  pub no_row_at : (n i m : ℕ) → n ≤ m → none ≡ row_at (rows (unit_row s) 4 n i) m
+  pub no_row_at : (n i m : ℕ) → n ≤ m → None ≡ row_at (rows (unit_row s) 4 n i) m
   unfolding rows row_at
   no_row_at zero i m h = refl
   no_row_at (suc n) i zero h = absurd (omega arith)
@@ -122,11 +148,11 @@ module _ (s : Bytes) where
         row_found f t = opened ∙ rw (sym f ∙ t)
 
         module _ {r : Bool} (f : r ≡ row_wrong units o) (t : r ≡ false) where
-          pub place_found : none ≡ placing p o → obus_wrong units p (rows (obu_row s) 4 n i) ≡ true
+          pub place_found : None ≡ placing p o → obus_wrong units p (rows (obu_row s) 4 n i) ≡ true
           unfolding placing
           place_found g = opened ∙ rw (sym f ∙ t, picked_none (misplaced p o) (after p o) g)
 
-          pub obus_on : (q : Progress) → some q ≡ placing p o
+          pub obus_on : (q : Progress) → Some q ≡ placing p o
               → obus_wrong units p (rows (obu_row s) 4 n i) ≡ obus_wrong units q (rows (obu_row s) 4 (n - 1) (i + 4))
           unfolding placing
           obus_on q g =

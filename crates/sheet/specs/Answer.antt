@@ -1,26 +1,10 @@
 -- What the answers of the code say, and what reading leaves in its outputs. Assumes nothing.
 use Rattle.std.specs.Prelude.{ℕ, ◌≡◌, List, length}
-use Rattle.std.proofs.Math.Option.{Option, none, some}
 use Rattle.lists.specs.Lists.{Bytes}
-use Rattle.refusal.specs.Verdict.{Verdict, passed, leaves}
-use Rattle.refusal.specs.Number.{refused_by}
+use Rattle.refusal.specs.Verdict.{Verdict, leaves}
 use Rattle.sheet.specs.Sheet.{numbers_of, stream_numbers, unit_numbers, obu_numbers}
 use Rattle.sheet.specs.Reading.{content_of, reading}
-use Rattle.sheet.specs.declared.rows.UnitRow.{UnitRow}
 use Rattle.sheet.specs.declared.rows.Counts.{Counts}
-use Rattle.sheet.specs.declared.reading.SheetRead.{SheetRead}
-use Rattle.sheet.specs.declared.reading.SheetRead.TheVariants as sheet_read
-use Rattle.sheet.specs.declared.finding.Found.{Found}
-use Rattle.sheet.specs.declared.finding.Found.TheVariants as found
-
-abbrev pub read_says : SheetRead → Verdict Counts
-read_says (sheet_read.Counts n) = passed n
-read_says (sheet_read.Refused r) = refused_by r
-
-abbrev pub found_says : Found → Verdict (Option UnitRow)
-found_says (found.Unit u) = passed (some u)
-found_says found.None = passed none
-found_says (found.Refused r) = refused_by r
 
 -- ---- the three outputs of reading
 -- the numbers of the streams, of the units and of the OBUs

@@ -1,17 +1,13 @@
 -- What the code's pass over the rows says, row by row; that this is what the conditions of 45 say is proved in
 -- proofs/Conditions.antt. Assumes nothing.
 use Rattle.std.specs.Prelude.{ℕ, ◌+◌, ◌*◌, Bool, true, false, not, ◌||◌, List, [], ◌∷◌, eqb, ltb, leb, length}
-use Rattle.std.proofs.Math.Option.{Option, none, some}
+use Rattle.std.specs.Prelude.{Option, Some, None}
 use Rattle.lists.specs.Lists.{Bytes, pick}
 use Rattle.sheet.specs.declared.rows.StreamRow.{StreamRow}
 use Rattle.sheet.specs.declared.rows.UnitRow.{UnitRow}
 use Rattle.sheet.specs.declared.rows.ObuRow.{ObuRow}
 use Rattle.sheet.specs.declared.obus.Progress.{Progress}
-use Rattle.sheet.specs.declared.obus.Step.{Step}
-use Rattle.sheet.specs.declared.obus.Step.TheVariants as step
 use Rattle.sheet.specs.declared.sections.Sections.{Sections}
-use Rattle.sheet.specs.declared.sections.Checked.{Checked}
-use Rattle.sheet.specs.declared.sections.Checked.TheVariants as checked
 use Rattle.sheet.specs.Reading.{number, rows, stream_count, unit_section, unit_count, obu_section, obu_count}
 use Rattle.sheet.specs.Reading.{content_of, length_wrong, count_past, length_of, end, wrong}
 
@@ -61,11 +57,7 @@ obus_wrong units p (o ∷ obus) = (row_wrong units o || misplaced p o) || obus_w
 
 -- the progress behind an OBU that has its place
 unfoldable pub placing : Progress → ObuRow → Option Progress
-placing p o = pick (misplaced p o) none (some (after p o))
-
-abbrev pub step_says : Step → Option Progress
-step_says (step.Progress p) = some p
-step_says step.Wrong = none
+placing p o = pick (misplaced p o) None (Some (after p o))
 
 -- ---- where the sections' rows stand, and how many there are
 abbrev pub sections_of : Bytes → Sections
@@ -83,14 +75,10 @@ unfoldable pub form_wrong : Bytes → Bool
 form_wrong s = length_wrong s || count_past (content_of s)
 
 unfoldable pub measuring : Bytes → Option Sections
-measuring s = pick (form_wrong s) none (some (sections_of s))
+measuring s = pick (form_wrong s) None (Some (sections_of s))
 
 unfoldable pub checking : Bytes → Option Sections
-checking s = pick (wrong s) none (some (sections_of s))
-
-abbrev pub checked_says : Checked → Option Sections
-checked_says (checked.Sections t) = some t
-checked_says checked.Wrong = none
+checking s = pick (wrong s) None (Some (sections_of s))
 
 -- outputs with room for so many numbers are too short for the sections' rows
 unfoldable pub rooms_short : Sections → ℕ → ℕ → ℕ → Bool

@@ -1,8 +1,8 @@
 -- Reading a sheet, and finding a unit in it. The words of document 02, request 2026-09, stand over each definition.
 -- Assumes nothing.
 use Rattle.std.specs.Prelude.{ℕ, zero, suc, ◌+◌, ◌*◌, Bool, false, not, ◌&&◌, ◌||◌, List, [], ◌∷◌, map, eqb, ltb, leb}
+use Rattle.std.specs.Prelude.{Option, Some, None}
 use Rattle.std.specs.Prelude.{length, take, drop, get_or}
-use Rattle.std.proofs.Math.Option.{Option, none, some}
 use Rattle.lists.specs.Lists.{Bytes, any, those}
 use Rattle.lists.specs.Bytes.{word}
 use Rattle.refusal.specs.Verdict.{Verdict, passed, ◌>>◌, given}
@@ -208,8 +208,8 @@ reading s streams units obus = do
 -- ---- finding a unit
 -- "a unit found by number, from 0, .. or none exactly from the unit count on"
 unfoldable pub row_at : List UnitRow → ℕ → Option UnitRow
-row_at [] n = none
-row_at (u ∷ units) zero = some u
+row_at [] n = None
+row_at (u ∷ units) zero = Some u
 row_at (u ∷ units) (suc n) = row_at units n
 
 -- in a bad sheet 45

@@ -1,6 +1,5 @@
 -- What holds of sheets, as statements; they are proved in proofs/RoundTrip.antt. Assumes nothing.
-use Rattle.std.specs.Prelude.{ℕ, ◌+◌, ◌*◌, ◌^◌, ◌≤◌, Bool, true, false, ◌≡◌, ◌↔◌, ltb, length}
-use Rattle.std.proofs.Math.Option.{none}
+use Rattle.std.specs.Prelude.{ℕ, ◌+◌, ◌*◌, ◌^◌, ◌≤◌, Bool, true, false, ◌≡◌, ◌↔◌, ltb, length, None}
 use Rattle.lists.specs.Lists.{all}
 use Rattle.refusal.specs.Verdict.{passed}
 use Rattle.sheet.specs.Sheet.{Content, sheet_numbers, sheet_of}
@@ -21,7 +20,7 @@ CountsBack =
 abbrev pub FindsUnits : Type 0
 FindsUnits =
     (c : Content) (n : ℕ) → content_wrong c ≡ false
-    → (finding (sheet_of c) n ≡ passed (row_at c.units n)) × ((row_at c.units n ≡ none) ↔ (length c.units ≤ n))
+    → (finding (sheet_of c) n ≡ passed (row_at c.units n)) × ((row_at c.units n ≡ None) ↔ (length c.units ≤ n))
 
 -- its numbers, counts too, fit 8 bytes; those of a content of which no condition of 45 holds do
 unfoldable pub fits : Content → Bool

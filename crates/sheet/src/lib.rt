@@ -10,6 +10,6 @@ mod rows;
 mod sections;
 mod units;
 
-pub use finding::{Found, find_unit};
-pub use reading::{SheetRead, read};
+pub use finding::find_unit;
+pub use reading::read;
 pub use rows::{Counts, ObuRow, StreamRow, UnitRow};

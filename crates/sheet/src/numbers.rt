@@ -6,25 +6,19 @@ ghost use Rattle.sheet.specs.Reading.{stream_row, unit_row, obu_row};
 ghost use Rattle.sheet.specs.Passing.{numbers_from};
 
 use crate::rows::{ObuRow, StreamRow, UnitRow};
-use lists::byte_at;
 
-// The number with this index.
+// Returns the number with this index.
 pub(crate) fn number(sheet: &[u8], i: usize) -> u64
     requires { 8 * (i + 1) ≤ length sheet.now }
     ensures { result ≡ reading_number sheet.now i }
 {
     let at = 8 * i;
-    let mut value: u64 = 0;
-    let mut k: usize = 0;
-    while k < 8 {
-        let b = byte_at(sheet, at + k);
-        value = value * 256 + b as u64;
-        k += 1;
-    }
-    value
+    let mut bytes = [0u8; 8];
+    bytes.copy_from_slice(&sheet[at..at + 8]);
+    u64::from_be_bytes(bytes)
 }
 
-// The stream that begins at number i.
+// Returns the stream that begins at number `i`.
 pub(crate) fn stream_row(sheet: &[u8], i: usize) -> StreamRow
     requires { 8 * (i + 2) ≤ length sheet.now }
     ensures { result ≡ stream_row sheet.now i }
@@ -35,7 +29,7 @@ pub(crate) fn stream_row(sheet: &[u8], i: usize) -> StreamRow
     }
 }
 
-// The unit that begins at number i.
+// Returns the unit that begins at number `i`.
 pub(crate) fn unit_row(sheet: &[u8], i: usize) -> UnitRow
     requires { 8 * (i + 4) ≤ length sheet.now }
     ensures { result ≡ unit_row sheet.now i }
@@ -48,7 +42,7 @@ pub(crate) fn unit_row(sheet: &[u8], i: usize) -> UnitRow
     }
 }
 
-// The OBU that begins at number i.
+// Returns the OBU that begins at number `i`.
 pub(crate) fn obu_row(sheet: &[u8], i: usize) -> ObuRow
     requires { 8 * (i + 4) ≤ length sheet.now }
     ensures { result ≡ obu_row sheet.now i }
@@ -61,14 +55,12 @@ pub(crate) fn obu_row(sheet: &[u8], i: usize) -> ObuRow
     }
 }
 
-// So many numbers from number i on, which have room, over the front of out.
+// Writes `count` numbers from number `i` on, which have room, over the front of `out`.
 pub(crate) fn copy_numbers(sheet: &[u8], i: usize, count: usize, out: &mut [u64])
     requires { (8 * (i + count) ≤ length sheet.now) × (count ≤ length out.old) }
     ensures { out.new ≡ over (numbers_from sheet.now count i) out.old }
 {
-    let mut k: usize = 0;
-    while k < count {
+    for k in 0..count {
         out[k] = number(sheet, i + k);
-        k += 1;
     }
 }

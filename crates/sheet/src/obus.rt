@@ -1,7 +1,7 @@
 // The OBUs in turn.
 ghost use Rattle.std.specs.Prelude.{◌≡◌, false, ◌+◌, ◌*◌, ◌≤◌, ◌<◌, ltb, length};
 ghost use Rattle.sheet.specs.Reading.{rows, unit_row, obu_row, end};
-ghost use Rattle.sheet.specs.Passing.{at_first, row_wrong, placing, step_says, obus_wrong};
+ghost use Rattle.sheet.specs.Passing.{at_first, row_wrong, placing, obus_wrong};
 
 use crate::numbers::{number, obu_row};
 use crate::rows::ObuRow;
@@ -20,14 +20,7 @@ struct Progress {
     end: u64,
 }
 
-// The progress behind an OBU, or the OBU has no place there.
-#[derive(Drop)]
-enum Step {
-    Progress(Progress),
-    Wrong,
-}
-
-// Whether a payload passes the length of its unit.
+// Returns true if a payload passes the length of its unit.
 fn passes(row: ObuRow, length: u64) -> bool
     ensures { result ≡ ltb length (end row) }
 {
@@ -37,7 +30,7 @@ fn passes(row: ObuRow, length: u64) -> bool
     length - row.offset < row.length
 }
 
-// Whether an OBU is wrong by itself, of so many units, whose rows begin at number unit_rows.
+// Returns true if an OBU is wrong by itself, of `units` units, whose rows begin at number `unit_rows`.
 fn row_wrong(sheet: &[u8], unit_rows: usize, units: usize, row: ObuRow) -> bool
     requires { (8 * (unit_rows + 4 * units) ≤ length sheet.now) × (units ≤ 1024) }
     ensures value { result ≡ row_wrong (rows (unit_row sheet.now) 4 units unit_rows) row }
@@ -58,36 +51,36 @@ fn row_wrong(sheet: &[u8], unit_rows: usize, units: usize, row: ObuRow) -> bool
 }
 
 // The progress behind an OBU.
-fn place(progress: Progress, row: ObuRow) -> Step
+fn place(progress: Progress, row: ObuRow) -> Option<Progress>
     requires { (row.unit < 1024) × (end row < 18446744073709551616) }
-    ensures { step_says result ≡ placing progress row }
+    ensures { result ≡ placing progress row }
 {
     let begun = row.unit + 1;
     let end = row.offset + row.length;
     if row.unit == progress.begun {
-        return Step::Progress(Progress {
+        return Some(Progress {
             begun,
             count: 1,
             end,
         });
     }
     if begun != progress.begun {
-        return Step::Wrong;
+        return None;
     }
     if MOST_IN_UNIT <= progress.count {
-        return Step::Wrong;
+        return None;
     }
     if row.offset < progress.end {
-        return Step::Wrong;
+        return None;
     }
-    Step::Progress(Progress {
+    Some(Progress {
         begun,
         count: progress.count + 1,
         end,
     })
 }
 
-// Whether one of the OBUs is wrong, or a unit has none.
+// Returns true if one of the OBUs is wrong, or a unit has none.
 pub(crate) fn obus_wrong(sheet: &[u8], sections: Sections) -> bool
     requires { (8 * (sections.unit_rows + 4 * sections.units) ≤ length sheet.now) × (sections.units ≤ 1024)
         × (8 * (sections.obu_rows + 4 * sections.obus) ≤ length sheet.now) }
@@ -100,20 +93,16 @@ pub(crate) fn obus_wrong(sheet: &[u8], sections: Sections) -> bool
         count: 0,
         end: 0,
     };
-    let mut i = sections.obu_rows;
-    let mut left = sections.obus;
-    while 0 < left {
-        let row = obu_row(sheet, i);
+    for n in 0..sections.obus {
+        let row = obu_row(sheet, sections.obu_rows + 4 * n);
         if row_wrong(sheet, sections.unit_rows, sections.units, row) {
             return true;
         }
         let step = place(progress, row);
-        let Step::Progress(next) = step else {
+        let Some(next) = step else {
             return true;
         };
         progress = next;
-        i += 4;
-        left -= 1;
     }
     progress.begun != sections.units as u64
 }

@@ -1,6 +1,6 @@
 // Where the rows of the sections stand.
 ghost use Rattle.std.specs.Prelude.{◌≡◌};
-ghost use Rattle.sheet.specs.Passing.{measuring, checked_says};
+ghost use Rattle.sheet.specs.Passing.{measuring};
 
 use crate::numbers::number;
 
@@ -21,45 +21,38 @@ pub(crate) struct Sections {
     pub obu_rows: usize,
 }
 
-// The sections, or something is wrong with the sheet.
-#[derive(Drop)]
-pub(crate) enum Checked {
-    Sections(Sections),
-    Wrong,
-}
-
 // The sections of a sheet whose counts and length are right.
-pub(crate) fn measure(sheet: &[u8]) -> Checked
-    ensures { checked_says result ≡ measuring sheet.now }
+pub(crate) fn measure(sheet: &[u8]) -> Option<Sections>
+    ensures { result ≡ measuring sheet.now }
 {
     let bytes = sheet.len();
     if bytes < 8 {
-        return Checked::Wrong;
+        return None;
     }
     let streams = number(sheet, 0);
     if MOST_STREAMS < streams {
-        return Checked::Wrong;
+        return None;
     }
     let unit_section = 1 + 2 * streams as usize;
     if bytes < 8 * (unit_section + 1) {
-        return Checked::Wrong;
+        return None;
     }
     let units = number(sheet, unit_section);
     if MOST_UNITS < units {
-        return Checked::Wrong;
+        return None;
     }
     let obu_section = unit_section + 1 + 4 * units as usize;
     if bytes < 8 * (obu_section + 1) {
-        return Checked::Wrong;
+        return None;
     }
     let obus = number(sheet, obu_section);
     if MOST_OBUS < obus {
-        return Checked::Wrong;
+        return None;
     }
     if bytes != 8 * (obu_section + 1 + 4 * obus as usize) {
-        return Checked::Wrong;
+        return None;
     }
-    Checked::Sections(Sections {
+    Some(Sections {
         streams: streams as usize,
         units: units as usize,
         obus: obus as usize,

@@ -21,7 +21,7 @@ const MOST_CARRIED: u64 = 1573056;
 // The highest time: the one that a unit without times has.
 const MOST_TIME: u64 = 8589934592;
 
-// Whether a stream is past its bounds.
+// Returns true if a stream is past its bounds.
 fn stream_wrong(row: StreamRow) -> bool
     ensures { result ≡ stream_wrong row }
 {
@@ -31,24 +31,20 @@ fn stream_wrong(row: StreamRow) -> bool
     MOST_STREAM_TYPE < row.stream_type
 }
 
-// Whether one of so many streams is.
+// Returns true if one of `count` streams is.
 pub(crate) fn streams_wrong(sheet: &[u8], count: usize) -> bool
     requires { 8 * (1 + 2 * count) ≤ length sheet.now }
     ensures { result ≡ any stream_wrong (rows (stream_row sheet.now) 2 count 1) }
 {
-    let mut i: usize = 1;
-    let mut left = count;
-    while 0 < left {
-        if stream_wrong(stream_row(sheet, i)) {
+    for n in 0..count {
+        if stream_wrong(stream_row(sheet, 1 + 2 * n)) {
             return true;
         }
-        i += 2;
-        left -= 1;
     }
     false
 }
 
-// Whether a unit begins too early or is past its bounds.
+// Returns true if a unit begins too early or is past its bounds.
 fn unit_wrong(low: u64, row: UnitRow) -> bool
     ensures { result ≡ unit_wrong low row }
 {
@@ -67,22 +63,18 @@ fn unit_wrong(low: u64, row: UnitRow) -> bool
     MOST_TIME < row.dts
 }
 
-// Whether one of so many units, which begin at number i, does.
+// Returns true if one of `count` units, which begin at number `at`, does.
 pub(crate) fn units_wrong(sheet: &[u8], at: usize, count: usize) -> bool
     requires { 8 * (at + 4 * count) ≤ length sheet.now }
     ensures { result ≡ units_wrong 0 (rows (unit_row sheet.now) 4 count at) }
 {
     let mut low: u64 = 0;
-    let mut i = at;
-    let mut left = count;
-    while 0 < left {
-        let row = unit_row(sheet, i);
+    for n in 0..count {
+        let row = unit_row(sheet, at + 4 * n);
         if unit_wrong(low, row) {
             return true;
         }
         low = row.first_packet + 1;
-        i += 4;
-        left -= 1;
     }
     false
 }

@@ -1,8 +1,9 @@
 -- What a packet's PID is, from the tables as the code keeps them, and the last PCR that counted. Assumes nothing.
+use Rattle.std.specs.Prelude.{Option, Some, None}
+use Rattle.std.specs.Option.{option_or}
 use Prim.Native.Nat.{ℕ, suc}
-use mathlib.Core.Path.{◌≡◌, refl, sym, ap, ◌∙◌}
+use mathlib.Core.Path.{◌≡◌, refl, sym, ap, ap₂, ◌∙◌}
 use mathlib.Core.List.{List, [], ◌∷◌}
-use mathlib.Core.Option.{Option, none, some}
 use native.Mathlib.Omega.{arith}
 use borrow.Author.Tests.{eq-eqb, ne_eqb}
 use lib.Dec.{eqb}
@@ -11,14 +12,10 @@ use Rattle.lists.specs.Lists.{Bytes, pick, any}
 use Rattle.lists.proofs.Picks.{by_eq, by_ne, by_true, by_false}
 use Rattle.ticks.specs.declared.Ticks27.{Ticks27}
 use Rattle.descriptor.specs.Naming.{edition_says}
-use Rattle.packet.specs.declared.header.Clock.{Clock}
-use Rattle.packet.specs.declared.header.Clock.TheVariants as clock
 use Rattle.packet.specs.declared.header.Header.{Header}
-use Rattle.packet.specs.declared.streams.Slot.{Slot}
-use Rattle.packet.specs.declared.streams.Slot.TheVariants as slots
 use Rattle.packet.specs.Header.{pid, null_pid, pcr, fields}
 use Rattle.packet.specs.Counter.{StreamRecord, pids_of, record_of}
-use Rattle.packet.specs.Streams.{look_up, look_up_from, listed_pids, numbers_of}
+use Rattle.packet.specs.Streams.{look_up, look_up_from, listed_pids, streams_of}
 use Rattle.packet.proofs.Slots.{look_up_none}
 use Rattle.packet.proofs.Recorded.{next_slot, look_first, look_past, look_nowhere, any_at, any_none, unrecorded_none}
 use Rattle.pmt.specs.Pmt.{MapEntry, is_av1, pids}
@@ -32,32 +29,31 @@ use Rattle.segment_rules.proofs.Naming.{pat_before}
 use Rattle.tables.specs.declared.state.Kind.{Kind}
 use Rattle.tables.specs.declared.state.Kind.TheVariants as slot
 use Rattle.tables.specs.declared.state.PatFound.{PatFound}
-use Rattle.tables.specs.declared.state.PatSeen.TheVariants as pat
 use Rattle.tables.specs.declared.state.PmtFound.{PmtFound}
-use Rattle.tables.specs.declared.state.PmtSeen.TheVariants as pmt
 use Rattle.tables.specs.declared.tables.Tables.{Tables}
+use Rattle.packet.specs.declared.streams.Streams.{Streams}
 use Rattle.tables.specs.Tables.{tables_kept, Kept, kind_says, slot_in}
 use Rattle.tables.proofs.Seeing.{no_pat_yet, pat_yet, no_pmt_yet, pmt_yet, no_pat_pids, no_pmt_pids, all_pids, all_records}
 use Rattle.tables.proofs.Seeing.{pmt_says, few_entries}
 use Rattle.packet.proofs.Keeping.{listed_kept, look_behind_two}
 
 -- ---- the lookup among the PIDs that are named
-zero_first : (n : ℕ) (q : Option FirstPat) (m : Option FirstPmt) → n ≡ 0 → look_up n (named_pids q m) ≡ slots.At 0
-zero_first n none m e = look_first n 0 [] e
-zero_first n (some q) none e = look_first n 0 _ e
-zero_first n (some q) (some m) e = look_first n 0 _ e
+zero_first : (n : ℕ) (q : Option FirstPat) (m : Option FirstPmt) → n ≡ 0 → look_up n (named_pids q m) ≡ Some 0
+zero_first n None m e = look_first n 0 [] e
+zero_first n (Some q) None e = look_first n 0 _ e
+zero_first n (Some q) (Some m) e = look_first n 0 _ e
 
-map_second : (n : ℕ) (q : FirstPat) (m : Option FirstPmt) → (n ≡ 0 → ⊥) → n ≡ q.says.map_pid → look_up n (named_pids (some q) m) ≡
-    slots.At 1
-map_second n q none z e = look_past n 0 _ z ∙ ap next_slot (look_first n q.says.map_pid _ e)
-map_second n q (some m) z e = look_past n 0 _ z ∙ ap next_slot (look_first n q.says.map_pid _ e)
+map_second : (n : ℕ) (q : FirstPat) (m : Option FirstPmt) → (n ≡ 0 → ⊥) → n ≡ q.says.map_pid → look_up n (named_pids (Some q) m) ≡
+    Some 1
+map_second n q None z e = look_past n 0 _ z ∙ ap next_slot (look_first n q.says.map_pid _ e)
+map_second n q (Some m) z e = look_past n 0 _ z ∙ ap next_slot (look_first n q.says.map_pid _ e)
 
 -- a PID that is neither of the first two is among the others, or is not
 behind_two : (n a b : ℕ) (l : List ℕ) → (n ≡ a → ⊥) → (n ≡ b → ⊥) → any (eqb n) (a ∷ b ∷ l) ≡ any (eqb n) l
 unfolding any
 behind_two n a b l z y = rw (ne_eqb n a z, ne_eqb n b y)
 
-module _ {segment : Bytes} {c : Tables} {numbers : List ℕ} {t : state.Tables} (k : Kept segment c numbers t) (n : ℕ) where
+module _ {segment : Bytes} {c : Tables} {streams : Streams} {t : state.Tables} (k : Kept segment c streams t) (n : ℕ) where
   abbrev Is : Kind → Type 0
   Is j = (kind_says j ≡ kind_of t n) × (look_up n (pids_of t.records) ≡ slot_in j)
 
@@ -76,7 +72,7 @@ module _ {segment : Bytes} {c : Tables} {numbers : List ℕ} {t : state.Tables} 
       unfolding kind_of
       neither_of e = by_ne _ a (by_ne _ b e)
 
-      pub no_pat : c.pat ≡ pat.None → Is slot.Unlisted
+      pub no_pat : c.pat ≡ None → Is slot.Unlisted
       unfolding is_map_pid listed_as pick
       no_pat e =
           let q = no_pat_yet t k.tables e in
@@ -85,7 +81,7 @@ module _ {segment : Bytes} {c : Tables} {numbers : List ℕ} {t : state.Tables} 
             ap (look_up n) (no_pat_pids k.valid q) ∙ look_past n 0 [] b ∙ ap next_slot (look_nowhere n),
           )
 
-      module _ (f : PatFound) (e : c.pat ≡ pat.First f) where
+      module _ (f : PatFound) (e : c.pat ≡ Some f) where
         same_pid : f.says.map_pid ≡ (pat_yet t k.tables f e).0.says.map_pid
         same_pid = ap (λ (x : PatFound). x.says.map_pid) (pat_yet t k.tables f e).2
 
@@ -109,20 +105,20 @@ module _ {segment : Bytes} {c : Tables} {numbers : List ℕ} {t : state.Tables} 
             )
 
   -- ---- among the listed PIDs
-  module _ (f : PatFound) (e : c.pat ≡ pat.First f) (b : n ≡ 0 → ⊥) (d : n ≡ f.says.map_pid → ⊥) where
+  module _ (f : PatFound) (e : c.pat ≡ Some f) (b : n ≡ 0 → ⊥) (d : n ≡ f.says.map_pid → ⊥) where
     abbrev ListedIs : Kind → Type 0
     ListedIs j = (kind_says j ≡ listed_as t.pmt n) × (look_up n (pids_of t.records) ≡ slot_in j)
 
     abbrev the_pat : FirstPat
     the_pat = (pat_yet t k.tables f e).0
 
-    abbrev pat_there : t.pat ≡ some the_pat
+    abbrev pat_there : t.pat ≡ Some the_pat
     pat_there = (pat_yet t k.tables f e).1
 
     other : n ≡ the_pat.says.map_pid → ⊥
     other z = d (z ∙ sym (ap (λ (x : PatFound). x.says.map_pid) (pat_yet t k.tables f e).2))
 
-    pub no_map_lem : c.pmt ≡ pmt.None → ListedIs slot.Unlisted
+    pub no_map_lem : c.pmt ≡ None → ListedIs slot.Unlisted
     unfolding listed_as
     no_map_lem h =
         let m = no_pmt_yet t k.tables h in (
@@ -131,11 +127,11 @@ module _ {segment : Bytes} {c : Tables} {numbers : List ℕ} {t : state.Tables} 
               ∙ ap next_slot (look_past n _ [] other ∙ ap next_slot (look_nowhere n)),
         )
 
-    module _ (g : PmtFound) (h : c.pmt ≡ pmt.First g) where
+    module _ (g : PmtFound) (h : c.pmt ≡ Some g) where
       abbrev the_map : FirstPmt
       the_map = (pmt_yet t k.tables g h).0
 
-      abbrev map_there : t.pmt ≡ some the_map
+      abbrev map_there : t.pmt ≡ Some the_map
       map_there = (pmt_yet t k.tables g h).1
 
       abbrev entries : List MapEntry
@@ -145,7 +141,7 @@ module _ {segment : Bytes} {c : Tables} {numbers : List ℕ} {t : state.Tables} 
       named = all_pids k.valid the_pat pat_there the_map map_there
 
       -- the code looks among the listed PIDs alone
-      module _ (l : Slot) (looked : l ≡ look_up_from 2 n (listed_pids g.listed numbers)) where
+      module _ (l : Option ℕ) (looked : l ≡ look_up_from 2 n (listed_pids g.listed streams)) where
         in_all : look_up n (pids_of t.records) ≡ l
         in_all =
             let all = all_records k.valid the_pat pat_there the_map map_there in
@@ -157,11 +153,11 @@ module _ {segment : Bytes} {c : Tables} {numbers : List ℕ} {t : state.Tables} 
             ∙ length-map rest (λ (x : StreamRecord). x.pid) in
             ap (look_up n) named ∙ look_behind_two n 0 _ (pids entries) b other
             ∙ ap (look_up_from 2 n) (sym all.4 ∙ sym (listed_kept all.0 all.1 rest (omega (arith, few, count, many)))
-            ∙ ap (λ (x : List StreamRecord). listed_pids (length rest) (numbers_of x)) (sym all.3)
-            ∙ ap (listed_pids (length rest)) (sym k.records) ∙ ap (λ (x : ℕ). listed_pids x numbers) (sym many))
+            ∙ ap (λ (x : List StreamRecord). listed_pids (length rest) (streams_of x)) (sym all.3)
+            ∙ ap (listed_pids (length rest)) (sym k.records) ∙ ap (λ (x : ℕ). listed_pids x streams) (sym many))
             ∙ sym looked
 
-        seen_as : {x : state.Kind} → x ≡ listed_as (some the_map) n → x ≡ listed_as t.pmt n
+        seen_as : {x : state.Kind} → x ≡ listed_as (Some the_map) n → x ≡ listed_as t.pmt n
         seen_as z = z ∙ ap (λ (m : Option FirstPmt). listed_as m n) (sym map_there)
 
         found : look_up n (0 ∷ the_pat.says.map_pid ∷ pids entries) ≡ l
@@ -170,7 +166,7 @@ module _ {segment : Bytes} {c : Tables} {numbers : List ℕ} {t : state.Tables} 
         among : any (eqb n) (0 ∷ the_pat.says.map_pid ∷ pids entries) ≡ any (eqb n) (pids entries)
         among = behind_two n 0 the_pat.says.map_pid (pids entries) b other
 
-        pub in_no_slot : l ≡ slots.None → ListedIs slot.Unlisted
+        pub in_no_slot : l ≡ None → ListedIs slot.Unlisted
         unfolding listed_as
         in_no_slot z =
             let one = (pmt_says k.valid the_pat pat_there the_map map_there).one in
@@ -184,7 +180,7 @@ module _ {segment : Bytes} {c : Tables} {numbers : List ℕ} {t : state.Tables} 
               in_all ∙ z,
             )
 
-        module _ (i : ℕ) (z : l ≡ slots.At i) where
+        module _ (i : ℕ) (z : l ≡ Some i) where
           av1_there : g.av1_pid ≡ the_map.says.av1.pid
           av1_there = ap (λ (x : PmtFound). x.av1_pid) (pmt_yet t k.tables g h).2
 
@@ -201,21 +197,21 @@ module _ {segment : Bytes} {c : Tables} {numbers : List ℕ} {t : state.Tables} 
 
 -- ---- the last PCR that counted
 module _ {c : Tables} (t : state.Tables) (kept : c ≡ tables_kept c.edition t) (p : Bytes) (h : Header) (e : h ≡ fields p) where
-  abbrev last : Clock
+  abbrev last : (Option Ticks27)
   last = last_pcr t.pcr (counting_pcr t.pmt p)
 
-  as_before : counting_pcr t.pmt p ≡ clock.None → c.pcr ≡ last
+  as_before : counting_pcr t.pmt p ≡ None → c.pcr ≡ last
   as_before k = ap (λ (x : Tables). x.pcr) kept ∙ ap (last_pcr t.pcr) (sym k)
 
-  pub no_map_yet : c.pmt ≡ pmt.None → c.pcr ≡ last
+  pub no_map_yet : c.pmt ≡ None → c.pcr ≡ last
   unfolding counting_pcr
   no_map_yet k = as_before (ap (λ (m : Option FirstPmt). counting_pcr m p) (no_pmt_yet t kept k))
 
-  module _ (g : PmtFound) (k : c.pmt ≡ pmt.First g) where
+  module _ (g : PmtFound) (k : c.pmt ≡ Some g) where
     pcr_pid_lem : g.pcr_pid ≡ (pmt_yet t kept g k).0.says.pcr_pid
     pcr_pid_lem = ap (λ (x : PmtFound). x.pcr_pid) (pmt_yet t kept g k).2
 
-    counts_by : counting_pcr t.pmt p ≡ pick (eqb (pid p) (pmt_yet t kept g k).0.says.pcr_pid) (pcr p) clock.None
+    counts_by : counting_pcr t.pmt p ≡ pick (eqb (pid p) (pmt_yet t kept g k).0.says.pcr_pid) (pcr p) None
     unfolding counting_pcr
     counts_by = ap (λ (m : Option FirstPmt). counting_pcr m p) (pmt_yet t kept g k).1
 
@@ -226,8 +222,10 @@ module _ {c : Tables} (t : state.Tables) (kept : c ≡ tables_kept c.edition t) 
       here : counting_pcr t.pmt p ≡ h.pcr
       here = counts_by ∙ sym (by_eq _ (sym (ap (λ (x : Header). x.pid) e) ∙ q ∙ pcr_pid_lem) (ap (λ (x : Header). x.pcr) e))
 
-      pub with_clock : (r : Clock) (x : Ticks27) → h.pcr ≡ clock.Pcr x → r ≡ clock.Pcr x → r ≡ last
-      with_clock r x z y = y ∙ sym (ap (last_pcr t.pcr) (here ∙ z))
-
-      pub without_clock : h.pcr ≡ clock.None → c.pcr ≡ last
-      without_clock z = as_before (here ∙ z)
+      pub this_pid : (r : Option Ticks27) → r ≡ option_or h.pcr c.pcr → r ≡ last
+      this_pid r y =
+          y ∙ either h.pcr ∙ ap₂ last_pcr (ap (λ (x : Tables). x.pcr) kept) (sym here)
+        where
+          either : (o : Option Ticks27) → option_or o c.pcr ≡ last_pcr c.pcr o
+          either None = refl
+          either (Some x) = refl

@@ -1,9 +1,9 @@
 -- Which sections were seen, from the tables as the code keeps them (`pat_yet`, `pmt_yet`), and which records there are then
 -- (`one_record`, `two_records`, `all_records`). Assumes nothing.
+use Rattle.std.specs.Prelude.{Option, Some, None}
 use Prim.Native.Nat.{ℕ, ◌≤◌}
 use mathlib.Core.Path.{◌≡◌, refl, sym, ap, ap₂, subst, ◌∙◌}
 use mathlib.Core.List.{List, [], ◌∷◌}
-use mathlib.Core.Option.{Option, none, some}
 use native.Mathlib.Omega.{arith}
 use lib.ListN.{length}
 use Rattle.lists.specs.Lists.{Bytes}
@@ -17,9 +17,7 @@ use Rattle.segment_rules.specs.State.{FirstPat, FirstPmt}
 use Rattle.segment_rules.specs.Named.{named_pids}
 use Rattle.segment_rules.specs.Lying.{section_in, PatLies, PmtLies, Valid}
 use Rattle.tables.specs.declared.state.PatFound.{PatFound}
-use Rattle.tables.specs.declared.state.PatSeen.TheVariants as pat
 use Rattle.tables.specs.declared.state.PmtFound.{PmtFound}
-use Rattle.tables.specs.declared.state.PmtSeen.TheVariants as pmt
 use Rattle.tables.specs.declared.tables.Tables.{Tables}
 use Rattle.tables.specs.Tables.{pat_kept, pmt_kept, tables_kept}
 
@@ -38,33 +36,33 @@ pmt_found m =
     }
 
 module _ {c : Tables} (t : state.Tables) (kept : c ≡ tables_kept c.edition t) where
-  pub no_pat_yet : c.pat ≡ pat.None → t.pat ≡ none
+  pub no_pat_yet : c.pat ≡ None → t.pat ≡ None
   no_pat_yet k = go t.pat (sym (ap (λ (x : Tables). x.pat) kept) ∙ k)
     where
-      go : (q : Option FirstPat) → pat_kept q ≡ pat.None → q ≡ none
-      go none h = refl
-      go (some f) h = apart (cc)
+      go : (q : Option FirstPat) → pat_kept q ≡ None → q ≡ None
+      go None h = refl
+      go (Some f) h = apart (cc)
 
-  pub pat_yet : (f : PatFound) → c.pat ≡ pat.First f → (first : FirstPat) × (t.pat ≡ some first) × (f ≡ pat_found first)
+  pub pat_yet : (f : PatFound) → c.pat ≡ Some f → (first : FirstPat) × (t.pat ≡ Some first) × (f ≡ pat_found first)
   pat_yet f k = go t.pat (sym (ap (λ (x : Tables). x.pat) kept) ∙ k)
     where
-      go : (q : Option FirstPat) → pat_kept q ≡ pat.First f → (first : FirstPat) × (q ≡ some first) × (f ≡ pat_found first)
-      go none h = apart (cc)
-      go (some first) h = (first, refl, cc)
+      go : (q : Option FirstPat) → pat_kept q ≡ Some f → (first : FirstPat) × (q ≡ Some first) × (f ≡ pat_found first)
+      go None h = apart (cc)
+      go (Some first) h = (first, refl, cc)
 
-  pub no_pmt_yet : c.pmt ≡ pmt.None → t.pmt ≡ none
+  pub no_pmt_yet : c.pmt ≡ None → t.pmt ≡ None
   no_pmt_yet k = go t.pmt (sym (ap (λ (x : Tables). x.pmt) kept) ∙ k)
     where
-      go : (q : Option FirstPmt) → pmt_kept q ≡ pmt.None → q ≡ none
-      go none h = refl
-      go (some f) h = apart (cc)
+      go : (q : Option FirstPmt) → pmt_kept q ≡ None → q ≡ None
+      go None h = refl
+      go (Some f) h = apart (cc)
 
-  pub pmt_yet : (g : PmtFound) → c.pmt ≡ pmt.First g → (first : FirstPmt) × (t.pmt ≡ some first) × (g ≡ pmt_found first)
+  pub pmt_yet : (g : PmtFound) → c.pmt ≡ Some g → (first : FirstPmt) × (t.pmt ≡ Some first) × (g ≡ pmt_found first)
   pmt_yet g k = go t.pmt (sym (ap (λ (x : Tables). x.pmt) kept) ∙ k)
     where
-      go : (q : Option FirstPmt) → pmt_kept q ≡ pmt.First g → (first : FirstPmt) × (q ≡ some first) × (g ≡ pmt_found first)
-      go none h = apart (cc)
-      go (some first) h = (first, refl, cc)
+      go : (q : Option FirstPmt) → pmt_kept q ≡ Some g → (first : FirstPmt) × (q ≡ Some first) × (g ≡ pmt_found first)
+      go None h = apart (cc)
+      go (Some first) h = (first, refl, cc)
 
 -- ---- which records there are
 one_pid : (l : List StreamRecord) (x : ℕ) → pids_of l ≡ x ∷ [] → (a : StreamRecord) × (l ≡ a ∷ [])
@@ -83,20 +81,20 @@ module _ {edition : Edition} {segment : Bytes} {t : state.Tables} (v : Valid edi
   pids_by q m e k = v.named.pids ∙ ap₂ named_pids e k
 
   -- before the PAT
-  pub no_pat_pids : t.pat ≡ none → pids_of t.records ≡ 0 ∷ []
-  no_pat_pids e = pids_by none t.pmt e refl
+  pub no_pat_pids : t.pat ≡ None → pids_of t.records ≡ 0 ∷ []
+  no_pat_pids e = pids_by None t.pmt e refl
 
-  pub one_record : t.pat ≡ none → (a : StreamRecord) × (t.records ≡ a ∷ [])
+  pub one_record : t.pat ≡ None → (a : StreamRecord) × (t.records ≡ a ∷ [])
   one_record e = one_pid t.records 0 (no_pat_pids e)
 
-  module _ (f : FirstPat) (e : t.pat ≡ some f) where
+  module _ (f : FirstPat) (e : t.pat ≡ Some f) where
     pub pat_lies : f.section ≡ section_in segment f.packet
     pat_lies = subst (PatLies segment) e v.pat
 
     -- before the PMT
-    module _ (k : t.pmt ≡ none) where
+    module _ (k : t.pmt ≡ None) where
       pub no_pmt_pids : pids_of t.records ≡ 0 ∷ f.says.map_pid ∷ []
-      no_pmt_pids = pids_by (some f) none e k
+      no_pmt_pids = pids_by (Some f) None e k
 
       pub two_records : (a : StreamRecord) × (b : StreamRecord) × (t.records ≡ a ∷ b ∷ [])
       two_records =
@@ -108,16 +106,16 @@ module _ {edition : Edition} {segment : Bytes} {t : state.Tables} (v : Valid edi
           nothing (a ∷ r) h = absurd (omega (arith, ap length h))
 
     -- after it
-    module _ (m : FirstPmt) (k : t.pmt ≡ some m) where
+    module _ (m : FirstPmt) (k : t.pmt ≡ Some m) where
       pub all_pids : pids_of t.records ≡ 0 ∷ f.says.map_pid ∷ pids m.says.entries
-      all_pids = pids_by (some f) (some m) e k
+      all_pids = pids_by (Some f) (Some m) e k
 
       pub all_records : (a : StreamRecord) × (b : StreamRecord) × (rest : List StreamRecord) × (t.records ≡ a ∷ b ∷ rest)
           × (pids_of rest ≡ pids m.says.entries)
       all_records = two_pids t.records 0 f.says.map_pid (pids m.says.entries) all_pids
 
-      lies : PmtLies segment edition (some f) (some m)
-      lies = subst (λ (x : Option FirstPat). PmtLies segment edition x (some m)) e
+      lies : PmtLies segment edition (Some f) (Some m)
+      lies = subst (λ (x : Option FirstPat). PmtLies segment edition x (Some m)) e
           (subst (PmtLies segment edition t.pat) k v.pmt)
 
       pub pmt_lies : m.section ≡ section_in segment m.packet

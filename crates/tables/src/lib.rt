@@ -7,7 +7,7 @@ mod sections;
 mod state;
 mod tables;
 
-pub use counters::{CounterResult, check_counter};
-pub use sections::{read_section, section_at};
-pub use state::{Kind, Outcome, Packet, PatFound, PatSeen, PmtFound, PmtSeen, at_place};
-pub use tables::{Tables, TablesResult, fresh_tables, is_pcr, kind_of, last_pcr};
+pub use counters::check_counter;
+pub use sections::section_at;
+pub use state::{Kind, Packet, PatFound, PmtFound};
+pub use tables::Tables;

@@ -1,10 +1,9 @@
 // What the packets of a segment have said so far, as the code keeps it: a section by the packet that brought it.
 ghost use Rattle.std.specs.Prelude.{◌≡◌};
-ghost use Rattle.tables.specs.Tables.{placed_at};
+ghost use Rattle.tables.specs.Tables.{slot_in};
 
 use packet::Header;
 use psi::Program;
-use refusal::Refused;
 
 // What a packet's PID is at that moment; of a listed one, the slot of its record.
 #[derive(Clone, Copy)]
@@ -15,6 +14,22 @@ pub enum Kind {
     Av1(usize),
     Listed(usize),
     Unlisted,
+}
+
+impl Kind {
+    // Returns the slot of the record of a PID of this kind; `None` if it has no record.
+    pub(crate) fn slot(self) -> Option<usize>
+        ensures { result ≡ slot_in self }
+    {
+        match self {
+            Kind::Pat => Some(0),
+            Kind::Map => Some(1),
+            Kind::Av1(slot) => Some(slot),
+            Kind::Listed(slot) => Some(slot),
+            Kind::Null => None,
+            Kind::Unlisted => None,
+        }
+    }
 }
 
 // A packet that passed 21, 22 and 23: its index, what its header says, and what its PID is.
@@ -32,12 +47,6 @@ pub struct PatFound {
     pub says: Program,
 }
 
-#[derive(Clone, Copy)]
-pub enum PatSeen {
-    None,
-    First(PatFound),
-}
-
 // The first PMT: the packet that brought it, its PCR PID, the PID of its AV1 entry, and how many streams it lists.
 #[derive(Clone, Copy)]
 pub struct PmtFound {
@@ -45,30 +54,4 @@ pub struct PmtFound {
     pub pcr_pid: u16,
     pub av1_pid: u16,
     pub listed: usize,
-}
-
-#[derive(Clone, Copy)]
-pub enum PmtSeen {
-    None,
-    First(PmtFound),
-}
-
-// The verdict of a rule.
-#[derive(Clone, Copy)]
-pub enum Outcome {
-    Passed,
-    Refused(Refused),
-}
-
-// The same verdict, a refusal having another place.
-pub fn at_place(place: usize, outcome: Outcome) -> Outcome
-    ensures { result ≡ placed_at place outcome }
-{
-    match outcome {
-        Outcome::Passed => Outcome::Passed,
-        Outcome::Refused(refused) => {
-            let why = refused.why;
-            Outcome::Refused(Refused { why, place })
-        }
-    }
 }

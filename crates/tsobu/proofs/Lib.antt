@@ -1,10 +1,11 @@
 pub mod Splits
 pub mod Places
+pub mod Behind
 pub mod Scanning
 pub mod Steps
 pub mod Walks
-pub mod ByReader
 pub mod Held
+pub mod ByReader
 pub mod TsObus
 pub mod Shorts
 pub mod Sizes

@@ -1,13 +1,14 @@
 -- A string from one of its places on: what stands before the next start code, and the payloads from a start code on. Assumes nothing.
 use Prim.Native.Nat.{ℕ, zero, suc, ◌+◌, ◌-◌, ◌≤◌, ◌<◌}
-use mathlib.Core.Bool.{true, false}
+use mathlib.Core.Bool.{Bool, true, false}
+use mir.Val.{bool_byte as one}
 use mathlib.Core.Path.{◌≡◌, refl, sym, ap, ap₂, ◌∙◌}
 use mathlib.Core.Logic.{◌⊎◌, inl, inr}
 use mathlib.Core.List.{List, [], ◌∷◌}
 use native.Mathlib.Omega.{arith}
 use native.Mathlib.Numerals.{add-one}
 use borrow.Author.Tests.{lt-ltb, le-ltb}
-use lib.Dec.{ltb, eqb}
+use lib.Dec.{ltb}
 use lib.ListN.{length, take, drop, get_or, length-drop, drop_of_length-le}
 use lib.Seq.{drop-drop}
 use Rattle.lists.specs.Lists.{Bytes, those}
@@ -32,9 +33,6 @@ pub code_at : (s : Bytes) (i : ℕ) → i + 2 < length s
     → at_start_code (drop i s) ≡ start_code3 (get_or s i 0) (get_or s (i + 1) 0) (get_or s (i + 2) 0)
 unfolding at_start_code
 code_at = three_at at_start_code start_code3 (λ a b c s. refl)
-
-pub code3_rest : (a b c : ℕ) → a ≡ 0 → b ≡ 0 → start_code3 a b c ≡ eqb c 1
-code3_rest a b c p q = rw (p, q)
 
 -- ---- how many bytes stand before the next start code
 abbrev pub before : Bytes → ℕ
@@ -111,7 +109,7 @@ code_fits s at e = omega (arith, three_long code_three (drop at s) e, length-dro
 pub next_fits : (s : Bytes) (at : ℕ) → at_start_code (drop at s) ≡ true → next_code s at ≤ length s
 next_fits s at e = omega (arith, code_fits s at e, before_short (drop (at + 3) s), length-drop (at + 3) s)
 
-open_code : (l : Bytes) → at_start_code l ≡ true → payloads l ≡ (split (drop 3 l)).before ∷ payloads (drop 3 l)
+pub open_code : (l : Bytes) → at_start_code l ≡ true → payloads l ≡ (split (drop 3 l)).before ∷ payloads (drop 3 l)
 unfolding at_start_code
 open_code [] e = clash e refl
 open_code (a ∷ []) e = clash e refl
@@ -215,6 +213,12 @@ index_code at i s h k e =
 
 pub index_byte : (at i : ℕ) (s : Bytes) → i < length s → at_start_code (drop i s) ≡ false → codes_before at i s ≡ codes_before at (i + 1) s
 index_byte at i s k e = ap (λ (l : List ℕ). length (those (λ code. ltb code at) l)) (codes_byte i s k e)
+
+-- either way
+pub index_one : (at i : ℕ) (s : Bytes) (code : Bool) → i < at → i < length s → code ≡ at_start_code (drop i s)
+    → codes_before at i s ≡ one code + codes_before at (i + 1) s
+index_one at i s true h k e = index_code at i s h k (sym e) ∙ (omega arith)
+index_one at i s false h k e = index_byte at i s k (sym e) ∙ (omega arith)
 
 -- from a place on there are none before it
 none_before : (at i : ℕ) (s : Bytes) → at ≤ i → those (λ code. ltb code at) (start_codes_from i s) ≡ []

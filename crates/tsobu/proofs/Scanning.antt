@@ -1,6 +1,6 @@
 -- The payload from a place on, from the first forbidden sequence of the string there: a start code is one, too, and it stands behind the
 -- payload. Assumes nothing.
-use Prim.Native.Nat.{ℕ, suc, ◌+◌, ◌-◌, ◌≤◌, ◌<◌}
+use Prim.Native.Nat.{ℕ, suc, ◌+◌, ◌≤◌, ◌<◌}
 use mathlib.Core.Bool.{true, false, not, ◌&&◌, true≢false, and-false}
 use mathlib.Core.Path.{◌≡◌, refl, sym, ap, ap₂, ◌∙◌}
 use mathlib.Core.Logic.{◌⊎◌, inl, inr}
@@ -14,25 +14,18 @@ use Rattle.lists.specs.Lists.{Bytes}
 use Rattle.lists.proofs.Tests.{case, clash}
 use Rattle.lists.proofs.Threes.{by_three}
 use Rattle.emulation.specs.Payload.{above3, forbidden, first_forbidden, legal, dropped}
-use Rattle.emulation.specs.Blocks.{block, hits, paired}
+use Rattle.emulation.specs.Blocks.{block, paired, zeros_then3, zeros_then}
 use Rattle.emulation.specs.Parts.{marked, Lawful}
-use Rattle.emulation.proofs.Hits.{one, none_keeps, free_short, free_counted, is_free}
+use Rattle.emulation.proofs.Hits.{one, none_keeps, is_free}
 use Rattle.emulation.proofs.Steps.{first_yes, first_no, forbidden_at, forbidden_long, legal_yes, legal_no}
+use Rattle.emulation.proofs.Zeros.{one_byte}
 use Rattle.emulation.proofs.Judging.{dropped_one, marked_until, dropped_until, lawful_first, lawful_dropped}
-use Rattle.tsobu.specs.StartCodes.{at_start_code, Split, split}
+use Rattle.tsobu.specs.StartCodes.{start_code3, at_start_code, Split, split}
 use Rattle.tsobu.specs.Parts.{coded, ScannedAt}
 use Rattle.tsobu.proofs.Splits.{split_byte, code_is}
 use Rattle.tsobu.proofs.Places.{code_three, before, before_code, before_byte, before_end, before_taken, before_ends}
 
 -- ---- blocks without a start code
-pub coded_short : (s : Bytes) (i : ℕ) → length s - i < block + 2 → coded (drop i s) ≡ true
-unfolding coded
-coded_short s i h = rw (free_short at_start_code s i h)
-
-pub coded_counted : (s : Bytes) (i : ℕ) → block + 2 ≤ length s - i → coded (drop i s) ≡ not (eqb (hits at_start_code block (drop i s)) 0)
-unfolding coded
-coded_counted s i h = rw (free_counted at_start_code s i h)
-
 -- without 00 00 no start code stands at a place
 pub unpaired_uncoded : (l : Bytes) → paired l ≡ false → at_start_code l ≡ false
 unfolding paired at_start_code
@@ -40,6 +33,20 @@ unpaired_uncoded [] e = refl
 unpaired_uncoded (a ∷ []) e = refl
 unpaired_uncoded (a ∷ b ∷ []) e = refl
 unpaired_uncoded (a ∷ b ∷ c ∷ s) e = rw e
+
+-- a start code is 00 00 and a byte of 1 to 1
+pub is_code3 : (a b c : ℕ) → zeros_then3 1 1 a b c ≡ start_code3 a b c
+is_code3 a b c = rw (one_byte 1 c)
+
+code_of : (l : Bytes) → zeros_then 1 1 l ≡ at_start_code l
+unfolding zeros_then at_start_code
+code_of [] = refl
+code_of (a ∷ []) = refl
+code_of (a ∷ b ∷ []) = refl
+code_of (a ∷ b ∷ c ∷ s) = is_code3 a b c
+
+pub is_code : zeros_then 1 1 ≡ at_start_code
+is_code = λ i l. code_of l i
 
 -- such a block is passed over
 pub uncoded_passes : (s : Bytes) (i : ℕ) → coded (drop i s) ≡ false
@@ -256,21 +263,10 @@ module _ {s : Bytes} {start place count : ℕ} (first : First s start place coun
   pub none_left : length s ≤ place → before (drop place s) ≡ 0
   none_left h = before_end s place h
 
-  pub one_left : place + 3 ≤ length s → at_start_code (drop place s) ≡ false → at_start_code (drop (place + 1) s) ≡ true
-      → before (drop place s) ≡ 1
-  one_left h e f = omega (arith, before_byte s place (omega arith) e, before_code (drop (place + 1) s) f)
-
-  two_on : place + 3 ≤ length s → at_start_code (drop place s) ≡ false → at_start_code (drop (place + 1) s) ≡ false
-      → before (drop place s) ≡ 2 + before (drop (place + 2) s)
-  two_on h e f =
-      let n : place + 1 + 1 ≡ place + 2 = omega arith in
-      let b = before_byte s (place + 1) (omega arith) f in
-      omega (arith, before_byte s place (omega arith) e, ap (λ (k : ℕ). before (drop k s)) n)
-
-  pub two_left : place + 3 ≤ length s → at_start_code (drop place s) ≡ false → at_start_code (drop (place + 1) s) ≡ false
-      → at_start_code (drop (place + 2) s) ≡ true → before (drop place s) ≡ 2
-  two_left h e f g = omega (arith, two_on h e f, before_code (drop (place + 2) s) g)
-
-  pub more_left : place + 3 ≤ length s → at_start_code (drop place s) ≡ false → at_start_code (drop (place + 1) s) ≡ false
-      → at_start_code (drop (place + 2) s) ≡ false → 3 ≤ before (drop place s)
-  more_left h e f g = omega (arith, two_on h e f, before_byte s (place + 2) (omega arith) g)
+  -- a start code stands at `end`, and at no place before it
+  pub scan_code : (end : ℕ) → end < place + 3 → end + before (drop end s) ≡ place + before (drop place s)
+      → at_start_code (drop end s) ≡ true
+      → ScannedAt s start (record { end = end; legal = true; dropped = count })
+  scan_code end l h e =
+      let b = before_code (drop end s) e in
+      scan_legal (before (drop place s)) end (omega arith) refl (omega arith)

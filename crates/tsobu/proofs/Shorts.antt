@@ -16,10 +16,8 @@ use Rattle.refusal.proofs.Verdicts.{pass_on, go_on}
 use Rattle.emulation.specs.Payload.{unescape, dropped}
 use Rattle.emulation.specs.Parts.{marked}
 use Rattle.emulation.proofs.Steps.{marked_zeros, unescape_marked, unescape_plain, unescaped_first, given_or_dropped}
-use Rattle.obu.specs.declared.leb128.Leb.TheVariants.{Number}
-use Rattle.obu.specs.declared.header.Size.TheVariants.{Present}
 use Rattle.obu.specs.declared.header.Header.{Header}
-use Rattle.obu.specs.Leb128.{leb128, leb_within, in_range}
+use Rattle.obu.specs.Leb128.{leb_of, leb128, leb_within, in_range}
 use Rattle.obu.specs.Header.{extension_bit, fixed_bytes, size_said, size_of, header_with, sized_header, header_of, judged}
 use Rattle.tsobu.specs.Parts.{Short, first_figures, legal_figures}
 
@@ -43,7 +41,7 @@ three_kept a b c t h =
 
 -- ---- an OBU that begins with these bytes
 abbrev headed : ℕ → ℕ → ℕ → Header
-headed a b c = record { obu_type = a / 8; extension = false; size = Present b 1; content = 2; first_content = c }
+headed a b c = record { obu_type = a / 8; extension = false; size = leb_of b 1; content = 2; first_content = c }
 
 module _ (a b : ℕ) (t : Bytes) (fields : a / 2 % 4 ≡ 1) (below : a < 128) (one_byte : b < 128) where
   no_extension : extension_bit a ≡ false
@@ -53,20 +51,20 @@ module _ (a b : ℕ) (t : Bytes) (fields : a / 2 % 4 ≡ 1) (below : a < 128) (o
   unfolding fixed_bytes
   fixed_one = sym (by_false 2 no_extension refl)
 
-  leb_one : Number b 1 ≡ leb128 (b ∷ t)
+  leb_one : leb_of b 1 ≡ leb128 (b ∷ t)
   unfolding leb128 leb_within in_range
   leb_one =
       let low : bits 6 0 b ≡ b = omega arith in
       let top : (bits 7 7 b ≡ 1 → ⊥) = λ e. omega arith in
-      let one : Number b 1 ≡ leb_within 8 (b ∷ t) = by_ne _ top (ap (λ (v : ℕ). Number v 1) (sym low)) in
-      let fits : Number b 1 ≡ in_range (Number b 1) = by_ge {m = 4294967295} {n = b} _ (omega arith) refl in
+      let one : leb_of b 1 ≡ leb_within 8 (b ∷ t) = by_ne _ top (ap (λ (v : ℕ). leb_of v 1) (sym low)) in
+      let fits : leb_of b 1 ≡ in_range (leb_of b 1) = by_ge {m = 4294967295} {n = b} _ (omega arith) refl in
       fits ∙ ap in_range one
 
-  size_one : size_of a (b ∷ t) ≡ passed (Present b 1)
+  size_one : size_of a (b ∷ t) ≡ passed (leb_of b 1)
   unfolding size_of
   size_one = sym (by_true _ (eq-eqb (bits 1 1 a) 1 (omega arith)) (ap size_said leb_one))
 
-  header_is : headed a b (byte t 0) ≡ header_with a (Present b 1) (byte t 0)
+  header_is : headed a b (byte t 0) ≡ header_with a (leb_of b 1) (byte t 0)
   unfolding header_with
   header_is =
       let k : a / 8 ≡ bits 6 3 a = omega arith in
@@ -74,14 +72,14 @@ module _ (a b : ℕ) (t : Bytes) (fields : a / 2 % 4 ≡ 1) (below : a < 128) (o
       λ i. record {
         obu_type = k i;
         extension = sym no_extension i;
-        size = Present b 1;
+        size = leb_of b 1;
         content = n i;
         first_content = byte t 0;
       }
 
   short_sized : passed (headed a b (byte t 0)) ≡ sized_header a (b ∷ t)
   unfolding sized_header
-  short_sized = go_on (Present b 1) _ size_one (ap {B = Verdict Header} passed header_is)
+  short_sized = go_on (leb_of b 1) _ size_one (ap {B = Verdict Header} passed header_is)
 
   short_header : header_of (a ∷ b ∷ t) ≡ passed (headed a b (byte t 0))
   unfolding header_of

@@ -7,6 +7,7 @@ use mathlib.Core.Path.{◌≡◌, refl, sym, ap, ap₂, subst, ◌∙◌}
 use mathlib.Core.List.{[], ◌∷◌, ◌++◌}
 use native.Mathlib.Omega.{arith}
 use borrow.Author.Tests.{ltb-true, ltb-false}
+use Rattle.std.specs.Prelude.{Option, Some, None}
 use lib.Dec.{ltb}
 use lib.ListN.{length, drop}
 use Rattle.lists.specs.Lists.{Bytes, pick}
@@ -18,12 +19,9 @@ use Rattle.refusal.proofs.Verdicts.{never, passed_same}
 use Rattle.emulation.specs.Payload.{unescape}
 use Rattle.emulation.specs.Parts.{marked}
 use Rattle.emulation.proofs.Steps.{marked_zeros, unescape_marked, unescape_plain, unescaped_first, given_or_dropped}
-use Rattle.obu.specs.declared.leb128.Leb.{Leb}
-use Rattle.obu.specs.declared.leb128.Leb.TheVariants.{Number, Bad}
-use Rattle.obu.specs.declared.header.Size.{Size}
-use Rattle.obu.specs.declared.header.Size.TheVariants.{Absent, Present}
+use Rattle.obu.specs.declared.leb128.Leb128.{Leb128}
 use Rattle.obu.specs.declared.header.Header.{Header}
-use Rattle.obu.specs.Leb128.{low_first, leb_within, in_range, leb128}
+use Rattle.obu.specs.Leb128.{leb_of, low_first, leb_within, in_range, leb128}
 use Rattle.obu.specs.Header.{extension_bit, has_size_bit, fixed_bytes, size_said, size_of, size_bytes, header_of}
 use Rattle.obu.proofs.Lebs.{leb_behind}
 use Rattle.obu.proofs.Headers.{judged_header, header_sized, size_right}
@@ -38,7 +36,7 @@ leb_last : (n b : ℕ) (s t : Bytes) → bit 7 b ≡ false → leb_within n (b �
 unfolding leb_within
 leb_last zero b s t e = refl
 leb_last (suc n) b s t e =
-    let last : (l : Leb) → Number (bits 6 0 b) 1 ≡ pick (bit 7 b) (low_first (bits 6 0 b) l) (Number (bits 6 0 b) 1) =
+    let last : (l : Option Leb128) → leb_of (bits 6 0 b) 1 ≡ pick (bit 7 b) (low_first (bits 6 0 b) l) (leb_of (bits 6 0 b) 1) =
     λ l. by_false _ e refl in
     sym (last (leb_within n s)) ∙ last (leb_within n t)
 
@@ -53,7 +51,7 @@ leb_kept (suc n) (b ∷ s) =
     ∙ ap (λ (x : ℕ). leb_within (suc n) (x ∷ s)) (sym (marked_zeros b s m).0))
     (λ m.
     ap (leb_within (suc n)) (unescape_plain b s m)
-    ∙ ap (λ (l : Leb). pick (bit 7 b) (low_first (bits 6 0 b) l) (Number (bits 6 0 b) 1)) (leb_kept n s))
+    ∙ ap (λ (l : Option Leb128). pick (bit 7 b) (low_first (bits 6 0 b) l) (leb_of (bits 6 0 b) 1)) (leb_kept n s))
 
 -- and behind a first byte
 leb_second : (n : ℕ) (s : Bytes) → leb_within n (drop 1 (unescape s)) ≡ leb_within n (drop 1 s)
@@ -89,53 +87,53 @@ module _ (a : ℕ) (t : Bytes) (e : has_size_bit a ≡ true) where
       subst (λ (k : ℕ). in_range (leb_within 8 (drop k (unescape (a ∷ t)))) ≡ in_range (leb_within 8 (drop k (a ∷ t)))) one
       (ap in_range (leb_second 8 (a ∷ t))))
 
-  leb_there : (r : Bytes) (value width : ℕ) → leb128 (drop (fixed_bytes a) (a ∷ t)) ≡ Number value width
-      → leb128 (drop (fixed_bytes a) (a ∷ t ++ r)) ≡ Number value width
+  leb_there : (r : Bytes) (l : Leb128) → leb128 (drop (fixed_bytes a) (a ∷ t)) ≡ Some l
+      → leb128 (drop (fixed_bytes a) (a ∷ t ++ r)) ≡ Some l
   unfolding fixed_bytes
-  leb_there r value width n =
+  leb_there r l n =
       case (extension_bit a)
       (λ x.
       let two = by_true {x = 2} 1 x refl in
-      subst (λ (k : ℕ). leb128 (drop k (a ∷ t ++ r)) ≡ Number value width) two
-      (behind_two t (subst (λ (k : ℕ). leb128 (drop k (a ∷ t)) ≡ Number value width) (sym two) n)))
+      subst (λ (k : ℕ). leb128 (drop k (a ∷ t ++ r)) ≡ Some l) two
+      (behind_two t (subst (λ (k : ℕ). leb128 (drop k (a ∷ t)) ≡ Some l) (sym two) n)))
       (λ x.
       let one = by_false {y = 1} 2 x refl in
-      subst (λ (k : ℕ). leb128 (drop k (a ∷ t ++ r)) ≡ Number value width) one
-      (leb_behind t r value width (subst (λ (k : ℕ). leb128 (drop k (a ∷ t)) ≡ Number value width) (sym one) n)))
+      subst (λ (k : ℕ). leb128 (drop k (a ∷ t ++ r)) ≡ Some l) one
+      (leb_behind t r l (subst (λ (k : ℕ). leb128 (drop k (a ∷ t)) ≡ Some l) (sym one) n)))
     where
-      behind_two : (l : Bytes) → leb128 (drop 1 l) ≡ Number value width → leb128 (drop 1 (l ++ r)) ≡ Number value width
+      behind_two : (s : Bytes) → leb128 (drop 1 s) ≡ Some l → leb128 (drop 1 (s ++ r)) ≡ Some l
       behind_two [] k =
-          let none : leb128 [] ≡ Bad = unfold leb128 in unfold leb_within in unfold in_range in refl in
-          let bad : Bad ≡ Number value width = sym none ∙ k in
+          let none : leb128 [] ≡ None = unfold leb128 in unfold leb_within in unfold in_range in refl in
+          let bad : None ≡ Some l = sym none ∙ k in
           apart cc
-      behind_two (b ∷ l) k = leb_behind l r value width k
+      behind_two (b ∷ s) k = leb_behind s r l k
 
 -- the OBU says a size: its payload, with what comes behind it, says the same
-sizes_same : (a : ℕ) (t r : Bytes) (y z : Size) → size_of a (drop (fixed_bytes a) (unescape (a ∷ t))) ≡ passed y
+sizes_same : (a : ℕ) (t r : Bytes) (y z : Option Leb128) → size_of a (drop (fixed_bytes a) (unescape (a ∷ t))) ≡ passed y
     → size_of a (drop (fixed_bytes a) (a ∷ t ++ r)) ≡ passed z → z ≡ y
 unfolding size_of
 sizes_same a t r y z ey ez =
     case (has_size_bit a)
     (λ e.
-    let said : (l : Bytes) → size_said (leb128 l) ≡ pick (has_size_bit a) (size_said (leb128 l)) (passed Absent) = λ l. by_true _ e refl in
+    let said : (l : Bytes) → size_said (leb128 l) ≡ pick (has_size_bit a) (size_said (leb128 l)) (passed None) = λ l. by_true _ e refl in
     go e (leb128 (drop (fixed_bytes a) (unescape (a ∷ t)))) refl (said _ ∙ ey) (said _ ∙ ez))
     (λ e.
-    let none : (v : Verdict Size) → passed Absent ≡ pick (has_size_bit a) v (passed Absent) = λ v. by_false _ e refl in
+    let none : (v : Verdict (Option Leb128)) → passed None ≡ pick (has_size_bit a) v (passed None) = λ v. by_false _ e refl in
     passed_same z y (sym ez ∙ sym (none _) ∙ none _ ∙ ey))
   where
-    go : has_size_bit a ≡ true → (l : Leb) → leb128 (drop (fixed_bytes a) (unescape (a ∷ t))) ≡ l
+    go : has_size_bit a ≡ true → (l : Option Leb128) → leb128 (drop (fixed_bytes a) (unescape (a ∷ t))) ≡ l
         → size_said (leb128 (drop (fixed_bytes a) (unescape (a ∷ t)))) ≡ passed y
         → size_said (leb128 (drop (fixed_bytes a) (a ∷ t ++ r))) ≡ passed z → z ≡ y
-    go e (Number value width) k p q =
-        let there = leb_there a t e r value width (sym (leb_fixed a t e) ∙ k) in
+    go e (Some l) k p q =
+        let there = leb_there a t e r l (sym (leb_fixed a t e) ∙ k) in
         passed_same z y (sym q ∙ ap size_said (there ∙ sym k) ∙ p)
-    go e Bad k p q = never (sym (ap size_said k) ∙ p)
+    go e None k p q = never (sym (ap size_said k) ∙ p)
 
 -- ---- a payload that passes has at least as many bytes as its OBU says
-pub size_within : (p r : Bytes) → tsobu_refusal p ≡ passed tt → (h : Header) (value width : ℕ) → header_of (p ++ r) ≡ passed h
-    → h.size ≡ Present value width → h.content + value ≤ length p
-size_within [] r e h value width f z = absurd (omega (arith, (obu_judged [] e).0))
-size_within (a ∷ t) r e h value width f z =
+pub size_within : (p r : Bytes) → tsobu_refusal p ≡ passed tt → (h : Header) (l : Leb128) → header_of (p ++ r) ≡ passed h
+    → h.size ≡ Some l → h.content + l.value ≤ length p
+size_within [] r e h l f z = absurd (omega (arith, (obu_judged [] e).0))
+size_within (a ∷ t) r e h l f z =
     let u = unescape (a ∷ t) in
     let j = obu_judged (a ∷ t) e in
     let obu = header_sized u j.1 (judged_header u (length u) j.1 j.2) in
@@ -145,8 +143,8 @@ size_within (a ∷ t) r e h value width f z =
     sizes_same a t r j.1.size h.size
     (subst (λ (b : ℕ). size_of b (drop (fixed_bytes b) u) ≡ passed j.1.size) first obu.said) here.said in
     let content : h.content ≡ j.1.content =
-    here.content ∙ ap₂ (λ (b : ℕ) (k : Size). fixed_bytes b + size_bytes k) (sym first) same ∙ sym obu.content in
-    omega (arith, size_right u j.1 value width j.2 (sym same ∙ z), given_or_dropped (a ∷ t))
+    here.content ∙ ap₂ (λ (b : ℕ) (k : Option Leb128). fixed_bytes b + size_bytes k) (sym first) same ∙ sym obu.content in
+    omega (arith, size_right u j.1 l j.2 (sym same ∙ z), given_or_dropped (a ∷ t))
 
 -- ---- a search may begin behind some of what stands before the next start code
 pub search_behind : (n i : ℕ) (s : Bytes) → n ≤ before (drop i s) → i + n + before (drop (i + n) s) ≡ i + before (drop i s)

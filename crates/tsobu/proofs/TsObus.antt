@@ -1,29 +1,26 @@
 -- One payload: what its tries give, as the code makes them. Assumes nothing.
+use Rattle.std.specs.Prelude.{Result, Ok, Err}
 use Prim.Native.Nat.{ℕ, ◌≤◌}
 use mathlib.Core.Bool.{true, false}
 use mathlib.Core.Path.{◌≡◌, refl, sym, ap, ap₂, ◌∙◌}
 use native.Mathlib.Omega.{arith}
-use borrow.Author.Tests.{eq-eqb, ne_eqb, eqb-false}
+use borrow.Author.Tests.{ne_eqb, eqb-false}
 use lib.Dec.{eqb}
 use lib.ListN.{length, take, drop, length-append}
 use lib.Seq.{take_at}
 use Rattle.lists.specs.Lists.{Bytes, pick, over}
 use Rattle.refusal.specs.declared.Refused.{Refused}
 use Rattle.refusal.specs.Verdict.{Verdict, passed, refused, ◌>>=◌, ◌>>◌, NoValue, given}
-use Rattle.refusal.specs.Number.{refused_by}
-use Rattle.refusal.proofs.Verdicts.{go_on, stop, never, passed_after, passed_same, passed_then, given_passed}
+use Rattle.refusal.specs.Number.{refused_by, says}
+use Rattle.refusal.proofs.Verdicts.{go_on, never, passed_after, passed_same, passed_then, given_passed}
 use Rattle.emulation.specs.Payload.{legal, unescape, dropped}
 use Rattle.obu.specs.declared.header.Header.{Header}
-use Rattle.obu.specs.declared.header.Judged.{Judged as Obu}
-use Rattle.obu.specs.declared.header.Judged.TheVariants as obu
-use Rattle.obu.specs.Header.{header_of, judged, judged_says as obu_says, most_judged}
+use Rattle.obu.specs.Header.{header_of, judged, most_judged}
 use Rattle.obu.proofs.Headers.{judged_first, judged_header}
 use Rattle.tsobu.specs.TsObu.{tsobu_refusal}
-use Rattle.tsobu.specs.TsObu.{tsobu_figures, tsobu_says}
+use Rattle.tsobu.specs.TsObu.{tsobu_figures}
 use Rattle.tsobu.specs.Parts.{first_figures, legal_figures}
 use Rattle.tsobu.specs.declared.judging.Figures.{Figures}
-use Rattle.tsobu.specs.declared.judging.TsObu.{TsObu}
-use Rattle.tsobu.specs.declared.judging.TsObu.TheVariants as tsobu
 
 -- ---- 4, 5, 6, 42, by the OBU's first bytes
 -- the first bytes, unescaped into the front of an array
@@ -36,15 +33,6 @@ first_bytes u z first n e f =
 -- the first bytes and the length decide as the whole OBU does
 judged_short : (u first : Bytes) (n k : ℕ) → most_judged ≤ k → first ≡ take k u → n ≡ length u → judged first n ≡ judged u (length u)
 judged_short u first n k h e f = ap₂ judged e f ∙ judged_first k u (length u) h
-
-module _ (first : Bytes) (n d : ℕ) (q : Obu) (e : obu_says q ≡ judged first n) where
-  pub figures_refused : (r : Refused) → q ≡ obu.Refused r → refused_by r ≡ first_figures first n d
-  unfolding first_figures
-  figures_refused r k = stop _ _ _ (sym e ∙ ap obu_says k)
-
-  pub figures_passed : (h : Header) → q ≡ obu.Passed h → passed (record { header = h; dropped = d }) ≡ first_figures first n d
-  unfolding first_figures
-  figures_passed h k = go_on h _ (sym e ∙ ap obu_says k) refl
 
 -- so they give the figures of the payload
 pub figures_short : (payload first : Bytes) (n d k : ℕ) → most_judged ≤ k → first ≡ take k (unescape payload) → n ≡ length
@@ -79,10 +67,6 @@ header_there payload e =
     (j.1, judged_header (unescape payload) (length (unescape payload)) j.1 j.2)
 
 -- ---- 3 and 10, then these
-pub tsobu_empty : (payload : Bytes) → length payload ≡ 0 → refused 3 0 ≡ tsobu_figures payload
-unfolding tsobu_figures tsobu_refusal given pick ◌>>◌
-tsobu_empty payload e = rw (eq-eqb (length payload) 0 e)
-
 pub tsobu_illegal : (payload : Bytes) → (length payload ≡ 0 → ⊥) → legal payload ≡ false → refused 10 0 ≡ tsobu_figures payload
 unfolding tsobu_figures tsobu_refusal given pick ◌>>◌
 tsobu_illegal payload h e = rw (ne_eqb (length payload) 0 h, e)
@@ -109,13 +93,13 @@ unfolding ◌>>◌
 refused_only (passed a) w number place g e = never (sym e ∙ (g refl).1)
 refused_only (refused m i) w number place g e = cc
 
-pub tsobu_refused : (payload : Bytes) (q : TsObu) (r : Refused) → tsobu_says q ≡ tsobu_figures payload → q ≡ tsobu.Refused r
+pub tsobu_refused : (payload : Bytes) (q : Result Figures Refused) (r : Refused) → says q ≡ tsobu_figures payload → q ≡ Err r
     → tsobu_refusal payload ≡ refused_by r
 unfolding tsobu_figures
 tsobu_refused payload q r e k =
     refused_only (tsobu_refusal payload) _ _ _
     (λ p. let h = header_there payload p in (record { header = h.0; dropped = dropped payload }, sym (go_on h.0 _ h.1 refl)))
-    (sym e ∙ ap tsobu_says k)
+    (sym e ∙ ap says k)
 
 -- what a payload that passed has
 pub record Passes (payload : Bytes) (f : Figures) : Type 0 where
@@ -123,11 +107,11 @@ pub record Passes (payload : Bytes) (f : Figures) : Type 0 where
   pub header : header_of (unescape payload) ≡ passed f.header
   pub dropped_is : f.dropped ≡ dropped payload
 
-pub tsobu_passed : (payload : Bytes) (q : TsObu) (f : Figures) → tsobu_says q ≡ tsobu_figures payload → q ≡ tsobu.Passed f
+pub tsobu_passed : (payload : Bytes) (q : Result Figures Refused) (f : Figures) → says q ≡ tsobu_figures payload → q ≡ Ok f
     → Passes payload f
 unfolding tsobu_figures
 tsobu_passed payload q f e k =
-    let a = passed_after (tsobu_refusal payload) _ f (sym e ∙ ap tsobu_says k) in
+    let a = passed_after (tsobu_refusal payload) _ f (sym e ∙ ap says k) in
     let h = passed_then (header_of (unescape payload)) _ f a.1 in
     let same = passed_same (record { header = h.0; dropped = dropped payload }) f h.2 in
     record {

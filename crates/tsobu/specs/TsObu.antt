@@ -3,12 +3,9 @@
 use Rattle.std.specs.Prelude.{not, eqb, length}
 use Rattle.lists.specs.Lists.{Bytes}
 use Rattle.refusal.specs.Verdict.{Verdict, passed, ◌>>=◌, ◌>>◌, NoValue, given}
-use Rattle.refusal.specs.Number.{refused_by}
 use Rattle.emulation.specs.Payload.{legal, unescape, dropped}
 use Rattle.obu.specs.Header.{header_of, obu_refusal}
 use Rattle.tsobu.specs.declared.judging.Figures.{Figures}
-use Rattle.tsobu.specs.declared.judging.TsObu.{TsObu}
-use Rattle.tsobu.specs.declared.judging.TsObu.TheVariants as tsobu
 
 -- "for each tsOBU .. 3, 10, 4, 5, 6", and 2026-02: "42 .. after 6 for that OBU, in reading and in writing"
 unfoldable pub tsobu_refusal : Bytes → Verdict NoValue
@@ -24,8 +21,3 @@ tsobu_figures payload = do
   tsobu_refusal payload
   header ← header_of (unescape payload)
   passed (record { header = header; dropped = dropped payload })
-
--- ---- what the answer of the code says
-abbrev pub tsobu_says : TsObu → Verdict Figures
-tsobu_says (tsobu.Passed figures) = passed figures
-tsobu_says (tsobu.Refused r) = refused_by r

@@ -1,6 +1,8 @@
 -- "Stepping: a walk over an access unit hands out one payload at a time, as a part of the lent bytes, and at the end
 -- says so. It checks 9 at the start and 3 and 10 at each step, and stays at a step that refused." Assumes nothing.
+use Rattle.refusal.specs.declared.Refused.{Refused}
 use Rattle.std.specs.Prelude.{ℕ, ◌+◌, Bool, true, false, not, ◌&&◌, ◌≡◌, ◌⊎◌, List, [], ◌∷◌, leb, ltb, eqb, length}
+use Rattle.std.specs.Prelude.{Option, Some, None, Result, Ok, Err}
 use Rattle.std.specs.Prelude.{take, drop}
 use Rattle.std.specs.Borrow.{Bor}
 use Rattle.lists.specs.Lists.{Bytes, those}
@@ -8,10 +10,6 @@ use Rattle.refusal.specs.Verdict.{Verdict, passed, refused, ◌>>◌, given, at_
 use Rattle.refusal.specs.Number.{refused_by}
 use Rattle.emulation.specs.Payload.{legal}
 use Rattle.tsobu.specs.StartCodes.{at_start_code, start_codes, split}
-use Rattle.tsobu.specs.declared.walking.Step.{Step}
-use Rattle.tsobu.specs.declared.walking.Step.TheVariants as step
-use Rattle.tsobu.specs.declared.walking.Started.{Started}
-use Rattle.tsobu.specs.declared.walking.Started.TheVariants as started
 use Rattle.tsobu.specs.declared.walking.Part.{Part}
 use Rattle.tsobu.specs.declared.reader.Walk.{Walk}
 
@@ -85,15 +83,11 @@ handed_out unit (passed (payload p)) = take p.bytes (drop p.start unit)
 handed_out unit (passed end) = []
 handed_out unit (refused number place) = []
 
--- ---- what the answers of the code say
-abbrev pub started_says : Started → Verdict ℕ
-started_says (started.At at) = passed at
-started_says (started.Refused r) = refused_by r
-
-abbrev pub step_says : Step → Verdict Found
-step_says (step.Payload p) = passed (payload p)
-step_says step.End = passed end
-step_says (step.Refused r) = refused_by r
+-- what an answer of the code says: the part, the end, or the refusal that it holds
+abbrev pub step_says : Result (Option Part) Refused → Verdict Found
+step_says (Ok (Some p)) = passed (payload p)
+step_says (Ok None) = passed end
+step_says (Err r) = refused_by r
 
 -- ---- a walk as a reader, which holds the carried bytes and the place of its next step
 abbrev pub fresh : Bor Bytes → Walk

@@ -3,11 +3,13 @@
 #![tactic(auto)]
 
 mod judging;
+mod payloads;
 mod reader;
 mod start_codes;
 mod walking;
 
-pub use judging::{Figures, Found, TsObu, judge_from, judge_payload};
+pub use judging::{Figures, Found, judge_from, judge_payload};
+pub use payloads::Payloads;
 pub use reader::{Handed, Walk};
 pub use start_codes::{at_start_code, find};
-pub use walking::{Part, Started, Step, payload, start, step_at};
+pub use walking::{Part, payload, start, step_at};

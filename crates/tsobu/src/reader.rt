@@ -3,7 +3,8 @@
 ghost use Rattle.std.specs.Prelude.{◌≡◌};
 ghost use Rattle.tsobu.specs.Walk.{step_says, fresh, step_of, handed_by, behind};
 
-use crate::walking::{Step, payload, step_on};
+use crate::walking::{Part, payload, step_on};
+use refusal::Refused;
 
 // The carried bytes, and the place of the next step, which only a step changes.
 #[derive(Drop)]
@@ -12,22 +13,24 @@ pub struct Walk<'a> {
     at: usize,
 }
 
-// What a step hands out: its answer, and the payload as a part of the carried bytes, empty where there is none.
+// What a step hands out: its answer (`None` at the end), and the payload as a part of the carried bytes, empty if there
+// is none.
 #[derive(Drop)]
 pub struct Handed<'a> {
-    pub step: Step,
+    pub step: Result<Option<Part>, Refused>,
     pub payload: &'a [u8],
 }
 
 impl<'a> Walk<'a> {
-    // A reader at the start of a unit.
+    // Returns a reader at the start of a unit.
     pub fn new(unit: &'a [u8]) -> Walk<'a>
         ensures { result ≡ fresh unit.entry }
     {
         Walk { src: unit, at: 0 }
     }
 
-    // The step at the reader's place, behind which it then stands; at the end and at a refusal it stays; 9, 3, 10.
+    // Returns the step at the reader's place, or refusal 9, 3 or 10. The reader then stands behind the payload that the
+    // step handed out; at the end and at a refusal it stays.
     pub fn step(&mut self) -> Handed<'a>
         ensures step_value { step_says result.step ≡ step_of self.old }
         ensures payload_value { result.payload.now ≡ handed_by self.old }

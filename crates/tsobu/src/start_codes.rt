@@ -1,13 +1,12 @@
 // Start codes, and the payloads behind them.
 ghost use Rattle.std.specs.Prelude.{◌≡◌, ◌+◌, ◌≤◌, ◌<◌, true, length, take, drop};
 ghost use Rattle.emulation.specs.Payload.{forbidden, first_forbidden, dropped};
-ghost use Rattle.emulation.specs.Blocks.{block, hits};
 ghost use Rattle.emulation.specs.Parts.{Lawful};
-ghost use Rattle.tsobu.specs.StartCodes.{start_code3, at_start_code, code_from};
+ghost use Rattle.tsobu.specs.StartCodes.{at_start_code, code_from};
 ghost use Rattle.tsobu.specs.Parts.{ScannedAt};
 ghost use Rattle.tsobu.specs.Parts.{coded as parts_coded};
 
-use emulation::{BLOCK, Reached, first_forbidden, unpaired};
+use emulation::{BLOCK, Reached, first_forbidden, free_of, unpaired, zeros_then};
 
 // A string of at most so many bytes is a small one.
 const SMALL: usize = 512;
@@ -23,124 +22,67 @@ pub(crate) struct Scanned {
     pub(crate) dropped: usize,
 }
 
-// A start code stands at i.
+// Returns true if a start code stands at i.
 pub(crate) fn code_at(s: &[u8], i: usize) -> bool
     requires { i ≤ length s.now }
     ensures { result ≡ at_start_code (drop i s.now) }
 {
-    if s.len() - i < 3 {
-        return false;
-    }
-    if s[i] != 0 {
-        return false;
-    }
-    if s[i + 1] != 0 {
-        return false;
-    }
-    s[i + 2] == 1
+    3 <= s.len() - i && (s[i] == 0 && zeros_then::<1, 1>(s[i], s[i + 1], s[i + 2]))
 }
 
-// The three bytes are a start code.
-fn is_code(a: u8, b: u8, c: u8) -> bool
-    ensures { result ≡ start_code3 a b c }
-{
-    if a != 0 {
-        return false;
-    }
-    if b != 0 {
-        return false;
-    }
-    c == 1
-}
-
-// A start code stands at i, where three bytes are.
-fn is_code_at(s: &[u8], i: usize) -> bool
-    requires { i + 2 < length s.now }
-    ensures { result ≡ at_start_code (drop i s.now) }
-{
-    is_code(s[i], s[i + 1], s[i + 2])
-}
-
-// At how many places of the block at i a start code stands. The loop has a fixed count and one way out, so that it is
-// compiled to look at many bytes at a time.
-fn codes(s: &[u8], i: usize) -> u8
-    requires { i + block + 2 ≤ length s.now }
-    ensures { result ≡ hits at_start_code block (drop i s.now) }
-{
-    let mut count: u8 = 0;
-    let mut j: usize = 0;
-    while j < BLOCK {
-        let place = i + j;
-        j += 1;
-        if is_code_at(s, place) {
-            count += 1;
-        }
-    }
-    count
-}
-
-// A start code stands at a place of the block at i, or two bytes do not come after it. Most blocks have no 00 00.
+// Returns true if a start code stands at a place of the block at i, or if two bytes do not come after it. Most blocks
+// have no 00 00.
 fn coded(s: &[u8], i: usize) -> bool
-    requires { i ≤ length s.now }
     ensures { result ≡ parts_coded (drop i s.now) }
 {
-    if s.len() - i < BLOCK + 2 {
-        return true;
-    }
-    if unpaired(s, i) {
-        return false;
-    }
-    codes(s, i) != 0
+    !unpaired(s, i) && !free_of::<1, 1>(s, i)
 }
 
-// Passes over the blocks from `from` on in which no start code stands.
+// Passes over the blocks from `from` on in which no start code stands, and returns the place behind them.
 fn pass_blocks(s: &[u8], from: usize) -> usize
     requires { from ≤ length s.now }
     ensures { (result ≤ length s.now) × (code_from s.now result ≡ code_from s.now from) }
 {
     let mut i = from;
+    // Stays: a `for` over `(from..s.len()).step_by(BLOCK)` has to return behind the loop too, where no string comes to.
     while !coded(s, i) {
         i += BLOCK;
     }
     i
 }
 
-// Where the first start code from `from` on stands, or the length; behind the end, `from` itself.
+// Returns where the first start code from `from` on stands, or the length; behind the end, `from` itself.
 pub fn find(s: &[u8], from: usize) -> usize
     ensures { result ≡ code_from s.now from }
 {
     if s.len() <= from {
         return from;
     }
-    let mut i = pass_blocks(s, from);
-    while i < s.len() {
+    for i in pass_blocks(s, from)..s.len() {
         if code_at(s, i) {
             return i;
         }
-        i += 1;
     }
-    i
+    s.len()
 }
 
-// From a place on in a string of so many bytes, bytes are looked at one by one up to here.
+// Returns up to which place, from a place on in a string of so many bytes, bytes are looked at one by one.
 fn near_end(bytes: usize, start: usize) -> usize
     requires { start < bytes }
     ensures { result < bytes }
 {
-    if bytes - start <= NEAR {
-        return bytes - 1;
-    }
-    start + NEAR
+    start + NEAR.min(bytes - start - 1)
 }
 
-// The first place from `start` on, of those nearby, at which 00 00 stands, or a place behind them. A byte that is not
-// 00 rules out two places.
+// Returns the first place from `start` on, of those nearby, at which 00 00 stands, or a place behind them. A byte that
+// is not 00 rules out two places.
 fn near_pair(s: &[u8], start: usize) -> usize
     requires { start < length s.now }
     ensures { Lawful s.now start result 0 }
 {
     let last = near_end(s.len(), start);
     let mut place = start;
+    // Stays: a turn goes on by one place or two, by the byte there; a `for` over all places looks at each byte.
     while place < last {
         if s[place + 1] != 0 {
             place += 2;
@@ -153,36 +95,24 @@ fn near_pair(s: &[u8], start: usize) -> usize
     place
 }
 
-// A place within a string of so many bytes, which is a small one.
+// Returns true if a place is within a string of so many bytes, and the string is a small one.
 fn in_small(bytes: usize, place: usize) -> bool
     ensures { result ≡ true → place < bytes }
 {
-    if SMALL < bytes {
-        return false;
-    }
-    place < bytes
+    bytes <= SMALL && place < bytes
 }
 
-// At i stand 00 00 and a byte of 0 to 2, a forbidden sequence.
+// Returns true if 00 00 and a byte of 0 to 2, a forbidden sequence, stand at i.
 fn forbidden_at(s: &[u8], i: usize) -> bool
     requires { i ≤ length s.now }
     ensures { result ≡ true → forbidden (drop i s.now) ≡ true }
 {
-    if s.len() - i < 3 {
-        return false;
-    }
-    if s[i] != 0 {
-        return false;
-    }
-    if s[i + 1] != 0 {
-        return false;
-    }
-    s[i + 2] <= 2
+    3 <= s.len() - i && zeros_then::<0, 2>(s[i], s[i + 1], s[i + 2])
 }
 
-// The first place from `from` on at which a forbidden sequence begins, or the end; and how many bytes unescaping drops
-// before it. In a small unit most payloads are short, with nothing to drop: the first 00 00 belongs to the next start
-// code.
+// Returns the first place from `from` on at which a forbidden sequence begins, or the end, and how many bytes
+// unescaping drops before it. In a small unit most payloads are short, with nothing to drop: the first 00 00 belongs to
+// the next start code.
 fn search(s: &[u8], from: usize) -> Reached
     ensures place_value { result.place ≡ from + first_forbidden (drop from s.now) }
     ensures count_value { result.count
@@ -201,8 +131,8 @@ fn search(s: &[u8], from: usize) -> Reached
     first_forbidden(s, near)
 }
 
-// The payload from a place on, in one pass: a start code is a forbidden sequence, too, and of zeros before one the last
-// two belong to none in the payload.
+// Returns the payload from a place on, in one pass: a start code is a forbidden sequence, too, and of zeros before one
+// the last two belong to none in the payload.
 pub(crate) fn scan(unit: &[u8], start: usize) -> Scanned
     ensures { ScannedAt unit.now start result }
 {
@@ -216,26 +146,14 @@ pub(crate) fn scan(unit: &[u8], start: usize) -> Scanned
             dropped,
         };
     }
-    if code_at(unit, place) {
-        return Scanned {
-            end: place,
-            legal: true,
-            dropped,
-        };
-    }
-    if code_at(unit, place + 1) {
-        return Scanned {
-            end: place + 1,
-            legal: true,
-            dropped,
-        };
-    }
-    if code_at(unit, place + 2) {
-        return Scanned {
-            end: place + 2,
-            legal: true,
-            dropped,
-        };
+    for end in place..place + 3 {
+        if code_at(unit, end) {
+            return Scanned {
+                end,
+                legal: true,
+                dropped,
+            };
+        }
     }
     Scanned {
         end: find(unit, place),
@@ -244,7 +162,7 @@ pub(crate) fn scan(unit: &[u8], start: usize) -> Scanned
     }
 }
 
-// A start code stands at the head.
+// Returns true if a start code stands at the head.
 pub fn at_start_code(s: &[u8]) -> bool
     ensures { result ≡ at_start_code s.now }
 {

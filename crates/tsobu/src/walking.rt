@@ -1,7 +1,8 @@
 // A walk over a carried unit: the state is the place of the next step.
+ghost use Rattle.refusal.specs.Number.{says};
 ghost use Rattle.std.specs.Prelude.{◌≡◌, true, ◌≤◌, length, drop};
 ghost use Rattle.tsobu.specs.StartCodes.{at_start_code};
-ghost use Rattle.tsobu.specs.Walk.{starting, started_says, obu_index, payload_step, at_end, stepping};
+ghost use Rattle.tsobu.specs.Walk.{starting, obu_index, payload_step, at_end, stepping};
 ghost use Rattle.tsobu.specs.Walk.{place_after_step, place_after, handed_out, step_says};
 
 use crate::start_codes::{code_at, scan};
@@ -16,69 +17,45 @@ pub struct Part {
     pub next: usize,
 }
 
-#[derive(Clone, Copy)]
-pub enum Step {
-    Payload(Part),
-    End,
-    Refused(Refused),
-}
-
 // A step, and the place after it.
 #[derive(Drop)]
 pub(crate) struct Stepped {
-    pub(crate) step: Step,
+    pub(crate) step: Result<Option<Part>, Refused>,
     pub(crate) at: usize,
 }
 
-// The place of the first step, or the refusal.
-#[derive(Drop)]
-pub enum Started {
-    At(usize),
-    Refused(Refused),
-}
-
-// The place of the first step; 9.
-pub fn start(unit: &[u8]) -> Started
-    ensures { started_says result ≡ starting unit.now }
+// Returns the place of the first step, or refusal 9 if no start code stands there.
+pub fn start(unit: &[u8]) -> Result<usize, Refused>
+    ensures { says result ≡ starting unit.now }
 {
     if code_at(unit, 0) {
-        return Started::At(0);
+        return Ok(0);
     }
-    Started::Refused(Refused {
-        why: Refusal::NO_START_CODE,
-        place: 0,
-    })
+    Err(Refusal::NoStartCode.at(0))
 }
 
-// How many start codes stand before at.
+// Returns how many start codes stand before at.
 fn obu_index(unit: &[u8], at: usize) -> usize
     requires { at ≤ length unit.now }
     ensures { result ≡ obu_index unit.now at }
 {
     let mut count: usize = 0;
-    let mut i: usize = 0;
-    while i < at {
-        let code = code_at(unit, i);
-        i += 1;
-        if code {
-            count += 1;
-        }
+    for i in 0..at {
+        count += code_at(unit, i) as usize;
     }
     count
 }
 
-fn refused(unit: &[u8], at: usize, why: Refusal) -> Step
+// Returns this refusal, whose place is the OBU index of `at`.
+fn refused(unit: &[u8], at: usize, why: Refusal) -> Refused
     requires { at ≤ length unit.now }
-    ensures { result ≡ Step.Refused (record { why = why; place = obu_index unit.now at }) }
+    ensures { result ≡ record { why = why; place = obu_index unit.now at } }
 {
-    Step::Refused(Refused {
-        why,
-        place: obu_index(unit, at),
-    })
+    why.at(obu_index(unit, at))
 }
 
-// The step at the start code that stands at a place; 3, 10.
-fn payload_step(unit: &[u8], at: usize) -> Step
+// Returns the step at the start code at `at`, or refusal 3 or 10.
+fn payload_step(unit: &[u8], at: usize) -> Result<Option<Part>, Refused>
     requires { at_start_code (drop at unit.now) ≡ true }
     ensures { step_says result ≡ payload_step unit.now at }
 {
@@ -86,19 +63,19 @@ fn payload_step(unit: &[u8], at: usize) -> Step
     let scanned = scan(unit, start);
     let next = scanned.end;
     if next == start {
-        return refused(unit, at, Refusal::EMPTY_OBU);
+        return Err(refused(unit, at, Refusal::EmptyObu));
     }
     if !scanned.legal {
-        return refused(unit, at, Refusal::ILLEGAL_PAYLOAD);
+        return Err(refused(unit, at, Refusal::IllegalPayload));
     }
-    Step::Payload(Part {
+    Ok(Some(Part {
         start,
         bytes: next - start,
         next,
-    })
+    }))
 }
 
-// A walk is at its end at a place.
+// Returns whether a walk is at its end at `at`: from the unit's length on, but not at 0.
 fn at_end(unit: &[u8], at: usize) -> bool
     ensures { result ≡ at_end unit.now at }
 {
@@ -108,34 +85,31 @@ fn at_end(unit: &[u8], at: usize) -> bool
     unit.len() <= at
 }
 
-// The step at a place: the payload there, the end, or the refusal, at which the walk stays; 9, 3, 10.
-pub fn step_at(unit: &[u8], at: usize) -> Step
+// Returns the step at a place: the payload there, `None` at the end, or refusal 9, 3 or 10, at which the walk stays.
+pub fn step_at(unit: &[u8], at: usize) -> Result<Option<Part>, Refused>
     ensures { step_says result ≡ stepping unit.now at }
 {
     if at_end(unit, at) {
-        return Step::End;
+        return Ok(None);
     }
     if code_at(unit, at) {
         return payload_step(unit, at);
     }
-    Step::Refused(Refused {
-        why: Refusal::NO_START_CODE,
-        place: 0,
-    })
+    Err(Refusal::NoStartCode.at(0))
 }
 
-// The place after a step at a place: the next one where it handed out a payload, the same at the end and at a refusal.
-fn place_after(step: Step, at: usize) -> usize
+// Returns the place after a step at `at`: the next one if it handed out a payload, `at` at the end and at a refusal.
+fn place_after(step: Result<Option<Part>, Refused>, at: usize) -> usize
     ensures { result ≡ place_after_step at (step_says step) }
 {
     match step {
-        Step::Payload(part) => part.next,
-        Step::End => at,
-        Step::Refused(_) => at,
+        Ok(Some(part)) => part.next,
+        Ok(None) => at,
+        Err(_) => at,
     }
 }
 
-// The step at a place, and the place after it; 9, 3, 10.
+// Returns the step at a place, and the place after it; the step refuses with 9, 3 or 10.
 pub(crate) fn step_on(unit: &[u8], at: usize) -> Stepped
     ensures step_value { step_says result.step ≡ stepping unit.now at }
     ensures at_value { result.at ≡ place_after unit.now at }
@@ -147,13 +121,12 @@ pub(crate) fn step_on(unit: &[u8], at: usize) -> Stepped
     }
 }
 
-// The payload that a step handed out, as a part of the unit; an empty part where it handed out none.
-pub fn payload(unit: &[u8], step: Step) -> &[u8]
+// Returns the payload that a step handed out, as a part of the unit; an empty part if it handed out none.
+pub fn payload(unit: &[u8], step: Result<Option<Part>, Refused>) -> &[u8]
     ensures { result.now ≡ handed_out unit.now (step_says step) }
 {
     match step {
-        Step::Payload(p) => part(unit, p.start, p.bytes),
-        Step::End => part(unit, 0, 0),
-        Step::Refused(_) => part(unit, 0, 0),
+        Ok(Some(p)) => part(unit, p.start, p.bytes),
+        _ => part(unit, 0, 0),
     }
 }

@@ -14,22 +14,25 @@ use Rattle.refusal.proofs.Verdicts.{refuse, pass_on, follows, stops, then_bind, 
 use Rattle.refusal.proofs.Verdicts.{given_passed}
 use Rattle.emulation.specs.Payload.{unescape}
 use Rattle.obu.specs.Header.{size_width}
-use Rattle.obu.specs.Order.{Kind, kind_of, kind_of_number, order_refusal}
+use Rattle.obu.specs.Order.{Kind, kind_of, order_refusal}
+use Rattle.obu.specs.Table.{kind_meant}
+use Rattle.obu.specs.declared.ordering.Kind as code_kind
 use Rattle.unit.specs.Unit.{most_carried, most_obus, most_obu_bytes, obus_in, sum, read_unit}
 use Rattle.tsobu.specs.StartCodes.{at_start_code, payloads}
 use Rattle.tsobu.specs.TsObu.{tsobu_refusal}
 use Rattle.unit.specs.Unit.{dropped_in}
 use Rattle.unit.specs.Answer.{checking, reading, too_short, reading_widths}
-use Rattle.unit.specs.Parts.{kind_in, ends_from, payload_counts, counted_payloads, whole_counts, Notes}
+use Rattle.unit.specs.Parts.{kind_in, ends_from, ends_of, widths_of, payload_counts, counted_payloads, whole_counts, Notes}
 use Rattle.unit.specs.declared.reading.Counts.{Counts}
+use Rattle.unit.specs.declared.reading.Note.{Note}
 use Rattle.unit.proofs.Acceptance.{reads}
 use Rattle.unit.proofs.Lengths.{sum_lengths}
 
 abbrev pub counts : Bytes → Counts
 counts s = record { obus = length (obus_in s); bytes = sum (map length (obus_in s)); dropped = dropped_in s }
 
--- the kinds of the OBUs, by the numbers in their payloads
-kinds : (ps : List Bytes) → map kind_of_number (map kind_in ps) ≡ map kind_of (map unescape ps)
+-- the kinds of the OBUs, by their payloads
+kinds : (ps : List Bytes) → map kind_in ps ≡ map kind_of (map unescape ps)
 kinds [] = refl
 kinds (p ∷ ps) = ap (λ (l : List Kind). kind_of (unescape p) ∷ l) (kinds ps)
 
@@ -93,17 +96,17 @@ module _ (s : Bytes) where
         let n : length (payloads s) ≡ length (obus_in s) = sym (length-map (payloads s) unescape) in
         (p.0, sym (passed_same _ c p.1) ∙ λ i. record { obus = n i; bytes = sum (map length (obus_in s)); dropped = dropped_in s })
 
-    pub check_whole : (c : Counts) (numbers : List ℕ) → passed c ≡ payload_counts s
-        → take (length (payloads s)) numbers ≡ map kind_in (payloads s) → whole_counts c numbers ≡ checking s
+    pub check_whole : (c : Counts) (noted : List code_kind.Kind) → passed c ≡ payload_counts s
+        → map kind_meant (take (length (payloads s)) noted) ≡ map kind_in (payloads s) → whole_counts c noted ≡ checking s
     unfolding whole_counts
-    check_whole c numbers k t =
+    check_whole c noted k t =
         let n = counts_are c k in
         let m : c.obus ≡ length (payloads s) = ap (λ (x : Counts). x.obus) n.1 ∙ length-map (payloads s) unescape in
-        let o : map kind_of_number (take c.obus numbers) ≡ map kind_of (obus_in s) =
-        ap (λ (i : ℕ). map kind_of_number (take i numbers)) m ∙ ap (map kind_of_number) t ∙ kinds (payloads s) in
+        let o : map kind_meant (take c.obus noted) ≡ map kind_of (obus_in s) =
+        ap (λ (i : ℕ). map kind_meant (take i noted)) m ∙ t ∙ kinds (payloads s) in
         behind
         (follows n.0
-        (ap (λ (x : Counts). given 2 (ltb most_obu_bytes x.bytes) >> order_refusal (map kind_of_number (take c.obus numbers)) >> passed x)
+        (ap (λ (x : Counts). given 2 (ltb most_obu_bytes x.bytes) >> order_refusal (map kind_meant (take c.obus noted)) >> passed x)
         n.1
         ∙ ap (λ (l : List Kind). given 2 (ltb most_obu_bytes (sum (map length (obus_in s)))) >> order_refusal l >> passed (counts s)) o))
 
@@ -130,22 +133,22 @@ module _ (s : Bytes) where
       (sym (given_passed 1 (ltb most_obus (length (payloads s))) p.0), sym p.1)
 
 -- ---- the answer, and what is noted
-whole_counts_lem : (c : Counts) (numbers : List ℕ) (d : Counts) → whole_counts c numbers ≡ passed d → d ≡ c
+whole_counts_lem : (c : Counts) (noted : List code_kind.Kind) (d : Counts) → whole_counts c noted ≡ passed d → d ≡ c
 unfolding whole_counts
-whole_counts_lem c numbers d e = sym (passed_same c d (passed_after _ _ d (passed_after _ _ d e).1).1)
+whole_counts_lem c noted d e = sym (passed_same c d (passed_after _ _ d (passed_after _ _ d e).1).1)
 
-pub refused_notes : (s : Bytes) (ends widths : List ℕ) (number place : ℕ) → refused number place ≡ checking s → Notes s ends widths
-refused_notes s ends widths number place k = record { ends = λ c p. never (k ∙ p); widths = λ c p. never (k ∙ p) }
+pub refused_notes : (s : Bytes) (notes : List Note) (number place : ℕ) → refused number place ≡ checking s → Notes s notes
+refused_notes s notes number place k = record { ends = λ c p. never (k ∙ p); widths = λ c p. never (k ∙ p) }
 
-pub whole_notes : (s : Bytes) (c : Counts) (at widths numbers : List ℕ) → whole_counts c numbers ≡ checking s → c.obus ≡ length (payloads s)
-    → take (length (payloads s)) at ≡ ends_from 0 (payloads s) → take (length (payloads s)) widths ≡ map size_width (obus_in s)
-    → Notes s at widths
-whole_notes s c at widths numbers k n a w =
+pub whole_notes : (s : Bytes) (c : Counts) (noted : List code_kind.Kind) (notes : List Note) → whole_counts c noted ≡ checking s
+    → c.obus ≡ length (payloads s) → ends_of (take (length (payloads s)) notes) ≡ ends_from 0 (payloads s)
+    → widths_of (take (length (payloads s)) notes) ≡ map size_width (obus_in s) → Notes s notes
+whole_notes s c noted notes k n a w =
     let obus : (d : Counts) → checking s ≡ passed d → d.obus ≡ length (payloads s) =
-    λ d p. ap (λ (x : Counts). x.obus) (whole_counts_lem c numbers d (k ∙ p)) ∙ n in
+    λ d p. ap (λ (x : Counts). x.obus) (whole_counts_lem c noted d (k ∙ p)) ∙ n in
     record {
-      ends = λ d p. ap (λ (m : ℕ). take m at) (obus d p) ∙ a;
-      widths = λ d p. ap (λ (m : ℕ). take m widths) (obus d p) ∙ w;
+      ends = λ d p. ap (λ (m : ℕ). ends_of (take m notes)) (obus d p) ∙ a;
+      widths = λ d p. ap (λ (m : ℕ). widths_of (take m notes)) (obus d p) ∙ w;
     }
 
 -- ---- what an accepted unit is
@@ -173,12 +176,22 @@ checked s c e =
     }
 
 -- there is a width for each of its OBUs
-pub widths_long : (s : Bytes) (c : Counts) (sizes : List ℕ) → Checked s c → take c.obus sizes ≡ map size_width (obus_in s)
-    → c.obus ≤ length sizes
-widths_long s c sizes h e =
-    let both = length-append (take c.obus sizes) (drop c.obus sizes) in
-    let whole = ap length (take-append-drop c.obus sizes) in
-    omega (arith, h.obus, ap length e, length-map (obus_in s) size_width, length-map (payloads s) unescape, both, whole)
+pub widths_long : (s : Bytes) (c : Counts) (notes : List Note) → Checked s c → widths_of (take c.obus notes) ≡ map size_width (obus_in s)
+    → c.obus ≤ length notes
+widths_long s c notes h e =
+    let both = length-append (take c.obus notes) (drop c.obus notes) in
+    let whole = ap length (take-append-drop c.obus notes) in
+    omega (
+      arith,
+      h.obus,
+      ap length e,
+      length-map (take c.obus notes) (λ (n : Note). n.width),
+      length-map
+          (obus_in s) size_width,
+      length-map (payloads s) unescape,
+      both,
+      whole,
+    )
 
 -- ---- reading, behind the verdict of checking
 module _ (s : Bytes) (bytes lengths widths : ℕ) where

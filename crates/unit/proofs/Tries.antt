@@ -9,13 +9,19 @@ use borrow.Author.Tests.{lt-ltb, le-ltb, eq-eqb, ne_eqb}
 use lib.Dec.{ltb, eqb}
 use lib.ListN.{length, take, get_or, set, length-set}
 use lib.Seq.{take-suc-set, append_snoc}
+use Rattle.std.specs.Prelude.{Result, Ok, Err}
 use Rattle.lists.specs.Lists.{Bytes, over}
+use Rattle.lists.proofs.Tests.{apart}
+use Rattle.refusal.specs.declared.Refused.{Refused}
+use Rattle.refusal.specs.Number.{number_of, says}
 use Rattle.refusal.specs.Verdict.{Verdict, passed, refused, ◌>>◌, NoValue, in_turn, leaves}
 use Rattle.refusal.proofs.Verdicts.{refuse, pass_on, refines_passed, refines_refused, stops, follows}
 use Rattle.obu.specs.declared.header.Header.{Header}
 use Rattle.obu.specs.Header.{judged, obu_refusal}
 use Rattle.obu.specs.Order.{Kind, kind_of, kind_of_number, kind_number, order_refusal}
-use Rattle.obu.proofs.Headers.{judged_number}
+use Rattle.obu.specs.Table.{kind_meant}
+use Rattle.obu.specs.declared.ordering.Kind as code_kind
+use Rattle.obu.proofs.Headers.{judged_header, header_kind}
 use Rattle.unit.specs.Unit.{most_obus, most_obu_bytes, sum, obus_of, write_refusal, carried, write_unit}
 use Rattle.unit.specs.Demand3.{Demand3Lent}
 use Rattle.unit.proofs.Theorem.{written, demand3_lent}
@@ -59,12 +65,12 @@ module _ (lens : List ℕ) (bytes : Bytes) where
       (pass_on 2 (ap₂ (λ (x y : Bool). x || not y) (le-ltb most_obu_bytes (length bytes) s.2) (eq-eqb (sum lens) (length bytes) s.3)) e)
 
 -- ---- each OBU in turn, and the order
--- i OBUs passed, and `numbers` begins with the numbers of their kinds
-pub record Judging (lens : List ℕ) (bytes : Bytes) (i at : ℕ) (numbers : List ℕ) : Type 0 where
+-- i OBUs passed, and `noted` begins with their kinds
+pub record Judging (lens : List ℕ) (bytes : Bytes) (i at : ℕ) (noted : List code_kind.Kind) : Type 0 where
   pub place : At lens bytes i at
-  pub long : length numbers ≡ most_obus
+  pub long : length noted ≡ most_obus
   pub turns : in_turn obu_refusal i (left lens bytes i at) ≡ in_turn obu_refusal 0 (obus_of lens bytes)
-  pub kinds : map kind_of_number (take i numbers) ++ map kind_of (left lens bytes i at) ≡ map kind_of (obus_of lens bytes)
+  pub kinds : map kind_meant (take i noted) ++ map kind_of (left lens bytes i at) ≡ map kind_of (obus_of lens bytes)
 
 -- the refusal of an OBU, from the verdict on it as the next one that is lent
 module _ (lens : List ℕ) (bytes : Bytes) (i at : ℕ) (a : At lens bytes i at) (k : i < length lens) where
@@ -82,35 +88,37 @@ module _ (lens : List ℕ) (bytes : Bytes) (i at : ℕ) (a : At lens bytes i at)
   obu_refused number place e = let j = sym judged_next ∙ e in rw j
 
 module _ (lens : List ℕ) (bytes : Bytes) where
-  pub judging_start : (numbers : List ℕ) → sum lens ≡ length bytes → length numbers ≡ most_obus → Judging lens bytes 0 0 numbers
-  judging_start numbers e l = record { place = omega arith; long = l; turns = refl; kinds = refl }
+  pub judging_start : (noted : List code_kind.Kind) → sum lens ≡ length bytes → length noted ≡ most_obus → Judging lens bytes 0 0 noted
+  judging_start noted e l = record { place = omega arith; long = l; turns = refl; kinds = refl }
 
-  module _ (i at : ℕ) (numbers : List ℕ) (j : Judging lens bytes i at numbers) where
+  module _ (i at : ℕ) (noted : List code_kind.Kind) (j : Judging lens bytes i at noted) where
     -- the next OBU passed
     pub judging_next : i < length lens → length lens ≤ most_obus → (h : Header) → judged (lent_obu lens bytes i at) (get_or lens i 0) ≡
         passed h
-        → (t : ℕ) → t ≡ kind_number h → Judging lens bytes (i + 1) (at + get_or lens i 0) (set numbers i t)
+        → (t : code_kind.Kind) → kind_meant t ≡ kind_of_number (kind_number h)
+        → Judging lens bytes (i + 1) (at + get_or lens i 0) (set noted i t)
     judging_next k m h e t f =
         let obu : Bytes = next_obu lens bytes i at in
         let rest : List Bytes = left lens bytes (i + 1) (at + get_or lens i 0) in
-        let before : List Kind = map kind_of_number (take i numbers) in
+        let before : List Kind = map kind_meant (take i noted) in
         let n = left_next lens bytes i at k in
-        let kind : kind_of obu ≡ kind_of_number t =
+        let lent : Bytes = lent_obu lens bytes i at in
+        let kind : kind_of obu ≡ kind_meant t =
         ap kind_of (sym (lent_obu_lem lens bytes i at))
-        ∙ ap kind_of_number (judged_number (lent_obu lens bytes i at) (get_or lens i 0) h e ∙ sym f) in
-        let taken : take (i + 1) (set numbers i t) ≡ take i numbers ++ (t ∷ []) =
-        ap (λ (x : ℕ). take x (set numbers i t)) (add-one i) ∙ take-suc-set numbers i t (omega (arith, j.long)) in
+        ∙ sym (header_kind lent h t f (judged_header lent (get_or lens i 0) h e)) in
+        let taken : take (i + 1) (set noted i t) ≡ take i noted ++ (t ∷ []) =
+        ap (λ (x : ℕ). take x (set noted i t)) (add-one i) ∙ take-suc-set noted i t (omega (arith, j.long)) in
         record {
           place = at_next lens bytes i at j.place k;
-          long = length-set numbers i t ∙ j.long;
+          long = length-set noted i t ∙ j.long;
           turns =
               ap (λ (x : ℕ). in_turn obu_refusal x rest) (add-one i)
               ∙ sym (refines_passed obu_refusal i obu rest (obu_passed lens bytes i at j.place k h e))
               ∙ ap (in_turn obu_refusal i) (sym n) ∙ j.turns;
           kinds =
-              ap (λ (l : List ℕ). map kind_of_number l ++ map kind_of rest) taken
-              ∙ ap (λ (l : List Kind). l ++ map kind_of rest) (map-append kind_of_number (take i numbers) (t ∷ []))
-              ∙ append_snoc before (kind_of_number t) (map kind_of rest) ∙ ap (λ (x : Kind). before ++ x ∷ map kind_of rest) (sym kind)
+              ap (λ (l : List code_kind.Kind). map kind_meant l ++ map kind_of rest) taken
+              ∙ ap (λ (l : List Kind). l ++ map kind_of rest) (map-append kind_meant (take i noted) (t ∷ []))
+              ∙ append_snoc before (kind_meant t) (map kind_of rest) ∙ ap (λ (x : Kind). before ++ x ∷ map kind_of rest) (sym kind)
               ∙ ap (λ (l : List Bytes). before ++ map kind_of l) (sym n) ∙ j.kinds;
         }
 
@@ -126,15 +134,17 @@ module _ (lens : List ℕ) (bytes : Bytes) where
         ∙ refines_refused obu_refusal i (next_obu lens bytes i at) _ number place refusal))
 
     -- all passed
-    pub judging_end : {v : Verdict NoValue} → Sized lens bytes → length lens ≤ i → v ≡ order_refusal (map kind_of_number (take i numbers))
-        → v ≡ write_refusal lens bytes
+    pub judging_end : {v : Verdict NoValue} → Sized lens bytes → length lens ≤ i
+        → v ≡ order_refusal (map kind_meant (take (length lens) noted)) → v ≡ write_refusal lens bytes
     unfolding in_turn
     judging_end s k e =
+        let all : length lens ≡ i = omega (arith, j.place.0) in
         let n = left_end lens bytes i at k in
-        let before : List Kind = map kind_of_number (take i numbers) in
+        let before : List Kind = map kind_meant (take i noted) in
         let kinds : before ≡ map kind_of (obus_of lens bytes) = sym (append-nil before)
         ∙ ap (λ (l : List Bytes). before ++ map kind_of l) (sym n) ∙ j.kinds in
-        sized_tries lens bytes s (follows (sym j.turns ∙ ap (in_turn obu_refusal i) n) (e ∙ ap order_refusal kinds))
+        sized_tries lens bytes s (follows (sym j.turns ∙ ap (in_turn obu_refusal i) n) (e
+        ∙ ap (λ (n : ℕ). order_refusal (map kind_meant (take n noted))) all ∙ ap order_refusal kinds))
 
 -- ---- 8, and the whole answer
 module _ (lens : List ℕ) (bytes out : Bytes) where
@@ -171,3 +181,17 @@ module _ (lens : List ℕ) (bytes out : Bytes) where
   all_written n after e f h k =
       answers (passed n) after
       (follows (sym f) (pass_on 8 (le-ltb (length out) (length (carried (obus_of lens bytes))) (omega arith)) (ap passed e))) k
+
+-- ---- the verdict on an OBU, a refusal being placed at the OBU's index
+abbrev pub placed_at : ℕ → Result Header Refused → Result Header Refused
+placed_at i (Ok h) = Ok h
+placed_at i (Err r) = Err (record { why = r.why; place = i })
+
+pub placed_ok : (i : ℕ) (q : Result Header Refused) (h : Header) → placed_at i q ≡ Ok h → says q ≡ passed h
+placed_ok i (Ok g) h e = ap says e
+placed_ok i (Err r) h e = apart (cc)
+
+pub placed_err : (i : ℕ) (q : Result Header Refused) (r : Refused) → placed_at i q ≡ Err r
+    → (s : Refused) × (says q ≡ refused (number_of s.why) s.place) × (r ≡ record { why = s.why; place = i })
+placed_err i (Ok h) r e = apart (cc)
+placed_err i (Err s) r e = (s, refl, cc)

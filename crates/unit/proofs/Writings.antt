@@ -1,4 +1,7 @@
 -- The carried unit, tsOBU by tsOBU: its length, and its bytes in an output. Assumes nothing.
+use Rattle.std.specs.Prelude.{Result, Ok, Err}
+use Rattle.std.specs.Result.{result_unwrap_or}
+use Rattle.refusal.specs.Number.{says}
 use Prim.Native.Nat.{ℕ, ◌+◌, ◌-◌, ◌*◌, ◌/◌, ◌≤◌, ◌<◌}
 use mathlib.Core.Path.{◌≡◌, refl, sym, ap, subst, subst₂, ◌∙◌}
 use mathlib.Core.List.{List, [], ◌∷◌, ◌++◌}
@@ -14,9 +17,6 @@ use Rattle.refusal.specs.Verdict.{passed}
 use Rattle.refusal.proofs.Verdicts.{pass_on, never, passed_same}
 use Rattle.emulation.specs.Payload.{escape}
 use Rattle.emulation.specs.Answer.{most_escaped, measuring}
-use Rattle.escaping.specs.Answer.{escaped_says}
-use Rattle.escaping.specs.declared.escaping.Escaped.{Escaped}
-use Rattle.escaping.specs.declared.escaping.Escaped.TheVariants as escaped
 use Rattle.unit.specs.Unit.{most_obus, most_obu_bytes, most_carried, sum, obus_of, carried}
 use Rattle.unit.proofs.Lengths.{cut_lengths}
 use Rattle.unit.proofs.Theorem.{carried_length}
@@ -27,12 +27,10 @@ measuring_is : (obu : Bytes) → length obu ≤ most_escaped → measuring obu �
 unfolding measuring
 measuring_is obu h = sym (pass_on 2 (le-ltb most_escaped (length obu) h) refl)
 
-module _ (obu : Bytes) (h : length obu ≤ most_escaped) (q : Escaped) (e : escaped_says q ≡ measuring obu) where
-  pub measured : (n : ℕ) → q ≡ escaped.Bytes n → n ≡ length (escape obu)
-  measured n k = passed_same n (length (escape obu)) (sym (ap escaped_says k) ∙ e ∙ measuring_is obu h)
-
-  pub not_refused : {P : Type 0} (r : Refused) → q ≡ escaped.Refused r → P
-  not_refused r k = never (sym (ap escaped_says k) ∙ e ∙ measuring_is obu h)
+pub measured : (obu : Bytes) → length obu ≤ most_escaped → (q : Result ℕ Refused) → says q ≡ measuring obu
+    → result_unwrap_or q 0 ≡ length (escape obu)
+measured obu h (Ok n) e = passed_same n (length (escape obu)) (e ∙ measuring_is obu h)
+measured obu h (Err r) e = never (e ∙ measuring_is obu h)
 
 -- ---- the carried unit: a tsOBU for each OBU in turn
 abbrev ts_obu : Bytes → Bytes

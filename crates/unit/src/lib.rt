@@ -6,5 +6,5 @@ mod reading;
 mod writing;
 
 pub use limits::{MOST_CARRIED, MOST_OBU_BYTES, MOST_OBUS};
-pub use reading::{Counts, UnitRead, check, read};
-pub use writing::{Written, write};
+pub use reading::{Counts, check, read};
+pub use writing::write;

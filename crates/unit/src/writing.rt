@@ -1,91 +1,60 @@
 // Writing one access unit.
 ghost use Rattle.std.specs.Prelude.{◌≡◌, ◌+◌, ◌≤◌, ◌∷◌, eqb, leb, length};
 ghost use Rattle.lists.specs.Lists.{over};
-ghost use Rattle.refusal.specs.Verdict.{refused, leaves};
-ghost use Rattle.refusal.specs.Number.{number_of};
+ghost use Rattle.refusal.specs.Verdict.{leaves};
+ghost use Rattle.refusal.specs.Number.{says};
 ghost use Rattle.emulation.specs.Payload.{escape};
 ghost use Rattle.emulation.specs.Answer.{most_escaped};
-ghost use Rattle.obu.specs.Order.{ordered_says};
 ghost use Rattle.unit.specs.Unit.{most_obus, most_obu_bytes, sum, obus_of, write_refusal, carried, write_unit};
-ghost use Rattle.unit.specs.Answer.{written_says};
 ghost use Rattle.unit.specs.Demand3.{Demand3Lent};
 
 use crate::limits::{MOST_OBU_BYTES, MOST_OBUS};
-use escaping::{Escaped, escape_prefix, escaped_length};
-use obu::{Judged, Ordered, judge, kind_number, order};
+use escaping::{escape_prefix, escaped_length};
+use obu::{Kind, judge, kind_of, order_kinds};
 use refusal::{Refusal, Refused};
 
-// How many bytes the carried unit has, or the refusal.
-#[derive(Drop)]
-pub enum Written {
-    Bytes(usize),
-    Refused(Refused),
-}
+// Stays: `write` has the OBUs and their lengths from C as two slices; of a struct each contract would name both fields.
 
-fn refuse(why: Refusal) -> Written
-    ensures { written_says result ≡ refused (number_of why) 0 }
-{
-    Written::Refused(Refused { why, place: 0 })
-}
-
-// Whether the lengths add up to n. Each is taken from what is left of n, so that no sum can wrap.
+// Returns whether the lengths add up to `n`. Each is taken from what is left of `n`, so that no sum can wrap.
 fn adds_up(lens: &[usize], n: usize) -> bool
     ensures { result ≡ eqb (sum lens.now) n }
 {
     let mut left = n;
-    let mut i: usize = 0;
-    while i < lens.len() {
-        let length = lens[i];
-        if left < length {
+    for length in lens {
+        if left < *length {
             return false;
         }
-        left -= length;
-        i += 1;
+        left -= *length;
     }
     left == 0
 }
 
-// Where 1 and 2 are not given: each OBU in turn, then their order; 3, 4, 5, 6, 42, then 7.
-fn judge_obus(obus: &[u8], lens: &[usize]) -> Ordered
+// Judges each OBU in turn, then their order. Returns refusal 3, 4, 5, 6 or 42 at the OBU's index, then 7.
+fn judge_obus(obus: &[u8], lens: &[usize]) -> Result<(), Refused>
     requires { (1 ≤ length lens.now) × (length lens.now ≤ most_obus) × (length obus.now ≤ most_obu_bytes)
         × (sum lens.now ≡ length obus.now) }
-    ensures { ordered_says result ≡ write_refusal lens.now obus.now }
+    ensures { says result ≡ write_refusal lens.now obus.now }
 {
-    let mut kinds = [0u8; 64];
+    let mut kinds = [Kind::Reserved; MOST_OBUS];
     let mut at: usize = 0;
-    let mut i: usize = 0;
-    while i < lens.len() {
-        let length = lens[i];
-        let end = at + length;
-        let judged = judge(&obus[at..end], length);
-        match judged {
-            Judged::Refused(refused) => {
-                let why = refused.why;
-                return Ordered::Refused(Refused { why, place: i });
-            }
-            Judged::Passed(header) => {
-                kinds[i] = kind_number(header);
-            }
-        }
+    for (i, length) in lens.iter().enumerate() {
+        let end = at + *length;
+        let header = judge(&obus[at..end], *length).map_err(|refused| refused.why.at(i))?;
+        kinds[i] = kind_of(header);
         at = end;
-        i += 1;
     }
-    order(&kinds[..i])
+    order_kinds(&kinds[..lens.len()])
 }
 
-// How many bytes the escaped form of an OBU has, which is within the limit of escaping.
+// Returns how many bytes the escaped form of an OBU has, which is within the limit of escaping.
 fn escaped_bytes(obu: &[u8]) -> usize
     requires { length obu.now ≤ most_escaped }
     ensures { result ≡ length (escape obu.now) }
 {
-    let escaped = escaped_length(obu);
-    match escaped {
-        Escaped::Bytes(n) => n,
-        Escaped::Refused(_) => 0, // not reached
-    }
+    escaped_length(obu).unwrap_or(0) // 0 is not reached
 }
 
-// How many bytes the carried unit has.
+// Returns how many bytes the carried unit has.
 fn carried_length(obus: &[u8], lens: &[usize]) -> usize
     requires { (length lens.now ≤ most_obus) × (length obus.now ≤ most_obu_bytes)
         × (sum lens.now ≡ length obus.now) }
@@ -93,18 +62,16 @@ fn carried_length(obus: &[u8], lens: &[usize]) -> usize
 {
     let mut n: usize = 0;
     let mut at: usize = 0;
-    let mut i: usize = 0;
-    while i < lens.len() {
-        let end = at + lens[i];
+    for length in lens {
+        let end = at + *length;
         n += 3 + escaped_bytes(&obus[at..end]);
         at = end;
-        i += 1;
     }
     n
 }
 
-// The carried unit has at most so many bytes. Each 03 takes two zeros before it, so that with room for half as many
-// bytes more nothing has to be counted.
+// Returns whether the carried unit has at most `room` bytes. Each 03 takes two zeros before it, so that with room for
+// half as many bytes more nothing has to be counted.
 fn has_room(obus: &[u8], lens: &[usize], room: usize) -> bool
     requires { (length lens.now ≤ most_obus) × (length obus.now ≤ most_obu_bytes)
         × (sum lens.now ≡ length obus.now) }
@@ -116,7 +83,7 @@ fn has_room(obus: &[u8], lens: &[usize], room: usize) -> bool
     carried_length(obus, lens) <= room
 }
 
-// A start code and the escaped OBU over the front of out; answers how many bytes that is.
+// Writes a start code and the escaped OBU over the front of `out`, and returns how many bytes that is.
 fn write_obu(obu: &[u8], out: &mut [u8]) -> usize
     requires { 3 + length (escape obu.now) ≤ length out.old }
     ensures value { result ≡ 3 + length (escape obu.now) }
@@ -128,7 +95,7 @@ fn write_obu(obu: &[u8], out: &mut [u8]) -> usize
     3 + escape_prefix(obu, &mut out[3..])
 }
 
-// The carried unit over the front of out; answers how many bytes that is.
+// Writes the carried unit over the front of `out`, and returns how many bytes that is.
 fn write_obus(obus: &[u8], lens: &[usize], out: &mut [u8]) -> usize
     requires { (sum lens.now ≡ length obus.now)
         × (length (carried (obus_of lens.now obus.now)) ≤ length out.old) }
@@ -138,43 +105,38 @@ fn write_obus(obus: &[u8], lens: &[usize], out: &mut [u8]) -> usize
 {
     let mut n: usize = 0;
     let mut at: usize = 0;
-    let mut i: usize = 0; // OBUs written
-    while i < lens.len() {
-        let end = at + lens[i];
+    for bytes in lens {
+        let end = at + *bytes;
         n += write_obu(&obus[at..end], &mut out[n..]);
         at = end;
-        i += 1;
     }
     n
 }
 
-// The carried unit of the OBUs that stand back to back in obus, over the front of out; 1, 2, for each OBU 3, 4, 5, 6,
-// 42, then 7, then 8.
-pub fn write(obus: &[u8], lens: &[usize], out: &mut [u8]) -> Written
-    ensures result_value { written_says result ≡ write_unit lens.now obus.now (length out.old) }
+// Writes the carried unit of the OBUs that stand back to back in `obus` over the front of `out`, and returns how many
+// bytes that is, or refusal 1, 2, for each OBU 3, 4, 5, 6, 42, then 7, then 8; `out` is then left unchanged.
+pub fn write(obus: &[u8], lens: &[usize], out: &mut [u8]) -> Result<usize, Refused>
+    ensures result_value { says result ≡ write_unit lens.now obus.now (length out.old) }
     ensures out_after { out.new
-        ≡ leaves (written_says result) (carried (obus_of lens.now obus.now)) out.old }
-    ensures demand3lent { Demand3Lent lens.now obus.now out.old (written_says result)
+        ≡ leaves (says result) (carried (obus_of lens.now obus.now)) out.old }
+    ensures demand3lent { Demand3Lent lens.now obus.now out.old (says result)
         out.new }
 {
     if lens.len() == 0 {
-        return refuse(Refusal::OBU_COUNT);
+        return Err(Refusal::ObuCount.at(0));
     }
     if MOST_OBUS < lens.len() {
-        return refuse(Refusal::OBU_COUNT);
+        return Err(Refusal::ObuCount.at(0));
     }
     if MOST_OBU_BYTES < obus.len() {
-        return refuse(Refusal::LENGTH);
+        return Err(Refusal::Length.at(0));
     }
     if !adds_up(lens, obus.len()) {
-        return refuse(Refusal::LENGTH);
+        return Err(Refusal::Length.at(0));
     }
-    let judged = judge_obus(obus, lens);
-    if let Ordered::Refused(refused) = judged {
-        return Written::Refused(refused);
-    }
+    judge_obus(obus, lens)?;
     if !has_room(obus, lens, out.len()) {
-        return refuse(Refusal::NO_ROOM);
+        return Err(Refusal::NoRoom.at(0));
     }
-    Written::Bytes(write_obus(obus, lens, out))
+    Ok(write_obus(obus, lens, out))
 }

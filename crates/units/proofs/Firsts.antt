@@ -1,10 +1,11 @@
 -- The list of the packets that began the units: where the open PES has closed, its first packet is put behind those of the units before it,
 -- and so the list holds those of all units, as many as it has room for (`notes`). Assumes nothing.
+use Rattle.units.specs.declared.state.PesFound.{PesFound}
+use Rattle.std.specs.Prelude.{Option, Some, None}
 use Prim.Native.Nat.{ℕ, ◌≤◌, ◌<◌}
 use mathlib.Core.Bool.{Bool, true, false}
 use mathlib.Core.Path.{◌≡◌, refl, sym, ap, ap₂, ◌∙◌}
 use mathlib.Core.List.{List, [], ◌∷◌, ◌++◌}
-use mathlib.Core.Option.{some}
 use native.Mathlib.Omega.{arith}
 use borrow.Author.Tests.{ltb-true, ltb-false, lt-ltb, le-ltb}
 use lib.Dec.{ltb}
@@ -17,8 +18,6 @@ use Rattle.segment_rules.specs.State.{OpenPes, AccessUnit}
 use Rattle.segment_rules.specs.Rules.{unit_of, open_bytes}
 use Rattle.segment_rules.specs.Check.{Outputs, first_packets, holding_firsts}
 use Rattle.segment_rules.proofs.Growing.{Grows, same_units, one_more}
-use Rattle.units.specs.declared.state.PesSeen.{PesSeen}
-use Rattle.units.specs.declared.state.PesSeen.TheVariants as seen
 use Rattle.units.specs.declared.units.Extraction.{Extraction}
 use Rattle.units.specs.Extraction.{open_pes, pes_of, first_of, first_noted, UnitsRepresent}
 use Rattle.units.proofs.Holding.{over_one, map_last}
@@ -69,13 +68,13 @@ module _ (e e' : Extraction) (firsts : List ℕ) where
   in_place h first k = rw (lt-ltb e.units e'.units h) (ap (set firsts e.units) k)
 
 -- the code's open PES is this one
-first_of_lem : (o : OpenPes) (bytes : Bytes) (p : PesSeen) → pes_of bytes p ≡ some o → first_of p ≡ o.first
-first_of_lem o bytes seen.Closed k = let z : ◌≡◌ {A = ℕ} 0 1 = cc in absurd (omega arith)
-first_of_lem o bytes (seen.Open f) k = let same : open_pes f bytes ≡ o = cc in ap (λ (q : OpenPes). q.first) same
+first_of_lem : (o : OpenPes) (bytes : Bytes) (p : Option PesFound) → pes_of bytes p ≡ Some o → first_of p ≡ o.first
+first_of_lem o bytes None k = let z : ◌≡◌ {A = ℕ} 0 1 = cc in absurd (omega arith)
+first_of_lem o bytes (Some f) k = let same : open_pes f bytes ≡ o = cc in ap (λ (q : OpenPes). q.first) same
 
 module _ {before now now' : Outputs} {e e' : Extraction} {x x' : state.Extraction} (s : UnitsRepresent before now e x)
     (s' : UnitsRepresent before now' e' x') (old firsts : List ℕ) (h : firsts ≡ holding_firsts x.units old) where
-  put : (o : OpenPes) → x.pes ≡ some o
+  put : (o : OpenPes) → x.pes ≡ Some o
       → set firsts e.units (first_of e.pes) ≡ holding_firsts (x.units ++ (unit_of o ∷ [])) old
   put o at =
       ap₂ (λ (l : List ℕ) (n : ℕ). set l n (first_of e.pes)) h (s.units ∙ sym (length-map x.units (λ u. u.first)))

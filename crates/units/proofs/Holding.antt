@@ -2,10 +2,10 @@
 -- a
 -- unit's end.
 -- Assumes nothing.
+use Rattle.std.specs.Prelude.{Option, Some, None}
 use Prim.Native.Nat.{ℕ, suc, ◌+◌, ◌*◌, ◌≤◌, ◌<◌}
 use mathlib.Core.Path.{◌≡◌, refl, sym, ap, ap₂, subst, ◌∙◌}
 use mathlib.Core.List.{List, [], ◌∷◌, ◌++◌, map, flatten, append-nil, append_assoc}
-use mathlib.Core.Option.{Option, none}
 use native.Mathlib.Omega.{arith}
 use lib.ListN.{length, take, drop, set, get_or, length-append, length-set}
 use lib.Seq.{take-append_seam, drop-append_seam, drop-drop, drop-cons, set-append_seam}
@@ -17,8 +17,6 @@ use Rattle.segment_rules.specs.Check.{Outputs, outputs_of, rooms_of, lengths, pt
 use Rattle.segment_rules.proofs.Outputs.{two_times, count_times}
 use Rattle.lists.proofs.Writing.{length_over}
 use Rattle.units.specs.declared.state.PesFound.{PesFound}
-use Rattle.units.specs.declared.state.PesSeen.{PesSeen}
-use Rattle.units.specs.declared.state.PesSeen.TheVariants as seen
 use Rattle.units.specs.declared.units.Extraction.{Extraction}
 use Rattle.units.specs.Extraction.{open_pes, pes_of, fresh_extraction, units_begun, Fits, UnitsRepresent}
 use Rattle.units.specs.Parts.{closed_units, lens_put, times_put, lens_closed, times_closed}
@@ -65,9 +63,9 @@ module _ {before now : Outputs} {e : Extraction} {x : state.Extraction} (s : Uni
   closed_units_lem : length x.units ≤ units_begun e.pes e.units
   closed_units_lem = subst (λ (n : ℕ). n ≤ units_begun e.pes e.units) s.units (begun e.pes e.units)
     where
-      begun : (p : PesSeen) (n : ℕ) → n ≤ units_begun p n
-      begun seen.Closed n = omega arith
-      begun (seen.Open f) n = omega arith
+      begun : (p : Option PesFound) (n : ℕ) → n ≤ units_begun p n
+      begun None n = omega arith
+      begun (Some f) n = omega arith
 
   pub same_bytes : length now.bytes ≡ length before.bytes
   same_bytes =
@@ -93,13 +91,17 @@ module _ {before now : Outputs} {e : Extraction} {x : state.Extraction} (s : Uni
         in_times = omega (arith, same_times, s.fits.in_times);
       }
 
-  none_open : e.pes ≡ seen.Closed → carried_so_far x ≡ carried_units x.units
+  none_open : e.pes ≡ None → carried_so_far x ≡ carried_units x.units
   none_open c =
       ap (λ (o : Bytes). carried_units x.units ++ o) (ap open_bytes (s.pes ∙ ap (pes_of (open_bytes x.pes)) c)) ∙ append-nil
       (carried_units x.units)
 
-  -- where no PES is open, the outputs hold the units
-  pub closed_outputs : e.pes ≡ seen.Closed → now ≡ holding x.units before
+  -- where no PES is open, there are no bytes of one
+  pub no_bytes : e.pes ≡ None → e.bytes ≡ 0
+  no_bytes c = s.bytes ∙ ap (λ (o : Option OpenPes). length (open_bytes o)) (s.pes ∙ ap (pes_of (open_bytes x.pes)) c)
+
+  -- and the outputs hold the units
+  pub closed_outputs : e.pes ≡ None → now ≡ holding x.units before
   closed_outputs c =
       s.outputs
       ∙ ap (λ (w : Bytes). outputs_of (over w before.bytes) (over (lengths x.units) before.lens)
@@ -130,6 +132,10 @@ units_start before =
     }
 
 -- ---- a payload's bytes
+-- the units where a PES opens with so many of them, no other being open
+abbrev pub opened_with : PesFound → ℕ → Extraction → Extraction
+opened_with f bytes e = record { pes = Some f; units = e.units; start = e.start; bytes = bytes }
+
 module _ {before : Outputs} {out lens times : List ℕ} {e : Extraction} {x : state.Extraction}
     (s : UnitsRepresent before (outputs_of out lens times) e x) (w : Bytes) where
   -- in the output behind what stands there
@@ -146,29 +152,29 @@ module _ {before : Outputs} {out lens times : List ℕ} {e : Extraction} {x : st
       (ap (λ (o : Outputs). o.times) s.outputs)
 
   -- a PES opens with them, and there is room for its length and times
-  pub stands_opened : (f : PesFound) → e.pes ≡ seen.Closed → e.start + e.bytes + length w ≤ length before.bytes → e.units + 1 ≤
-      length before.lens
-      → 2 * (e.units + 1) ≤ length before.times
-      → UnitsRepresent before (outputs_of (placed out (e.start + e.bytes) w) lens times)
-      (record { pes = seen.Open f; units = e.units; start = e.start + e.bytes; bytes = length w }) (with_pes (open_pes f w) x)
-  stands_opened f c b l t =
+  pub stands_opened : (f : PesFound) → e.pes ≡ None → Fits (opened_with f (length w) e) (rooms_of before)
+      → UnitsRepresent before (outputs_of (placed out e.start w) lens times) (opened_with f (length w) e) (with_pes (open_pes f w) x)
+  stands_opened f c fits =
+      let at : e.start ≡ e.start + e.bytes = omega (arith, no_bytes s c) in
       record {
         pes = refl;
         units = s.units;
-        start = written s ∙ ap length (none_open s c);
+        start = s.start;
         bytes = refl;
-        outputs = after_put (ap (λ (o : Bytes). o ++ w) (none_open s c));
-        fits = record { in_bytes = b; in_lens = l; in_times = t };
+        outputs =
+            ap (λ (n : ℕ). outputs_of (placed out n w) lens times) at
+            ∙ after_put (ap (λ (o : Bytes). o ++ w) (none_open s c));
+        fits = fits;
       }
 
   -- the open PES goes on with them
-  pub stands_added : (f : PesFound) → e.pes ≡ seen.Open f → e.start + e.bytes + length w ≤ length before.bytes
+  pub stands_added : (f : PesFound) → e.pes ≡ Some f → e.start + e.bytes + length w ≤ length before.bytes
       → UnitsRepresent before (outputs_of (placed out (e.start + e.bytes) w) lens times)
-      (record { pes = seen.Open f; units = e.units; start = e.start; bytes = e.bytes + length w })
+      (record { pes = Some f; units = e.units; start = e.start; bytes = e.bytes + length w })
       (with_pes (open_pes f (open_bytes x.pes ++ w)) x)
   stands_added f o b =
       let room = s.fits in
-      let begun : units_begun e.pes e.units ≡ e.units + 1 = ap (λ (p : PesSeen). units_begun p e.units) o in
+      let begun : units_begun e.pes e.units ≡ e.units + 1 = ap (λ (p : Option PesFound). units_begun p e.units) o in
       record {
         pes = refl;
         units = s.units;
@@ -185,41 +191,41 @@ module _ {before : Outputs} {out lens times : List ℕ} {e : Extraction} {x : st
 
 -- ---- the open PES closes
 -- the outputs keep their lengths
-pub lens_kept : (p : PesSeen) (unit bytes : ℕ) (lens : List ℕ) → length (lens_put p unit bytes lens) ≡ length lens
-lens_kept seen.Closed unit bytes lens = refl
-lens_kept (seen.Open f) unit bytes lens = length-set lens unit bytes
+pub lens_kept : (p : Option PesFound) (unit bytes : ℕ) (lens : List ℕ) → length (lens_put p unit bytes lens) ≡ length lens
+lens_kept None unit bytes lens = refl
+lens_kept (Some f) unit bytes lens = length-set lens unit bytes
 
-pub times_kept : (p : PesSeen) (unit : ℕ) (times : List ℕ) → length (times_put p unit times) ≡ length times
-times_kept seen.Closed unit times = refl
-times_kept (seen.Open f) unit times =
+pub times_kept : (p : Option PesFound) (unit : ℕ) (times : List ℕ) → length (times_put p unit times) ≡ length times
+times_kept None unit times = refl
+times_kept (Some f) unit times =
     length-set (set times (2 * unit) (get_or (pts_and_dts f.header.times) 0 0)) (2 * unit + 1) (get_or (pts_and_dts f.header.times) 1 0)
     ∙ length-set times (2 * unit) (get_or (pts_and_dts f.header.times) 0 0)
 
 -- there is none
 pub stands_already : {before : Outputs} {out lens times : List ℕ} {e : Extraction} {x : state.Extraction}
-    → UnitsRepresent before (outputs_of out lens times) e x → e.pes ≡ seen.Closed
+    → UnitsRepresent before (outputs_of out lens times) e x → e.pes ≡ None
     → UnitsRepresent before (outputs_of out (lens_closed e lens) (times_closed e times)) (closed_units e) x
 stands_already {before} {out} {lens} {times} {e} {x} s c =
-    let none_is : x.pes ≡ none = s.pes ∙ ap (pes_of (open_bytes x.pes)) c in
+    let none_is : x.pes ≡ None = s.pes ∙ ap (pes_of (open_bytes x.pes)) c in
     record {
       pes = none_is;
-      units = ap (λ (p : PesSeen). units_begun p e.units) c ∙ s.units;
+      units = ap (λ (p : Option PesFound). units_begun p e.units) c ∙ s.units;
       start = written s ∙ ap length (none_open s c);
       bytes = sym (ap (λ (p : Option OpenPes). length (open_bytes p)) none_is);
       outputs =
-          ap (λ (p : PesSeen). outputs_of out (lens_put p e.units e.bytes lens) (times_put p e.units times)) c ∙ s.outputs;
+          ap (λ (p : Option PesFound). outputs_of out (lens_put p e.units e.bytes lens) (times_put p e.units times)) c ∙ s.outputs;
       fits = record { in_bytes = omega (arith, s.fits.in_bytes); in_lens = s.fits.in_lens; in_times = s.fits.in_times };
     }
 
 -- ---- a unit's end
 module _ {before : Outputs} {out lens times : List ℕ} {e : Extraction} {x : state.Extraction}
     (s : UnitsRepresent before (outputs_of out lens times) e x) (f : PesFound)
-    (o : e.pes ≡ seen.Open f) (p d : ℕ) (pair : p ∷ d ∷ [] ≡ pts_and_dts f.header.times) where
+    (o : e.pes ≡ Some f) (p d : ℕ) (pair : p ∷ d ∷ [] ≡ pts_and_dts f.header.times) where
   abbrev unit : AccessUnit
   unit = unit_of (open_pes f (open_bytes x.pes))
 
   begun : units_begun e.pes e.units ≡ e.units + 1
-  begun = ap (λ (q : PesSeen). units_begun q e.units) o
+  begun = ap (λ (q : Option PesFound). units_begun q e.units) o
 
   put_length : set lens e.units e.bytes ≡ over (lengths (x.units ++ (unit ∷ []))) before.lens
   put_length =
@@ -243,7 +249,7 @@ module _ {before : Outputs} {out lens times : List ℕ} {e : Extraction} {x : st
 
   stands_closed : UnitsRepresent before (outputs_of out (set lens e.units e.bytes)
       (set (set times (2 * e.units) p) (2 * e.units + 1) d))
-      (record { pes = seen.Closed; units = e.units + 1; start = e.start + e.bytes; bytes = 0 }) (with_unit unit x)
+      (record { pes = None; units = e.units + 1; start = e.start + e.bytes; bytes = 0 }) (with_unit unit x)
   stands_closed =
       let all : carried_so_far x ≡ carried_units (x.units ++ (unit ∷ [])) = sym (flatten_last (λ u. u.carried) x.units unit) in
       record {
@@ -268,20 +274,20 @@ module _ {before : Outputs} {out lens times : List ℕ} {e : Extraction} {x : st
 
 -- the same as the code has it
 pub stands_put : {before : Outputs} {out lens times : List ℕ} {e : Extraction} {x : state.Extraction}
-    → UnitsRepresent before (outputs_of out lens times) e x → (f : PesFound) → e.pes ≡ seen.Open f
+    → UnitsRepresent before (outputs_of out lens times) e x → (f : PesFound) → e.pes ≡ Some f
     → UnitsRepresent before (outputs_of out (lens_closed e lens) (times_closed e times)) (closed_units e)
     (with_unit (unit_of (open_pes f (open_bytes x.pes))) x)
 stands_put {before} {out} {lens} {times} {e} {x} s f o =
-    subst (λ (p : PesSeen). UnitsRepresent before (outputs_of out (lens_put p e.units e.bytes lens) (times_put p e.units times))
-    (record { pes = seen.Closed; units = units_begun p e.units; start = e.start + e.bytes; bytes = 0 })
+    subst (λ (p : Option PesFound). UnitsRepresent before (outputs_of out (lens_put p e.units e.bytes lens) (times_put p e.units times))
+    (record { pes = None; units = units_begun p e.units; start = e.start + e.bytes; bytes = 0 })
     (with_unit (unit_of (open_pes f (open_bytes x.pes))) x)) (sym o)
     (stands_closed s f o (get_or (pts_and_dts f.header.times) 0 0) (get_or (pts_and_dts f.header.times) 1 0)
     (sym (two_times f.header.times)))
 
 -- what the code puts in place is that
-module _ (e : Extraction) (f : PesFound) (o : e.pes ≡ seen.Open f) where
+module _ (e : Extraction) (f : PesFound) (o : e.pes ≡ Some f) where
   pub lens_put_lem : (lens lens' : List ℕ) → lens' ≡ set lens e.units e.bytes → lens' ≡ lens_closed e lens
-  lens_put_lem lens lens' k = k ∙ sym (ap (λ (p : PesSeen). lens_put p e.units e.bytes lens) o)
+  lens_put_lem lens lens' k = k ∙ sym (ap (λ (p : Option PesFound). lens_put p e.units e.bytes lens) o)
 
   pub times_put_lem : (times times' : List ℕ) (p d : ℕ) → p ∷ d ∷ [] ≡ pts_and_dts f.header.times
       → times' ≡ set (set times (2 * e.units) p) (2 * e.units + 1) d → times' ≡ times_closed e times
@@ -289,7 +295,7 @@ module _ (e : Extraction) (f : PesFound) (o : e.pes ≡ seen.Open f) where
       k
       ∙ ap₂ (λ (x y : ℕ). set (set times (2 * e.units) x) (2 * e.units + 1) y) (ap (λ (l : List ℕ). get_or l 0 0) pair)
       (ap (λ (l : List ℕ). get_or l 1 0) pair)
-      ∙ sym (ap (λ (q : PesSeen). times_put q e.units times) o)
+      ∙ sym (ap (λ (q : Option PesFound). times_put q e.units times) o)
 
 -- the same under other names
 pub stands_as : {before : Outputs} {out lens times lens' times' : List ℕ} {e e' : Extraction} {x : state.Extraction}

@@ -1,9 +1,12 @@
 -- What the code keeps of the access units, with what stands in the outputs, and what it stands for; what a payload does
 -- and the end of a PES: the rules of segment_rules, of each state of theirs for which the code's stands.
 -- Assumes nothing.
+use Rattle.refusal.specs.declared.Refused.{Refused}
+use Rattle.refusal.specs.Verdict.{NoValue}
 use Rattle.std.specs.Prelude.{ℕ, ◌+◌, ◌*◌, ◌≤◌, Bool, true, ◌||◌, ◌≡◌, List, ltb, length, set}
-use Rattle.std.proofs.Math.Option.{Option, none, some}
+use Rattle.std.specs.Prelude.{Result, Ok, Err, Option, Some, None}
 use Rattle.lists.specs.Lists.{Bytes, over, pick}
+use Rattle.refusal.specs.declared.Refusal.TheVariants as refusals
 use Rattle.refusal.specs.declared.Refused as refusal
 use Rattle.descriptor.specs.Edition.{Edition}
 use Rattle.packet.specs.Header.{has_payload, payload, payload_unit_start_indicator}
@@ -13,30 +16,30 @@ use Rattle.segment_rules.specs.Rules.{Rooms, Rule, in_sequence, is_pcr, close_pe
 use Rattle.segment_rules.specs.Rules.{carried_so_far}
 use Rattle.segment_rules.specs.Rules.{pes_rules}
 use Rattle.segment_rules.specs.Check.{Outputs, outputs_of, rooms_of, lengths, times_in_turn}
-use Rattle.tables.specs.declared.state.Outcome.{Outcome}
-use Rattle.tables.specs.declared.state.Outcome.TheVariants.{Passed, Refused}
 use Rattle.tables.specs.Tables.{Refines}
 use Rattle.units.specs.declared.state.PesFound.{PesFound}
-use Rattle.units.specs.declared.state.PesSeen.{PesSeen}
-use Rattle.units.specs.declared.state.PesSeen.TheVariants as seen
 use Rattle.units.specs.declared.units.Extraction.{Extraction}
-use Rattle.units.specs.declared.units.ExtractionResult.{ExtractionResult}
+
+-- the units after a packet, and the verdict on it
+pub record ExtractionResult : Type 0 where
+  pub extraction : Extraction
+  pub outcome : Result NoValue Refused
 
 -- ---- the units
 abbrev pub open_pes : PesFound → Bytes → OpenPes
 open_pes f bytes = record { first = f.first; header = f.header; bytes = bytes }
 
-abbrev pub pes_of : Bytes → PesSeen → Option OpenPes
-pes_of bytes seen.Closed = none
-pes_of bytes (seen.Open f) = some (open_pes f bytes)
+abbrev pub pes_of : Bytes → (Option PesFound) → Option OpenPes
+pes_of bytes None = None
+pes_of bytes (Some f) = Some (open_pes f bytes)
 
 abbrev pub fresh_extraction : Extraction
-fresh_extraction = record { pes = seen.Closed; units = 0; start = 0; bytes = 0 }
+fresh_extraction = record { pes = None; units = 0; start = 0; bytes = 0 }
 
 -- so many units have their length and times in the outputs' room: those that closed, and the open one
-abbrev pub units_begun : PesSeen → ℕ → ℕ
-units_begun seen.Closed units = units
-units_begun (seen.Open f) units = units + 1
+abbrev pub units_begun : (Option PesFound) → ℕ → ℕ
+units_begun None units = units
+units_begun (Some f) units = units + 1
 
 abbrev pub rooms_in : Bytes → List ℕ → List ℕ → Rooms
 rooms_in out lens times = rooms_of (outputs_of out lens times)
@@ -74,9 +77,9 @@ ClosingRefines e now r after =
 
 -- ---- the packets that began the units
 -- the packet that began the open PES
-abbrev pub first_of : PesSeen → ℕ
-first_of seen.Closed = 0
-first_of (seen.Open f) = f.first
+abbrev pub first_of : (Option PesFound) → ℕ
+first_of None = 0
+first_of (Some f) = f.first
 
 -- where a unit more has closed since, it stands in the unit's place, if the list has it
 abbrev pub first_noted : Extraction → Extraction → List ℕ → List ℕ
@@ -111,8 +114,8 @@ is_beyond e rooms =
     || (ltb rooms.lens (units_begun e.pes e.units) || ltb rooms.times (2 * units_begun e.pes e.units))
 
 -- then the answer is 8 at a place
-abbrev pub no_room : ℕ → Outcome
-no_room place = Refused (record { why = record { number = 8 }; place = place })
+abbrev pub no_room : ℕ → (Result NoValue Refused)
+no_room place = Err (record { why = refusals.NoRoom; place = place })
 
 abbrev pub RefusesBeyond : ℕ → Extraction → Rooms → ExtractionResult → Type 0
 RefusesBeyond place e rooms r = is_beyond e rooms ≡ true → r.outcome ≡ no_room place
@@ -120,11 +123,11 @@ RefusesBeyond place e rooms r = is_beyond e rooms ≡ true → r.outcome ≡ no_
 -- ---- what is handed back where a function refuses
 -- nobody goes on from it: the units before the first packet, with the refusal
 abbrev pub refused_units : refusal.Refused → ExtractionResult
-refused_units q = record { extraction = fresh_extraction; outcome = Refused q }
+refused_units q = record { extraction = fresh_extraction; outcome = Err q }
 
 -- and what was lent stays as it was
 abbrev pub UnitsRefused : {A : Type 0} → A → ExtractionResult → A → Type 0
-UnitsRefused now r after = (q : refusal.Refused) → r.outcome ≡ Refused q → (r ≡ refused_units q) × (after ≡ now)
+UnitsRefused now r after = (q : refusal.Refused) → r.outcome ≡ Err q → (r ≡ refused_units q) × (after ≡ now)
 
 -- ---- what the public functions do
 abbrev pub TakesPayload : Edition → Bool → ℕ → Bytes → Bool → Extraction → Outputs → ExtractionResult → Outputs → Type 0
@@ -136,5 +139,5 @@ TakesPayload edition start_flag i w pcr_seen e now r after =
 abbrev pub Closes : Extraction → Outputs → ExtractionResult → Outputs → Type 0
 Closes e now r after =
     ClosingRefines e now r after
-    × ((r.outcome ≡ Passed → r.extraction.pes ≡ seen.Closed)
+    × ((r.outcome ≡ (Ok tt) → r.extraction.pes ≡ None)
     × (RefusesBeyond 0 e (rooms_of now) r × UnitsRefused now r after))

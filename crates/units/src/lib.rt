@@ -7,7 +7,5 @@ mod state;
 mod units;
 
 pub use outputs::clear;
-pub use state::{PesFound, PesSeen};
-pub use units::{
-    Arrival, Extraction, ExtractionResult, close, fresh_extraction, note_first, take_payload,
-};
+pub use state::PesFound;
+pub use units::{Arrival, Extraction, note_first};

@@ -6,9 +6,3 @@ pub struct PesFound {
     pub first: usize,
     pub header: pes::Header,
 }
-
-#[derive(Clone, Copy)]
-pub enum PesSeen {
-    Closed,
-    Open(PesFound),
-}

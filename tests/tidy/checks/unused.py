@@ -1,7 +1,8 @@
 """Definitions and laws that nothing uses, and pub items of src/ that only their own file uses. A definition or law is used where a contract, a `tactic`
 attribute, an answer or an invariant (a declaration at a type `goal.X` or `given.X` in Answers.antt or Invariants.antt) or docs/PROMISES.md reaches it: by its
 name in backquotes or, where it is pub, by the path of its file in proofs/. A pub item of src/ is used where another file writes its name; a `pub use`, where
-another crate does, or where a pub item of its own crate shows it. The laws of tests/tidy/kept.txt are none of these, and each line there has to be true."""
+another crate does, where a pub item of its own crate shows it, or where docs/PROMISES.md promises it as `crate::name`. The laws of tests/tidy/kept.txt are
+none of these, and each line there has to be true."""
 import re
 from pathlib import Path
 
@@ -137,9 +138,10 @@ def shown(source):
 
 
 def unused_pub(sources):
-    """Pub items of src/ that no other file uses, and those of `pub use` that no other crate uses."""
+    """Pub items of src/ that no other file uses, and those of `pub use` that no other crate uses and no promise names."""
     code = [s for s in sources if s.code]
     words = {s.path: set(re.findall(r'\w+', s.text + s.edits)) for s in code}
+    promised = set(re.findall(r'`(\w+::\w+)`', (ROOT / 'docs/PROMISES.md').read_text()))
     exported = {name for s in code for name in EXPORTED.findall(re.sub(r'//[^\n]*', blank, s.raw))} | {'main'}
     pub = {s.path: shown(s) for s in code}
     for source in code:
@@ -152,7 +154,7 @@ def unused_pub(sources):
         showing = exported.union(*(other for path in near for _, other in pub[path].values()))
         for use in source.imports:
             for name, _, _ in brought(use) if use['pub'] else ():
-                if not (name in showing or any(name in words[path] for path in far)):
+                if not (name in showing or f'{source.crate}::{name}' in promised or any(name in words[path] for path in far)):
                     yield source.path, source.line(use.start()), f'unused pub use {name}'
 
 

@@ -15,17 +15,17 @@ pub slice_bounds-compare_obu-end : goal.slice_bounds-compare_obu-end
 slice_bounds-compare_obu-end c =
     (end_room c.loop-code.invariant c.loop-code-test.true _ c.find-end.ensures).1
 
-pub returns-in_default : goal.returns-in_default
-returns-in_default c =
+pub returns-in-Some : goal.returns-in-Some
+returns-in-Some c =
     going_found c.loop-code.invariant c.loop-code-test.true _ c.find-end.ensures
     (ap frame_type (sym c.byte_at.ensures) ∙ sym c.is_frame.ensures ∙ c.if-is_frame.false) _
-    c.compare_obu-found.ensures _ c.in_default.is
+    c.compare_obu.ensures _ c.in-Some.is
 
 pub loop-code-preserved : goal.loop-code-preserved
 loop-code-preserved c =
     going_next c.loop-code.invariant c.loop-code-test.true _ c.find-end.ensures
     (ap frame_type (sym c.byte_at.ensures) ∙ sym c.is_frame.ensures ∙ c.if-is_frame.false) _
-    c.compare_obu-found.ensures c.in-None.is
+    c.compare_obu.ensures c.in_default.is
 
 pub returns : goal.returns
 returns c = going_done c.loop-code.invariant c.loop-code-test.false

@@ -1,10 +1,6 @@
 -- As many null packets as n says are counted, and the definition counts the rest from there on (`Counted`).
-use Prim.Native.Nat.{◌-◌}
 use Rattle.plain.proofs.Following.{Counted}
 use Rattle.plain.proofs.nulls.Given as goal
 
 abbrev pub invariant-loop-n : goal.invariant-loop-n
 invariant-loop-n l = Counted l.segment l.from l.n
-
-abbrev pub decreases-loop-n : goal.decreases-loop-n
-decreases-loop-n l = l.count - l.from - l.n

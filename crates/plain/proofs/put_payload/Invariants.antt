@@ -1,11 +1,8 @@
--- The first i bytes behind the header are written, and those from 4 + i on are to come.
-use Prim.Native.Nat.{◌+◌, ◌-◌, ◌≤◌}
-use lib.ListN.{drop}
-use Rattle.lists.proofs.Writing.{Part}
+-- The first i bytes behind the header are written.
+use mathlib.Core.Path.{◌≡◌}
+use lib.ListN.{take, drop}
+use Rattle.lists.specs.Lists.{over}
 use Rattle.plain.proofs.put_payload.Given as goal
 
 abbrev pub invariant-loop-i : goal.invariant-loop-i
-invariant-loop-i l = (l.i ≤ 184) × Part l.initial.out (drop 4 l.packet) l.i (drop (4 + l.i) l.packet) l.out
-
-abbrev pub decreases-loop-i : goal.decreases-loop-i
-decreases-loop-i l = 184 - l.i
+invariant-loop-i l = l.out ≡ over (take l.i (drop 4 l.packet)) l.initial.out

@@ -1,19 +1,25 @@
 -- The count and the bytes are tried, then the order of the OBUs' kinds.
-use Rattle.salvage.proofs.Accepting.{no_obu, too_large, in_order, out_of_order}
+use mathlib.Core.Path.{ap, ◌∙◌}
+use borrow.Author.Tests.{eq-eqb, ne_eqb, lt-ltb, le-ltb, lt-leb}
+use lib.ListN.{length}
+use Rattle.refusal.specs.Verdict.{passes}
+use Rattle.unit.specs.Unit.{most_obu_bytes}
+use Rattle.salvage.specs.Parts.{acceptable}
+use Rattle.salvage.proofs.Accepting.{ok_passes}
 use Rattle.salvage.proofs.is_accepted.Goals as goal
 
-pub returns-then-count-eq0 : goal.returns-then-count-eq0
-returns-then-count-eq0 c = no_obu _ _ _ c.if-count-eq0.true
+pub returns-then-kinds-eq0 : goal.returns-then-kinds-eq0
+unfolding acceptable
+returns-then-kinds-eq0 c = rw (eq-eqb (length c.args.kinds.now) 0 c.if-kinds-eq0.true)
 
-pub returns-then-bytes-gt-MOST_OBU_BYTES : goal.returns-then-bytes-gt-MOST_OBU_BYTES
-returns-then-bytes-gt-MOST_OBU_BYTES c = too_large _ _ _ c.if-count-eq0.false c.if-bytes-gt-MOST_OBU_BYTES.true
+pub returns-then-bytes-le-MOST_OBU_BYTES : goal.returns-then-bytes-le-MOST_OBU_BYTES
+unfolding acceptable
+returns-then-bytes-le-MOST_OBU_BYTES c =
+    rw (ne_eqb (length c.args.kinds.now) 0 c.if-kinds-eq0.false, le-ltb most_obu_bytes c.args.bytes c.if-bytes-le-MOST_OBU_BYTES.true)
+    (c.is_ok.ensures.value ∙ ok_passes c.order_kinds.result ∙ ap passes c.order_kinds.ensures)
 
-pub returns-in-Refused : goal.returns-in-Refused
-returns-in-Refused c =
-    out_of_order _ _ _ c.if-count-eq0.false c.if-bytes-gt-MOST_OBU_BYTES.false _ _
-    c.order-ordered.ensures c.in-Refused.is
-
-pub returns-in-Legal : goal.returns-in-Legal
-returns-in-Legal c =
-    in_order _ _ _ c.if-count-eq0.false c.if-bytes-gt-MOST_OBU_BYTES.false _
-    c.order-ordered.ensures c.in-Legal.is
+pub returns-else-bytes-le-MOST_OBU_BYTES : goal.returns-else-bytes-le-MOST_OBU_BYTES
+unfolding acceptable
+returns-else-bytes-le-MOST_OBU_BYTES c =
+    rw (ne_eqb (length c.args.kinds.now) 0 c.if-kinds-eq0.false, lt-ltb most_obu_bytes c.args.bytes c.if-bytes-le-MOST_OBU_BYTES.false)
+    (lt-leb c.args.bytes most_obu_bytes c.if-bytes-le-MOST_OBU_BYTES.false)

@@ -6,24 +6,21 @@ use Rattle.salvage.proofs.Forms.{judged_refused, judged_room, judged_size, judge
 use Rattle.salvage.proofs.judge_one.Goals as goal
 
 pub overflow_sub-size : goal.overflow_sub-size
-overflow_sub-size c =
-    judged_room _ _ c.judge_payload-judged.ensures _ c.in-Passed.is
+overflow_sub-size c = judged_room _ _ c.judge_payload.ensures _ c.in-Ok.is
+
+pub returns-in-Err : goal.returns-in-Err
+returns-in-Err c =
+    subst (OneOf c.args.payload.now) (sym c.drop_one.ensures) (judged_refused _ _ c.judge_payload.ensures _ c.in-Err.is)
 
 pub returns-then-size-gt-MOST_OBU_BYTES : goal.returns-then-size-gt-MOST_OBU_BYTES
 returns-then-size-gt-MOST_OBU_BYTES c =
     subst (OneOf c.args.payload.now) (sym c.drop_one-then-size-gt-MOST_OBU_BYTES.ensures)
-    (judged_large _ _ c.judge_payload-judged.ensures _ c.in-Passed.is
-    (let large = c.if-size-gt-MOST_OBU_BYTES.true in omega arith))
-
-pub returns-in-Refused : goal.returns-in-Refused
-returns-in-Refused c =
-    subst (OneOf c.args.payload.now) (sym c.drop_one.ensures)
-    (judged_refused _ _ c.judge_payload-judged.ensures _ c.in-Refused.is _ c.number.ensures)
+    (judged_large _ _ c.judge_payload.ensures _ c.in-Ok.is (let large = c.if-size-gt-MOST_OBU_BYTES.true in omega arith))
 
 pub returns-else-size-gt-MOST_OBU_BYTES : goal.returns-else-size-gt-MOST_OBU_BYTES
 returns-else-size-gt-MOST_OBU_BYTES c =
-    let e = c.judge_payload-judged.ensures in
-    let k = c.in-Passed.is in
+    let e = c.judge_payload.ensures in
+    let k = c.in-Ok.is in
     let passed = judged_passes _ _ e _ k (let small = c.if-size-gt-MOST_OBU_BYTES.false in omega arith) in
     subst (OneOf c.args.payload.now) (sym c.keep_one.ensures)
-    (given_kept _ passed _ _ (judged_kind _ _ e _ k _ c.kind_number-kind.ensures) (judged_size _ _ e _ k))
+    (given_kept _ passed _ _ (judged_kind _ _ e _ k _ c.kind_of.ensures) (judged_size _ _ e _ k))

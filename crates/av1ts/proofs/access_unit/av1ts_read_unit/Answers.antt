@@ -11,6 +11,6 @@ returns c =
     let e = c.read.ensures in
     let v = e.answers ∙ with_64 _ _ _ in
     record {
-      answers = c.unit_answer.ensures ∙ ap unit_answer v;
+      answers = c.into.ensures ∙ ap unit_answer v;
       outputs = record { obus = e.obus ∙ leaves_as _ _ v; of_each = e.of_each ∙ leaves_as _ _ v };
     }

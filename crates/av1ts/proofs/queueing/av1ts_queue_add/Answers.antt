@@ -6,6 +6,5 @@ use Rattle.av1ts.proofs.queueing.av1ts_queue_add.Goals as goal
 
 pub returns : goal.returns
 returns c = λ units h.
-    let d = c.add.ensures units
-    (holds_queue h _ c.queue_from-inner.ensures) in
-    record { answers = c.add_answer.ensures ∙ ap₂ add_answer d.answers d.queue; leaves = d.leaves }
+    let d = c.add-answer.ensures units (holds_queue h _ c.into-inner.ensures) in
+    record { answers = c.added.ensures ∙ ap₂ add_answer d.answers d.queue; leaves = d.leaves }

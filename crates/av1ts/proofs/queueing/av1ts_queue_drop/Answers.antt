@@ -6,6 +6,5 @@ use Rattle.av1ts.proofs.queueing.av1ts_queue_drop.Goals as goal
 
 pub returns : goal.returns
 returns c = λ units h.
-    let d = c.drop_oldest.ensures units
-    (holds_queue h _ c.queue_from-inner.ensures) in
-    record { answers = c.drop_answer.ensures ∙ ap₂ drop_answer d.answers d.queue; leaves = d.leaves }
+    let d = c.drop_oldest-dropped.ensures units (holds_queue h _ c.into-inner.ensures) in
+    record { answers = c.dropped.ensures ∙ ap₂ drop_answer d.answers d.queue; leaves = d.leaves }

@@ -5,7 +5,5 @@ use Rattle.av1ts.proofs.queueing.av1ts_queue_send.Goals as goal
 
 pub returns : goal.returns
 returns c = λ units h.
-    let d = sends_as c.channel_from.ensures
-    (c.send.ensures units
-    (holds_queue h _ c.queue_from-inner.ensures)) in
-    record { answers = c.sent_answer.ensures ∙ sent_from d.answers d.next d.queue; leaves = d.leaves }
+    let d = sends_as c.into-next.ensures (c.send-answer.ensures units (holds_queue h _ c.into-inner.ensures)) in
+    record { answers = c.sent.ensures ∙ sent_from d.answers d.next d.queue; leaves = d.leaves }

@@ -1,4 +1,4 @@
--- A struct that is no state is refused; otherwise `replay::run` answers by the definition.
+-- A struct that is no state is refused; otherwise `State::run` answers by the definition.
 use mathlib.Core.Path.{sym, ap, ◌∙◌}
 use Rattle.lists.proofs.Picks.{by_true, by_false}
 use Rattle.replay.specs.declared.state.State.{State}
@@ -16,4 +16,4 @@ unfolding replaying
 returns c =
     let from : State → Replayed = λ s. running s c.args.rate c.args.times.now c.args.counts.now in
     by_true _ (sym c.state_right.ensures ∙ c.if-not-state_right.false)
-    (c.replay_answer.ensures ∙ ap replay_answer (c.run.ensures ∙ ap from c.state_from.ensures))
+    (c.new.ensures ∙ ap replay_answer (c.run-ran.ensures ∙ ap from c.into-left.ensures))

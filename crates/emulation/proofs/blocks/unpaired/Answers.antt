@@ -1,19 +1,15 @@
 -- A block without two bytes after it does not count; of another the places are counted.
-use native.Mathlib.Omega.{arith}
-use Prim.Native.Nat.{ℕ}
-use mathlib.Core.Path.{sym, ap, ◌∙◌}
-use lib.Dec.{eqb}
+use Rattle.std.proofs.Common.{ℕ, refl, sym, ap, ◌∙◌, eqb}
 use Rattle.emulation.specs.Blocks.{paired}
-use Rattle.emulation.proofs.Hits.{free_short, free_counted}
+use Rattle.emulation.proofs.Hits.{decides, free_short, free_whole}
 use Rattle.emulation.proofs.blocks.unpaired.Goals as goal
 
-pub returns-then-s-i : goal.returns-then-s-i
-returns-then-s-i c = sym (free_short paired c.args.s.now c.args.i (omega arith))
+pub returns-then-is_followed : goal.returns-then-is_followed
+unfolding paired
+returns-then-is_followed c =
+    ap (λ (n : ℕ). eqb n 0) (c.count_places.ensures paired (decides paired refl _ _))
+    ∙ sym (free_whole paired c.args.s.now c.args.i (sym c.is_followed.ensures ∙ c.if-is_followed.true))
 
-pub returns-then-s-i-2 : goal.returns-then-s-i-2
-returns-then-s-i-2 c =
-    sym (free_short paired c.args.s.now c.args.i (omega arith))
-
-pub returns : goal.returns
-returns c =
-    ap (λ (n : ℕ). eqb n 0) c.pairs.ensures ∙ sym (free_counted paired c.args.s.now c.args.i (omega arith))
+pub returns-else-is_followed : goal.returns-else-is_followed
+returns-else-is_followed c =
+    c.if-is_followed.false ∙ sym (free_short paired c.args.s.now c.args.i (sym c.is_followed.ensures ∙ c.if-is_followed.false))

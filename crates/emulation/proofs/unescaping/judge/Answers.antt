@@ -10,7 +10,7 @@ pub returns-then-reached-payload : goal.returns-then-reached-payload
 returns-then-reached-payload c =
     let p = c.args.payload.now in
     let j = whole_illegal p _ c.first_forbidden-reached.ensures.place_value c.if-reached-payload.true in
-    ap (λ (n : ℕ). refused 10 n) j.1 ∙ sym (judging_illegal p j.0)
+    rw c.at.ensures (ap (λ (n : ℕ). refused 10 n) j.1 ∙ sym (judging_illegal p j.0))
 
 pub returns : goal.returns
 returns c =

@@ -4,6 +4,7 @@ use Rattle.emulation.proofs.Steps.{first_found}
 use Rattle.emulation.proofs.Critical.{paired_of}
 use Rattle.emulation.proofs.Judging.{lawful_past_one, lawful_past_two, lawful_past_mark, lawful_past_three}
 use Rattle.emulation.proofs.Judging.{lawful_rest, first_past}
+use Rattle.emulation.proofs.unescaping.lawful_places.Goals.{then-s-place-eq3, else-s-place-eq3}
 use Rattle.emulation.proofs.unescaping.lawful_places.Goals as goal
 
 pub loop-place-preserved-then-s-place-ne0 : goal.loop-place-preserved-then-s-place-ne0
@@ -26,19 +27,17 @@ returns-then-forbidden_pair c =
       s_value = first_found s c.loop-place.place (omega arith) (sym c.forbidden_pair.ensures ∙ c.if-forbidden_pair.true);
     }
 
-pub loop-place-preserved-then-s-place-eq3 : goal.loop-place-preserved-then-s-place-eq3
-loop-place-preserved-then-s-place-eq3 c =
-    let s = c.args.s.now in
-    lawful_past_mark _ _ _ _ c.loop-place.invariant (omega arith)
-    (sym c.forbidden_pair.ensures ∙ c.if-forbidden_pair.false) c.if-s-place-eq3.true
-    (paired_of s c.loop-place.place (omega arith) c.if-s-place-ne0-2.false c.if-s-place-ne0.false)
-
 pub loop-place-preserved : goal.loop-place-preserved
 loop-place-preserved c =
     let s = c.args.s.now in
-    lawful_past_three _ _ _ _ c.loop-place.invariant (omega arith)
-    (sym c.forbidden_pair.ensures ∙ c.if-forbidden_pair.false) c.if-s-place-eq3.false
-    (paired_of s c.loop-place.place (omega arith) c.if-s-place-ne0-2.false c.if-s-place-ne0.false)
+    let place = c.loop-place.place in
+    let lawful = c.loop-place.invariant in
+    let allowed = sym c.forbidden_pair.ensures ∙ c.if-forbidden_pair.false in
+    let zeros = paired_of s place (omega arith) c.if-s-place-ne0-2.false c.if-s-place-ne0.false in
+    elim c.if-s-place-eq3.branch [
+      | then-s-place-eq3 w ↦ rw w.count-is (lawful_past_mark _ _ _ _ lawful (omega arith) allowed w.if-s-place-eq3.true zeros)
+      | else-s-place-eq3 w ↦ rw w.count-is (lawful_past_three _ _ _ _ lawful (omega arith) allowed w.if-s-place-eq3.false zeros)
+    ]
 
 pub returns : goal.returns
 returns c = record {

@@ -12,6 +12,3 @@ invariant-loop-place l =
     (l.q ≡ get_or l.payload (l.place - 1) 0)
     × Writes l.initial.out (l.n + 1) (unescape_after 1 (get_or l.payload l.i 0) (drop (l.i + 1) l.payload)) l.count
     (unescape_after l.p l.q (drop l.place l.payload)) l.out
-
-abbrev pub decreases-loop-place : goal.decreases-loop-place
-decreases-loop-place l = l.end - l.place

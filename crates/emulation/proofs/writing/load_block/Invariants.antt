@@ -1,12 +1,8 @@
 -- The bytes taken so far are the first of the block.
-use Prim.Native.Nat.{◌-◌, ◌≤◌}
 use mathlib.Core.Path.{◌≡◌}
 use lib.ListN.{length, drop, take}
 use Rattle.emulation.specs.Blocks.{block}
 use Rattle.emulation.proofs.writing.load_block.Given as goal
 
 abbrev pub invariant-loop-j : goal.invariant-loop-j
-invariant-loop-j l = (l.j ≤ block) × (length l.bytes ≡ block) × (take l.j l.bytes ≡ take l.j (drop l.i l.s))
-
-abbrev pub decreases-loop-j : goal.decreases-loop-j
-decreases-loop-j l = block - l.j
+invariant-loop-j l = (length l.bytes ≡ block) × (take l.j l.bytes ≡ take l.j (drop l.i l.s))

@@ -1,5 +1,4 @@
 -- The block is loaded; the bytes stored so far are its first.
-use Prim.Native.Nat.{◌-◌, ◌≤◌}
 use mathlib.Core.Path.{◌≡◌}
 use lib.ListN.{length}
 use lib.Seq.{paste}
@@ -7,8 +6,5 @@ use Rattle.emulation.specs.Blocks.{block}
 use Rattle.emulation.proofs.writing.write_block.Given as goal
 
 abbrev pub invariant-loop-j : goal.invariant-loop-j
-invariant-loop-j l = (l.j ≤ block) × (length l.bytes ≡ block) × (length l.out ≡ length l.initial.out) ×
+invariant-loop-j l = (length l.bytes ≡ block) × (length l.out ≡ length l.initial.out) ×
     (l.out ≡ paste l.initial.out l.n l.bytes l.j)
-
-abbrev pub decreases-loop-j : goal.decreases-loop-j
-decreases-loop-j l = block - l.j

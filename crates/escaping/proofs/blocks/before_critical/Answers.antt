@@ -12,7 +12,8 @@ unfolding critical
 loop-k-preserved c =
     let k = c.wide.ensures in
     let found = c.found_at.ensures in
-    searched_next critical refl c.loop-k.invariant (omega arith) (rw k at found.value) (rw k at found.value_2) c.least-first.ensures
+    searched_next critical refl c.loop-k.invariant (omega arith) (rw k at found.value) (rw k at found.value_2)
+    (λ h. omega (arith, c.min-first.ensures), λ h. omega (arith, c.min-first.ensures))
 
 pub returns : goal.returns
 returns c = searched_all critical c.loop-k.invariant (omega arith)

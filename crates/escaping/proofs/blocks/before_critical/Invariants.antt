@@ -1,12 +1,7 @@
 -- Of the places looked at, the first at which 00 00 and a byte of 0 to 3 stand is kept (`Searched`): a later one is greater.
-use Prim.Native.Nat.{◌-◌}
-use Rattle.emulation.specs.Blocks.{block}
 use Rattle.emulation.specs.Parts.{critical}
 use Rattle.escaping.proofs.Searching.{Searched}
 use Rattle.escaping.proofs.blocks.before_critical.Given as goal
 
 abbrev pub invariant-loop-k : goal.invariant-loop-k
 invariant-loop-k l = Searched critical l.s l.i l.k l.first
-
-abbrev pub decreases-loop-k : goal.decreases-loop-k
-decreases-loop-k l = block - l.k

@@ -1,15 +1,17 @@
--- A block without two bytes after it does not count; of another the places are counted.
-use native.Mathlib.Omega.{arith}
-use Prim.Native.Nat.{ℕ}
-use mathlib.Core.Path.{sym, ap, ◌∙◌}
-use lib.Dec.{eqb}
+-- Where 00 00 stands nowhere, 00 00 and a byte of 0 to 3 do not.
+use Rattle.std.proofs.Common.{sym, ap, ◌∙◌, drop, Bool}
+use Rattle.lists.specs.Lists.{Bytes}
+use Rattle.emulation.specs.Blocks.{free_of, paired}
 use Rattle.emulation.specs.Parts.{critical}
-use Rattle.emulation.proofs.Hits.{free_short, free_counted}
+use Rattle.emulation.proofs.Hits.{free_either}
+use Rattle.emulation.proofs.Critical.{unpaired_uncritical}
+use Rattle.emulation.proofs.Zeros.{is_critical}
 use Rattle.escaping.proofs.blocks.clean.Goals as goal
 
-pub returns-then-s-i : goal.returns-then-s-i
-returns-then-s-i c = sym (free_short critical c.args.s.now c.args.i (omega arith))
+pub returns-then-unpaired : goal.returns-then-unpaired
+returns-then-unpaired c =
+    let free = free_either paired critical unpaired_uncritical c.args.s.now c.args.i in
+    c.if-unpaired.true ∙ sym (free (sym c.unpaired.ensures ∙ c.if-unpaired.true))
 
-pub returns : goal.returns
-returns c =
-    ap (λ (n : ℕ). eqb n 0) c.crowd.ensures ∙ sym (free_counted critical c.args.s.now c.args.i (omega arith))
+pub returns-else-unpaired : goal.returns-else-unpaired
+returns-else-unpaired c = c.free_of.ensures ∙ ap (λ (test : Bytes → Bool). free_of test (drop c.args.i c.args.s.now)) is_critical

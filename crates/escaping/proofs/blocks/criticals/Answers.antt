@@ -1,21 +1,17 @@
-use native.Mathlib.Omega.{arith}
-use mathlib.Core.Path.{refl, sym, ◌∙◌}
-use Rattle.emulation.specs.Parts.{critical}
-use Rattle.emulation.proofs.Hits.{counted_start, counted_yes, counted_no, counted_all}
+-- Two bytes come after the block, so it is counted.
+use Rattle.std.proofs.Common.{ℕ, Option, Bool, ap, ◌∙◌, drop, arith}
+use Rattle.std.specs.Option.{unwrap_or}
+use borrow.Author.Tests.{le-leb}
+use Rattle.lists.specs.Lists.{Bytes}
+use Rattle.emulation.specs.Blocks.{hits, block, zeros_then}
+use Rattle.emulation.proofs.Hits.{counted_whole}
+use Rattle.emulation.proofs.Zeros.{is_critical}
 use Rattle.escaping.proofs.blocks.criticals.Goals as goal
 
-pub loop-j-init : goal.loop-j-init
-loop-j-init c = counted_start critical _ _
-
-pub loop-j-preserved-then-critical_at : goal.loop-j-preserved-then-critical_at
-unfolding critical
-loop-j-preserved-then-critical_at c =
-    counted_yes critical refl c.loop-j.invariant (omega arith) (sym c.critical_at.ensures ∙ c.if-critical_at.true)
-
-pub loop-j-preserved : goal.loop-j-preserved
-unfolding critical
-loop-j-preserved c =
-    counted_no critical refl c.loop-j.invariant (omega arith) (sym c.critical_at.ensures ∙ c.if-critical_at.false)
-
 pub returns : goal.returns
-returns c = counted_all critical c.loop-j.invariant (omega arith)
+returns c =
+    let s = c.args.s.now in
+    let whole = counted_whole (zeros_then 0 3) s c.args.i (le-leb _ _ (omega arith)) in
+    c.unwrap_or.ensures
+    ∙ ap (λ (n : Option ℕ). unwrap_or n 0) (c.count_of.ensures ∙ whole)
+    ∙ ap (λ (test : Bytes → Bool). hits test block (drop c.args.i s)) is_critical

@@ -1,5 +1,5 @@
 -- The flags of the first j places stand (`Flags`); each turn sets one more.
-use Prim.Native.Nat.{◌-◌, ◌≤◌}
+use Prim.Native.Nat.{◌≤◌}
 use mathlib.Core.Path.{◌≡◌}
 use lib.ListN.{length}
 use Rattle.emulation.specs.Blocks.{block}
@@ -9,6 +9,3 @@ use Rattle.escaping.proofs.blocks.flags.Given as goal
 
 abbrev pub invariant-loop-j : goal.invariant-loop-j
 invariant-loop-j l = (l.j ≤ block) × (length l.flags ≡ block) × Flags critical l.s l.i l.j l.flags
-
-abbrev pub decreases-loop-j : goal.decreases-loop-j
-decreases-loop-j l = block - l.j

@@ -18,8 +18,8 @@ returns-then-not-has_room c =
     let o = c.args.out.now in
     let short = leb-false (length (escape s)) (length o) (sym c.has_room.ensures ∙ c.if-not-has_room.true) in
     record {
-      result_value = pass_on 2 (le-ltb _ _ c.if-obu-gt-MOST_ESCAPED.false)
-          (refuse 8 _ (lt-ltb (length o) (length (escape s)) (omega (arith, short))));
+      result_value = rw c.at-then-not-has_room.ensures (pass_on 2 (le-ltb _ _ c.if-obu-gt-MOST_ESCAPED.false)
+          (refuse 8 _ (lt-ltb (length o) (length (escape s)) (omega (arith, short)))));
       out_after = refl;
     }
 
@@ -42,6 +42,6 @@ returns c =
 pub returns-then-obu-gt-MOST_ESCAPED : goal.returns-then-obu-gt-MOST_ESCAPED
 unfolding escaping leaves
 returns-then-obu-gt-MOST_ESCAPED c = record {
-  result_value = refuse 2 _ (lt-ltb _ _ c.if-obu-gt-MOST_ESCAPED.true);
+  result_value = rw c.at.ensures (refuse 2 _ (lt-ltb _ _ c.if-obu-gt-MOST_ESCAPED.true));
   out_after = refl;
 }

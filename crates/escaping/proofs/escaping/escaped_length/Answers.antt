@@ -8,7 +8,7 @@ use Rattle.escaping.proofs.escaping.escaped_length.Goals as goal
 
 pub returns-then-obu-gt-MOST_ESCAPED : goal.returns-then-obu-gt-MOST_ESCAPED
 unfolding measuring
-returns-then-obu-gt-MOST_ESCAPED c = refuse 2 _ (lt-ltb _ _ c.if-obu-gt-MOST_ESCAPED.true)
+returns-then-obu-gt-MOST_ESCAPED c = rw c.at.ensures (refuse 2 _ (lt-ltb _ _ c.if-obu-gt-MOST_ESCAPED.true))
 
 pub returns : goal.returns
 unfolding measuring

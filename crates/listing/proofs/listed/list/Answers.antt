@@ -1,28 +1,27 @@
--- The text is put into an array that has room for it; where the output has room too, it goes over the output's front.
-use native.Mathlib.Omega.{arith}
-use mathlib.Core.Path.{refl}
+-- The text is put together in a buffer that has room for it; if the output has room too, it goes over the output's front.
+use mathlib.Core.Path.{refl, ap, ◌∙◌}
+use lib.ListN.{length}
+use lib.Seq.{take_all}
+use Rattle.lists.specs.Lists.{Bytes, over}
 use Rattle.refusal.specs.Verdict.{leaves}
-use Rattle.listing.proofs.Puttings.{puts_as}
-use Rattle.listing.proofs.Texts.{list_short, list_fits, puts_end, puts_front}
+use Rattle.listing.proofs.Texts.{list_short, list_fits}
 use Rattle.listing.proofs.listed.list.Goals as goal
 
-pub returns-then-out-n : goal.returns-then-out-n
-unfolding leaves
-returns-then-out-n c =
-    let put = c.put_text-n.ensures.puts in
-    record {
-      result_value = list_short c.args.unit.now _ _ (puts_end put) c.if-out-n.true;
-      out_after = refl;
-      unit_len_bound = omega (arith, puts_end put, c.put_text-n.ensures.upper_bound);
-    }
+pub returns-then-out-bytes-clause-result_value : goal.returns-then-out-bytes-clause-result_value
+returns-then-out-bytes-clause-result_value c =
+    rw c.at.ensures (list_short c.args.unit.now _ _ (ap length (c.bytes-bytes.ensures ∙ c.put_text.ensures.puts)) c.if-out-bytes.true)
 
-pub returns : goal.returns
+pub returns-then-out-bytes-clause-out_after : goal.returns-then-out-bytes-clause-out_after
 unfolding leaves
-returns c =
-    let unit = c.args.unit.now in
-    let put = c.put_text-n.ensures in
-    record {
-      result_value = list_fits unit _ _ (puts_end put.puts) c.if-out-n.false;
-      out_after = (puts_as (puts_front put.puts) c.put_word.ensures).stands;
-      unit_len_bound = omega (arith, puts_end put.puts, put.upper_bound);
-    }
+returns-then-out-bytes-clause-out_after c = refl
+
+pub returns-clause-result_value : goal.returns-clause-result_value
+returns-clause-result_value c =
+    list_fits c.args.unit.now _ _ (ap length (c.bytes-bytes.ensures ∙ c.put_text.ensures.puts)) c.if-out-bytes.false
+
+pub returns-clause-out_after : goal.returns-clause-out_after
+unfolding leaves
+returns-clause-out_after c =
+    let out = c.args.out.now in
+    c.copy.ensures
+    ∙ ap (λ (w : Bytes). over w out) (take_all (length out) _ c.if-out-bytes.false ∙ c.bytes-bytes.ensures ∙ c.put_text.ensures.puts)

@@ -3,8 +3,8 @@ use Rattle.std.proofs.Common.{◌≡◌, length, ◌-◌}
 use Rattle.listing.proofs.Walked.{Listing}
 use Rattle.listing.proofs.listed.put_obus.Given as goal
 
-abbrev pub invariant-loop-text : goal.invariant-loop-text
-invariant-loop-text l = (l.walk.src.now ≡ l.unit) × Listing l.unit l.initial.text l.at l.text l.walk.at l.end l.index
+abbrev pub invariant-loop-step : goal.invariant-loop-step
+invariant-loop-step l = (l.walk.src.now ≡ l.unit) × Listing l.unit l.initial.text l.text l.walk.at l.index
 
-abbrev pub decreases-loop-text : goal.decreases-loop-text
-decreases-loop-text l = length l.unit - l.walk.at
+abbrev pub decreases-loop-step : goal.decreases-loop-step
+decreases-loop-step l = length l.unit - l.walk.at

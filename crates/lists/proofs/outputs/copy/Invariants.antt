@@ -1,11 +1,8 @@
--- The first i bytes are written, and the rest of those that have room is to come.
-use Prim.Native.Nat.{◌-◌, ◌≤◌}
-use lib.ListN.{drop}
-use Rattle.lists.proofs.Writing.{Prefix}
+-- The first i bytes are written.
+use mathlib.Core.Path.{◌≡◌}
+use lib.ListN.{take}
+use Rattle.lists.specs.Lists.{over}
 use Rattle.lists.proofs.outputs.copy.Given as goal
 
 abbrev pub invariant-loop-i : goal.invariant-loop-i
-invariant-loop-i l = (l.i ≤ l.count) × Prefix l.initial.out l.s l.i (drop l.i l.s) l.out
-
-abbrev pub decreases-loop-i : goal.decreases-loop-i
-decreases-loop-i l = l.count - l.i
+invariant-loop-i l = l.out ≡ over (take l.i l.s) l.initial.out

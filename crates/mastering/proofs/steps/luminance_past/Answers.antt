@@ -9,10 +9,10 @@ use Rattle.mastering.proofs.steps.luminance_past.Goals as goal
 pub returns-then-s-gt-MOST_MAXIMUM : goal.returns-then-s-gt-MOST_MAXIMUM
 unfolding luminance_past
 returns-then-s-gt-MOST_MAXIMUM c =
-    or_by_true _ (sym (maximum_past c.args.s.luminance_max) ∙ lt-ltb _ _ c.if-s-gt-MOST_MAXIMUM.true) refl
+    let past = lt-ltb _ _ c.if-s-gt-MOST_MAXIMUM.true in past ∙ or_by_true _ (sym (maximum_past c.args.s.luminance_max) ∙ past) refl
 
-pub returns : goal.returns
+pub returns-else-s-gt-MOST_MAXIMUM : goal.returns-else-s-gt-MOST_MAXIMUM
 unfolding luminance_past
-returns c =
+returns-else-s-gt-MOST_MAXIMUM c =
     let s = c.args.s in
     or_by_false (sym (maximum_past s.luminance_max) ∙ le-ltb _ _ c.if-s-gt-MOST_MAXIMUM.false) (minimum_past s.luminance_min)

@@ -15,7 +15,7 @@ use Rattle.mastering.proofs.writing.write.Goals as goal
 pub returns-then-steps_past : goal.returns-then-steps_past
 unfolding writing leaves
 returns-then-steps_past c = record {
-  result_value = refuse 49 _ (sym c.steps_past.ensures ∙ c.if-steps_past.true);
+  result_value = rw c.at.ensures (refuse 49 _ (sym c.steps_past.ensures ∙ c.if-steps_past.true));
   out_after = refl;
 }
 
@@ -36,6 +36,6 @@ unfolding writing leaves content_of flatten bytes2 bytes4
 returns-then-out-lt-CONTENT c =
     let within = sym c.steps_past.ensures ∙ c.if-steps_past.false in
     record {
-      result_value = pass_on 49 within (refuse 8 _ (lt-ltb _ _ c.if-out-lt-CONTENT.true));
+      result_value = rw c.at-then-out-lt-CONTENT.ensures (pass_on 49 within (refuse 8 _ (lt-ltb _ _ c.if-out-lt-CONTENT.true)));
       out_after = refl;
     }

@@ -1,10 +1,8 @@
--- The invariant is `Counted`: the packets that pass before `at`, and those that pass behind it, are all. The measure is how many packets
--- are left.
+-- The packets that pass before the one with this index, and those that pass from it on, are all (`Counted`).
+use Rattle.std.proofs.Common.{◌*◌, ◌-◌, ◌/◌, length}
+use Rattle.packet.specs.Header.{packet_length}
 use Rattle.measured.proofs.Counting.{Counted}
 use Rattle.measured.proofs.header.measured_headers.Given as goal
 
-abbrev pub invariant-loop-left : goal.invariant-loop-left
-invariant-loop-left l = Counted l.segment l.count l.at l.left
-
-abbrev pub decreases-loop-left : goal.decreases-loop-left
-decreases-loop-left l = l.left
+abbrev pub invariant-loop-index : goal.invariant-loop-index
+invariant-loop-index l = Counted l.segment l.count (l.index * packet_length) (length l.segment / packet_length - l.index)

@@ -11,14 +11,14 @@ use Rattle.mux.proofs.sending.send.Goals.{Else-channel_wrong}
 use Rattle.mux.proofs.sending.send.Goals as goal
 
 -- 52 does not apply
-allows : (c : Else-channel_wrong) → let a = c.args in channel_wrong a.channel a.video.now ≡ false
+allows : (c : Else-channel_wrong) → let a = c.args in channel_wrong a.channel.now a.video.now ≡ false
 allows c = sym c.channel_wrong.ensures ∙ c.if-channel_wrong.false
 
 pub returns-then-channel_wrong : goal.returns-then-channel_wrong
 returns-then-channel_wrong c = λ units q.
     let a = c.args in
-    sends_wrong q a.channel a.video.now a.out.now (sym c.channel_wrong.ensures ∙ c.if-channel_wrong.true) _
-    c.refuse.ensures
+    sends_wrong q a.channel.now a.video.now a.out.now (sym c.channel_wrong.ensures ∙ c.if-channel_wrong.true) _
+    c.at.ensures
 
 pub returns-then-not-well_formed : goal.returns-then-not-well_formed
 returns-then-not-well_formed c =
@@ -28,35 +28,38 @@ pub returns-then-packets-gt-MOST_PACKETS : goal.returns-then-packets-gt-MOST_PAC
 returns-then-packets-gt-MOST_PACKETS c = λ units q.
     let a = c.args in
     let n = c.queue_packets-units.ensures in
-    sends_many q a.channel a.video.now a.out.now (allows (goal.at.returns-then-packets-gt-MOST_PACKETS c).Else-channel_wrong)
-    (omega (arith, n.0, valid_packets q, c.if-packets-gt-MOST_PACKETS.true)) _ c.refuse-then-packets-gt-MOST_PACKETS.ensures
+    sends_many q a.channel.now a.video.now a.out.now (allows (goal.at.returns-then-packets-gt-MOST_PACKETS c).Else-channel_wrong)
+    (omega (arith, n.0, valid_packets q, c.if-packets-gt-MOST_PACKETS.true)) _ c.at-then-packets-gt-MOST_PACKETS.ensures
 
-pub returns-then-out-packets : goal.returns-then-out-packets
-returns-then-out-packets c = λ units q.
+pub returns-then-out-bytes : goal.returns-then-out-bytes
+returns-then-out-bytes c = λ units q.
     let a = c.args in
     let n = c.queue_packets-units.ensures in
     let v = valid_packets q in
-    sends_short q a.channel a.video.now a.out.now (allows (goal.at.returns-then-out-packets c).Else-channel_wrong)
+    sends_short q a.channel.now a.video.now a.out.now (allows (goal.at.returns-then-out-bytes c).Else-channel_wrong)
     (omega (arith, n.0, v, c.if-packets-gt-MOST_PACKETS.false))
-    (omega (arith, n.0, v, c.if-out-packets.true)) _ c.refuse-then-out-packets.ensures
+    (omega (arith, n.0, v, c.if-out-bytes.true)) _ c.at-then-out-bytes.ensures
+
+pub invariant_of-stream : goal.invariant_of-stream
+invariant_of-stream c =
+    let a = c.args in
+    let ok = allowed a.channel.now a.video.now (allows (goal.at.invariant_of-stream c).Else-channel_wrong) in
+    record { in_range = (omega (arith, ok.pid_high), ok.av1_low) }
 
 pub put_units-requires : goal.put_units-requires
 put_units-requires c =
     let a = c.args in
     let allowing = allows (goal.at.put_units-requires c).Else-channel_wrong in
-    let ok = allowed a.channel a.video.now allowing in
-    let room = c.if-out-packets.false in (
-      omega (arith, ok.pid_high),
-      ok.av1_low,
+    let room = c.if-out-bytes.false in (
       sym c.well_formed-2.ensures ∙ c.if-not-well_formed.false,
-      units_room a.channel a.video.now allowing a.out.now _ c.put_tables.ensures (omega (arith, room)) _
+      units_room a.channel.now a.video.now allowing a.out.now _ c.put_tables.ensures (omega (arith, room)) _
           (omega (arith, c.queue_packets-units.ensures.0, room)),
     )
 
-pub channel_after-next-requires : goal.channel_after-next-requires
-channel_after-next-requires c =
+pub advance-requires : goal.advance-requires
+advance-requires c =
     let a = c.args in
-    let ok = allowed a.channel a.video.now (allows (goal.at.channel_after-next-requires c).Else-channel_wrong) in
+    let ok = allowed a.channel.now a.video.now (allows (goal.at.advance-requires c).Else-channel_wrong) in
     (ok.pat_low, ok.map_counter, ok.av1_low, c.queue_packets-units.ensures.1)
 
 pub returns : goal.returns
@@ -64,11 +67,11 @@ returns c = λ units q.
     let a = c.args in
     let n = c.queue_packets-units.ensures in
     let v = valid_packets q in
-    let fits = c.if-out-packets.false in
-    sends_sent q a.channel a.video.now a.out.now (allows (goal.at.returns c).Else-channel_wrong)
+    let fits = c.if-out-bytes.false in
+    sends_sent q a.channel.now a.video.now a.out.now (allows (goal.at.returns c).Else-channel_wrong)
     (omega (arith, n.0, v, c.if-packets-gt-MOST_PACKETS.false))
     (omega (arith, n.0, v, fits)) _ _ _ _ _ (omega (arith, n.0, v)) (omega (arith, n.0, v))
-    (c.channel_after-next.ensures ∙ ap (channel_after a.channel) (n.0 ∙ v)) c.clear-cleared.ensures
-    (all_written a.channel a.video.now (allows (goal.at.returns c).Else-channel_wrong) a.out.now _ c.put_tables.ensures
+    (c.advance.ensures ∙ ap (channel_after a.channel.now) (n.0 ∙ v)) c.clear.ensures
+    (all_written a.channel.now a.video.now (allows (goal.at.returns c).Else-channel_wrong) a.out.now _ c.put_tables.ensures
     (omega (arith, fits)) units _ _
     (valid_units q) (omega (arith, n.0, v, fits)) c.put_units.ensures)

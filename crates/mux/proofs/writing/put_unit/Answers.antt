@@ -18,22 +18,26 @@ begins : (c : After-put_start)
     let u : TimedUnit = slot_unit a.slot a.unit.now in
     let flags = c.first_flags-flags.result in
     let s : Start = record { flags = flags; pts = u.pts; dts = u.dts; length = length u.carried } in
-    (out1 : Bytes) → out1 ≡ start_put a.pid a.counter s c.part-begun.result.now a.out.now
-    → Begun a.pid a.counter u a.out.now c.first_size-first.result flags out1
+    (out1 : Bytes) → out1 ≡ start_put a.stream.pid a.stream.counter s c.part-begun.result.now a.out.now
+    → Begun a.stream.pid a.stream.counter u a.out.now c.first_size-first.result flags out1
 begins c out1 put =
     let a = c.args in
     let pre = c.requires in
     let size = c.head_size in
-    begun_by a.pid a.counter (slot_unit a.slot a.unit.now) a.out.now pre.0 pre.1 pre.2 pre.3 pre.4
+    let range = a.stream.in_range in
+    begun_by a.stream.pid a.stream.counter (slot_unit a.slot a.unit.now) a.out.now range.0 range.1 pre.0 pre.1 pre.2
     size.result c.first_size-first.result c.first_flags-flags.result size.ensures.value
     c.first_size-first.ensures.value c.first_size-first.ensures.upper_bound c.first_flags-flags.ensures _ out1 c.part-begun.ensures put
 
+pub invariant_of-next : goal.invariant_of-next
+invariant_of-next c =
+    let n : c.counter_after.result < 16 = omega (arith, c.counter_after.ensures) in
+    record { in_range = (c.args.stream.in_range.0, n) }
+
 pub put_others-requires : goal.put_others-requires
-put_others-requires c =
-    let n : c.next_counter.result < 16 = omega (arith, c.next_counter.ensures) in
-    (c.requires.0, n, (begins (goal.at.put_others-requires c).After-put_start _ c.put_start.ensures).room _ c.rest-behind.ensures)
+put_others-requires c = (begins (goal.at.put_others-requires c).After-put_start _ c.put_start.ensures).room _ c.rest-behind.ensures
 
 pub returns : goal.returns
 returns c =
-    (begins (goal.at.returns c).After-put_start _ c.put_start.ensures).written _ _ _ c.rest-behind.ensures c.next_counter.ensures
+    (begins (goal.at.returns c).After-put_start _ c.put_start.ensures).written _ _ _ c.rest-behind.ensures c.counter_after.ensures
     c.put_others.ensures

@@ -1,21 +1,19 @@
-use mathlib.Core.Path.{◌∙◌}
-use Rattle.obu.proofs.Orders.{at_start, goes_on, breaks, too_soon, in_order}
+use Rattle.obu.specs.Order.{kind_of_number}
+use Rattle.obu.proofs.Orders.{at_start, goes_on, breaks, too_soon, in_order, ends, goes_on_from}
 use Rattle.obu.proofs.ordering.order.Goals as goal
 
 pub loop-i-init : goal.loop-i-init
-loop-i-init c = at_start _
+loop-i-init c = at_start kind_of_number _
 
-pub returns-then-position-gt-WHOLE : goal.returns-then-position-gt-WHOLE
-returns-then-position-gt-WHOLE c =
-    c.broken.ensures ∙ breaks c.loop-i.invariant c.loop-i-test.true _ c.next-position.ensures c.if-position-gt-WHOLE.true
+pub returns-in_default : goal.returns-in_default
+returns-in_default c =
+    rw c.at.ensures (breaks c.loop-i.invariant c.loop-i-test.true _ _ c.next.ensures c.in_default.is)
 
 pub loop-i-preserved : goal.loop-i-preserved
-loop-i-preserved c =
-    goes_on c.loop-i.invariant c.loop-i-test.true _ c.next-position.ensures c.if-position-gt-WHOLE.false
+loop-i-preserved c = goes_on c.loop-i.invariant c.loop-i-test.true _ _ c.next.ensures _ c.in-Some.is
 
-pub returns-then-position-lt-ENDED : goal.returns-then-position-lt-ENDED
-returns-then-position-lt-ENDED c = c.broken-then-position-lt-ENDED.ensures
-    ∙ too_soon c.loop-i.invariant c.loop-i-test.false c.if-position-lt-ENDED.true
+pub returns-in-Ended : goal.returns-in-Ended
+returns-in-Ended c = in_order c.loop-i.invariant c.loop-i-test.false (ends _ c.in-Ended.is)
 
-pub returns : goal.returns
-returns c = in_order c.loop-i.invariant c.loop-i-test.false c.if-position-lt-ENDED.false
+pub returns-in-Start : goal.returns-in-Start
+returns-in-Start c = rw c.at-in-Start.ensures (too_soon c.loop-i.invariant c.loop-i-test.false (goes_on_from _ c.in-Start.is))

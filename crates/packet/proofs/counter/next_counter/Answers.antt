@@ -1,14 +1,13 @@
 -- The last counter is below 16, or only its rest by 16 counts.
-use mathlib.Core.Path.{refl}
-use native.Mathlib.Omega.{arith}
-use Rattle.lists.proofs.Picks.{by_true, by_false}
+use Rattle.std.proofs.Common.{rules}
+use Rattle.lists.specs.Lists.{pick}
 use Rattle.packet.specs.Counter.{due}
 use Rattle.packet.proofs.counter.next_counter.Goals as goal
 
 pub returns-then-payload : goal.returns-then-payload
-unfolding due
-returns-then-payload c = by_true _ c.if-payload.true (omega arith)
+unfolding due pick
+returns-then-payload c = search rules
 
 pub returns : goal.returns
-unfolding due
-returns c = by_false _ c.if-payload.false refl
+unfolding due pick
+returns c = search rules

@@ -1,15 +1,13 @@
 -- The test is the one that the definition picks by.
-use Prim.Native.Nat.{ℕ, ◌+◌}
-use mathlib.Core.Path.{refl, sym, ap, ◌∙◌}
-use Rattle.lists.proofs.Picks.{by_true, by_false}
+use Rattle.std.proofs.Common.{rules}
+use Rattle.lists.specs.Lists.{pick}
 use Rattle.packet.specs.Header.{header_length}
 use Rattle.packet.proofs.header.header_length.Goals as goal
 
 pub returns-then-has_adaptation_field : goal.returns-then-has_adaptation_field
-unfolding header_length
-returns-then-has_adaptation_field c = by_true _ (sym c.has_adaptation_field.ensures ∙ c.if-has_adaptation_field.true)
-    (ap (λ (n : ℕ). 5 + n) c.adaptation_field_length.ensures)
+unfolding header_length pick
+returns-then-has_adaptation_field c = search rules
 
 pub returns : goal.returns
-unfolding header_length
-returns c = by_false _ (sym c.has_adaptation_field.ensures ∙ c.if-has_adaptation_field.false) refl
+unfolding header_length pick
+returns c = search rules

@@ -1,5 +1,4 @@
 -- The header, the length and the flags, the PCR and the stuffing, one behind the other.
-use borrow.Author.Rules.{rules}
 use native.Mathlib.Omega.{arith}
 use mathlib.Core.Bool.{false}
 use mathlib.Core.Path.{refl, ap, ◌∙◌}
@@ -15,7 +14,7 @@ unfolding pcr_packet
 returns c =
     let a = c.args in
     let out = a.out.now in
-    let h = header a.pid false 2 a.counter in
+    let h = header a.place.pid false 2 a.place.counter in
     let field : Bytes = 183 ∷ 16 ∷ [] in
     let w = c.pcr_bytes-clock.result in
     let o2 = c.copy_at.ensures ∙ behind_put h field out _ 4 refl c.put_header.ensures in
@@ -23,6 +22,3 @@ returns c =
     c.fill_at.ensures
     ∙ behind_put ((h ++ field) ++ w) (stuffing 176) out _ 12 (omega (arith, ap length c.pcr_bytes-clock.ensures)) o3
     ∙ ap (λ (x : Bytes). over (((h ++ field) ++ x) ++ stuffing 176) out) c.pcr_bytes-clock.ensures
-
-pub put_header-requires : goal.put_header-requires
-put_header-requires c = search rules

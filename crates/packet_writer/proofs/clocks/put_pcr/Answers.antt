@@ -12,8 +12,8 @@ pub returns-then-pcr_unfit : goal.returns-then-pcr_unfit
 unfolding pcr_put put
 returns-then-pcr_unfit c = by_true _ (sym c.pcr_unfit.ensures ∙ c.if-pcr_unfit.true) refl
 
-pub counter_before-requires : goal.counter_before-requires
-counter_before-requires c =
+pub counter_before-counter-requires : goal.counter_before-counter-requires
+counter_before-counter-requires c =
     let a = c.args in
     (pcr_fit a.pid a.counter a.pcr _ (sym c.pcr_unfit.ensures ∙ c.if-pcr_unfit.false)).2
 
@@ -21,7 +21,13 @@ pub put_clock-requires : goal.put_clock-requires
 put_clock-requires c =
     let a = c.args in
     let f = pcr_fit a.pid a.counter a.pcr _ (sym c.pcr_unfit.ensures ∙ c.if-pcr_unfit.false) in
-    (f.1, c.counter_before.ensures.upper_bound, f.0, f.3)
+    (f.0, f.3)
+
+pub invariant_of-put_clock : goal.invariant_of-put_clock
+invariant_of-put_clock c =
+    let a = c.args in
+    let f = pcr_fit a.pid a.counter a.pcr _ (sym c.pcr_unfit.ensures ∙ c.if-pcr_unfit.false) in
+    record { in_range = (f.1, c.counter_before-counter.ensures.upper_bound) }
 
 pub returns : goal.returns
 unfolding pcr_put put
@@ -29,4 +35,4 @@ returns c =
     let a = c.args in
     by_false _ (sym c.pcr_unfit.ensures ∙ c.if-pcr_unfit.false)
     (c.put_clock.ensures
-    ∙ ap (λ (n : ℕ). over (pcr_packet a.pid n a.pcr) a.out.now) c.counter_before.ensures.value)
+    ∙ ap (λ (n : ℕ). over (pcr_packet a.pid n a.pcr) a.out.now) c.counter_before-counter.ensures.value)

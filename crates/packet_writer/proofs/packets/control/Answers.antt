@@ -5,5 +5,5 @@ use Rattle.packet_writer.proofs.packets.control.Goals as goal
 pub returns-then-n-eq0 : goal.returns-then-n-eq0
 returns-then-n-eq0 c = control_none _ c.if-n-eq0.true
 
-pub returns : goal.returns
-returns c = control_some _ c.if-n-eq0.false
+pub returns-else-n-eq0 : goal.returns-else-n-eq0
+returns-else-n-eq0 c = control_some _ c.if-n-eq0.false

@@ -15,7 +15,7 @@ put_header-requires c =
     let a = c.args in
     let l = control_lt (184 - length a.head.now - length a.part.now) in
     let e = c.control.ensures in
-    (c.requires.0, omega (arith, l, e), c.requires.1, omega (arith, c.requires.3))
+    (omega (arith, l, e), omega (arith, c.requires.1))
 
 pub returns : goal.returns
 unfolding carrying
@@ -25,16 +25,16 @@ returns c =
     let v = a.head.now in
     let w = a.part.now in
     let n = 184 - length v - length w in
-    let h = header a.pid a.start (control n) a.counter in
+    let h = header a.place.pid a.start (control n) a.place.counter in
     let f = adaptation_field n a.flags in
     let lf = length_field n a.flags in
     let lh = length-append h f in
     let m : n ≡ most - length (v ++ w) = omega (arith, length-append v w) in
     let o1 = c.put_header.ensures
-    ∙ ap (λ (k : ℕ). over (header a.pid a.start k a.counter) out) c.control.ensures in
-    let o2 = put_next h f out _ _ 4 refl o1 (omega (arith, lf, c.requires.3)) c.put_field.ensures in
+    ∙ ap (λ (k : ℕ). over (header a.place.pid a.start k a.place.counter) out) c.control.ensures in
+    let o2 = put_next h f out _ _ 4 refl o1 (omega (arith, lf, c.requires.1)) c.put_field.ensures in
     let o3 = c.copy_at.ensures ∙ behind_put (h ++ f) v out _ (4 + n) (omega (arith, lf, lh)) o2 in
     c.copy_at-2.ensures
     ∙ behind_put ((h ++ f) ++ v) w out _ (4 + n + length v) (omega (arith, lf, lh, length-append (h ++ f) v)) o3
     ∙ ap (λ (x : Bytes). over x out) (append_assoc (h ++ f) v w ∙ append_assoc h f (v ++ w))
-    ∙ ap (λ (k : ℕ). over (header a.pid a.start (control k) a.counter ++ (adaptation_field k a.flags ++ (v ++ w))) out) m
+    ∙ ap (λ (k : ℕ). over (header a.place.pid a.start (control k) a.place.counter ++ (adaptation_field k a.flags ++ (v ++ w))) out) m

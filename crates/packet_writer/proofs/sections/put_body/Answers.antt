@@ -14,13 +14,13 @@ pub returns : goal.returns
 returns c =
     let a = c.args in
     let out = a.out.now in
-    let front = a.front.now in
-    let tail = a.tail.now in
+    let front = a.body.front.now in
+    let tail = a.body.tail.now in
     let e = c.section_start-start.ensures in
-    let w = section_start a.table a.extension (length front + length tail) in
+    let w = section_start a.body.table a.body.extension (length front + length tail) in
     let o1 = c.copy.ensures ∙ fits out _ (omega (arith, ap length e)) ∙ ap (λ (x : Bytes). over x out) e in
     let o2 = c.copy_at.ensures ∙ behind_put w front out _ 8 refl o1 in
     c.copy_at-2.ensures
     ∙ behind_put (w ++ front) tail out _ (8 + length front) (omega (arith, length-append w front)) o2
     ∙ ap (λ (x : Bytes). over x out) (append_assoc w front tail)
-    ∙ ap (λ (k : ℕ). over (section_start a.table a.extension k ++ (front ++ tail)) out) (sym (length-append front tail))
+    ∙ ap (λ (k : ℕ). over (section_start a.body.table a.body.extension k ++ (front ++ tail)) out) (sym (length-append front tail))

@@ -7,7 +7,7 @@ use Rattle.pmt.proofs.Turns.{Turned}
 use Rattle.pmt.proofs.entries.list_entries.Given as goal
 
 abbrev pub invariant-loop-at : goal.invariant-loop-at
-invariant-loop-at l = Turned (edition_says l.edition) l.map_pid l.s l.entries l.av1 l.count l.at
+invariant-loop-at l = Turned (edition_says l.edition) l.map_pid l.s l.entries l.av1 l.at
 
 abbrev pub decreases-loop-at : goal.decreases-loop-at
 decreases-loop-at l = length l.s - l.at

@@ -1,6 +1,5 @@
 use Prim.Native.Nat.{ℕ, ◌+◌}
-use mathlib.Core.Path.{ap}
-use borrow.Author.Rules.{rules}
+use mathlib.Core.Path.{ap, ◌∙◌}
 use Rattle.pmt.proofs.Descriptors.{walk_start, walk_end, walk_short, walk_next}
 use Rattle.pmt.proofs.loops.read_loop.Goals as goal
 
@@ -8,19 +7,14 @@ pub loop-at-init : goal.loop-at-init
 loop-at-init c = walk_start _
 
 pub returns-then-s-at : goal.returns-then-s-at
-returns-then-s-at c = walk_short c.loop-at.invariant c.loop-at-test.true _
-    (ap (λ (n : ℕ). 2 + n) c.byte_at.ensures) c.if-s-at.true
+returns-then-s-at c =
+    rw c.at.ensures
+    (walk_short c.loop-at.invariant c.loop-at-test.true _ (ap (λ (n : ℕ). 2 + n) (c.from-size.ensures ∙ c.byte_at.ensures)) c.if-s-at.true)
 
 pub loop-at-preserved : goal.loop-at-preserved
 loop-at-preserved c =
-    walk_next c.loop-at.invariant c.loop-at-test.true _ (ap (λ (n : ℕ). 2 + n) c.byte_at.ensures)
+    walk_next c.loop-at.invariant c.loop-at-test.true _ (ap (λ (n : ℕ). 2 + n) (c.from-size.ensures ∙ c.byte_at.ensures))
     c.if-s-at.false _ c.with_descriptor-found.ensures
 
 pub returns : goal.returns
 returns c = walk_end c.loop-at.invariant c.loop-at-test.false
-
-pub overflow_add-at : goal.overflow_add-at
-overflow_add-at c = search rules
-
-pub loop-at-smaller : goal.loop-at-smaller
-loop-at-smaller c = search rules

@@ -1,40 +1,27 @@
 -- The tests of the definition, in its order; the two parts that are lent are the program's descriptors and the entries.
-use mathlib.Core.Path.{sym, ap, ◌∙◌}
-use Rattle.pmt.specs.Parts.{loop_says, list_answer}
-use Rattle.pmt.specs.declared.entries.ListAnswer.{ListAnswer}
-use Rattle.pmt.proofs.Reading.{refused_beside, info_cut, info_unfilled, entries_refused, entries_passed}
+use mathlib.Core.Path.{sym, ◌∙◌}
+use Rattle.std.proofs.lemmas.Result.{err_from_is_err_and}
+use Rattle.pmt.proofs.Reading.{info_cut, info_unfilled, entries_refused, entries_passed}
 use Rattle.pmt.proofs.section.read_body.Goals as goal
 
 pub returns-then-end-info : goal.returns-then-end-info
-returns-then-end-info c = record {
-  result_value = c.refuse.ensures.result_value ∙ info_cut _ _ _ c.requires _ c.length_field-info.ensures c.if-end-info.true;
-  map_value = refused_beside c.refuse.result _ c.refuse.ensures.result_value c.refuse.ensures.map_value;
-}
+returns-then-end-info c = rw c.at.ensures (info_cut _ _ _ c.requires _ c.length_field-info.ensures c.if-end-info.true)
 
-pub returns-in_default : goal.returns-in_default
-returns-in_default c = record {
-  result_value = c.refuse-in_default.ensures.result_value
-      ∙ info_unfilled _ _ _ c.requires _ c.length_field-info.ensures c.if-end-info.false
-      (sym c.read_loop-read.ensures ∙ ap loop_says c.in_default.is);
-  map_value = refused_beside c.refuse-in_default.result _ c.refuse-in_default.ensures.result_value c.refuse-in_default.ensures.map_value;
-}
+pub returns-in_err-read_loop : goal.returns-in_err-read_loop
+returns-in_err-read_loop c =
+    let p = err_from_is_err_and c.from_residual.result c.from_residual.ensures.1 in
+    rw (p.1, p.2)
+    (info_unfilled _ _ _ c.requires _ c.length_field-info.ensures c.if-end-info.false _ _ (sym c.in_err-read_loop.ensures))
 
-pub returns-in-Refused : goal.returns-in-Refused
-returns-in-Refused c = record {
-  result_value = c.refuse-in-Refused.ensures.result_value
-      ∙ entries_refused _ _ _ c.requires _ c.length_field-info.ensures c.if-end-info.false _
-      (sym c.read_loop-read.ensures ∙ ap loop_says c.in-Filled.is) _
-      (sym c.list_entries-listed.ensures ∙ ap (λ (a : ListAnswer). list_answer a c.list_entries-listed.result)
-      c.in-Refused.is);
-  map_value = refused_beside c.refuse-in-Refused.result _ c.refuse-in-Refused.ensures.result_value c.refuse-in-Refused.ensures.map_value;
-}
+pub returns-in_err-listed : goal.returns-in_err-listed
+returns-in_err-listed c =
+    let p = err_from_is_err_and c.from_residual-in_err-listed.result c.from_residual-in_err-listed.ensures.1 in
+    rw (p.1, p.2)
+    (entries_refused _ _ _ c.requires _ c.length_field-info.ensures c.if-end-info.false _ (sym c.in_ok-read_loop.ensures) _ _
+    (sym c.in_err-listed.ensures))
 
-pub returns-in-Passed : goal.returns-in-Passed
-returns-in-Passed c = record {
-  result_value = c.map_listed.ensures.result_value
-      ∙ entries_passed _ _ _ c.requires _ c.length_field-info.ensures c.if-end-info.false _
-      (sym c.read_loop-read.ensures ∙ ap loop_says c.in-Filled.is) _
-      (sym c.list_entries-listed.ensures ∙ ap (λ (a : ListAnswer). list_answer a c.list_entries-listed.result) c.in-Passed.is) _
-      c.pid_field.ensures;
-  map_value = c.map_listed.ensures.map_value;
-}
+pub returns : goal.returns
+returns c =
+    c.map_listed.ensures
+    ∙ entries_passed _ _ _ c.requires _ c.length_field-info.ensures c.if-end-info.false _ (sym c.in_ok-read_loop.ensures) _
+    (sym c.in_ok-listed.ensures) _ c.pid_field.ensures

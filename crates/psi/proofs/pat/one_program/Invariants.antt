@@ -1,11 +1,6 @@
--- The invariant is `Seen`: the programs not 0 before i are the one found, or none. The measure is what is left of the entries.
-use Prim.Native.Nat.{◌-◌}
-use lib.ListN.{length}
+-- The invariant is `Seen`: the programs not 0 of the chunks before this one are the one found, or none.
 use Rattle.psi.proofs.Programs.{Seen}
 use Rattle.psi.proofs.pat.one_program.Given as goal
 
-abbrev pub invariant-loop-i : goal.invariant-loop-i
-invariant-loop-i l = Seen l.entries l.found l.i
-
-abbrev pub decreases-loop-i : goal.decreases-loop-i
-decreases-loop-i l = length l.entries - l.i
+abbrev pub invariant-loop-chunk : goal.invariant-loop-chunk
+invariant-loop-chunk l = Seen l.chunks l.found l.chunk-index

@@ -19,35 +19,15 @@ common_right c = sym c.common_wrong.ensures ∙ c.if-common_wrong.false
 
 pub returns-then-common_wrong : goal.returns-then-common_wrong
 unfolding read_pat
-returns-then-common_wrong c = c.refuse.ensures ∙ refuse 25 _ (sym c.common_wrong.ensures ∙ c.if-common_wrong.true)
-
-pub overflow_sub-end : goal.overflow_sub-end
-overflow_sub-end c = omega (arith, long_enough _ _ _ (common_right c))
-
-pub overflow_sub-end-2 : goal.overflow_sub-end-2
-overflow_sub-end-2 c = omega (arith, long_enough _ _ _ (common_right c))
+returns-then-common_wrong c = grind (arith, refuse)
 
 pub returns-then-end-ne0 : goal.returns-then-end-ne0
 unfolding read_pat
 returns-then-end-ne0 c =
     let s = c.args.section.now in
-    c.refuse-then-end-ne0.ensures
-    ∙ pass_on 25 (common_right (goal.at.returns-then-end-ne0 c).Else-common_wrong)
-    (refuse 25 _ (ap (λ (n : ℕ). not (eqb (n % 4) 0)) (up_to_crc_length s 8) ∙ ap not (ne_eqb _ _ c.if-end-ne0.true)))
-
-pub slice_bounds-one_program-count : goal.slice_bounds-one_program-count
-slice_bounds-one_program-count c = omega (
-  arith,
-  long_enough _ _ _
-      (common_right (goal.at.slice_bounds-one_program-count c).Else-common_wrong),
-)
-
-pub slice_bounds-one_program-start : goal.slice_bounds-one_program-start
-slice_bounds-one_program-start c = omega (
-  arith,
-  long_enough _ _ _
-      (common_right (goal.at.slice_bounds-one_program-start c).Else-common_wrong),
-)
+    rw c.at-then-end-ne0.ensures
+    (pass_on 25 (common_right (goal.at.returns-then-end-ne0 c).Else-common_wrong)
+    (refuse 25 _ (ap (λ (n : ℕ). not (eqb (n % 4) 0)) (up_to_crc_length s 8) ∙ ap not (ne_eqb _ _ c.if-end-ne0.true))))
 
 pub returns : goal.returns
 unfolding read_pat

@@ -1,7 +1,8 @@
 -- The packets that `follow` counts and copies, and those that `count_on` counts, pass one after the other, each by its rules (`goes` and
 -- `counts` in Continuing.antt), and the last of them is put into its slot.
 use native.Mathlib.Omega.{arith}
-use mathlib.Core.Path.{subst}
+use Rattle.std.specs.Prelude.{Some}
+use mathlib.Core.Path.{ap, subst, ◌∙◌}
 use lib.ListN.{drop}
 use Rattle.lists.proofs.Parts.{tail_placed}
 use Rattle.packet.specs.Header.{packets}
@@ -19,7 +20,7 @@ followed : (c : After-follow-packets)
     c.in-Av1.slot c.in-Av1.counter a.out.now c.follow-packets.result
 followed c =
     let a = c.args in
-    let may = subst (DueRefines a.state a.records.now c.pid_of-pid.result) c.in-Av1.is c.due_after-due.ensures in
+    let may = subst (DueRefines a.state a.records.now c.pid_of-pid.result) (c.in-Some.is ∙ ap Some c.in-Av1.is) c.due_after.ensures in
     record {
       follows = may.0;
       may = may.1;
@@ -38,7 +39,7 @@ counted c =
     let a = c.args in
     record {
       follows =
-          subst (DueRefines a.state a.records.now c.pid_of-pid.result) c.in-Listed.is c.due_after-due.ensures;
+          subst (DueRefines a.state a.records.now c.pid_of-pid.result) (c.in-Some.is ∙ ap Some c.in-Listed.is) c.due_after.ensures;
       within = c.requires.0;
       many = c.count_on-packets.ensures;
     }

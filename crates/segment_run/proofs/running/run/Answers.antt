@@ -1,13 +1,16 @@
+use Rattle.std.specs.Prelude.{Ok, Err}
 use native.Mathlib.Omega.{arith}
 use Prim.Native.Nat.{ℕ, ◌+◌, ◌*◌, ◌/◌, ◌≤◌, ◌<◌}
 use lib.ListN.{length}
 use mathlib.Core.List.{List}
-use mathlib.Core.Path.{◌≡◌, sym, subst, ◌∙◌}
+use mathlib.Core.Path.{◌≡◌, refl, sym, subst, ◌∙◌}
 use Rattle.lists.specs.Lists.{Bytes}
 use Rattle.descriptor.specs.declared.edition.Edition.{Edition}
 use Rattle.segment_rules.specs.declared.Totals.{Totals}
 use Rattle.segment_rules.specs.Check.{Outputs, outputs_of}
+use Rattle.packet.specs.declared.streams.Streams.{Streams}
 use Rattle.extraction.specs.declared.packets.State.{State}
+use Rattle.extraction.specs.Packets.{stepped}
 use Rattle.segment_run.specs.Parts.{state_went}
 use Rattle.units.proofs.Holding.{same_bytes, same_lens, same_times}
 use Rattle.units.proofs.Firsts.{firsts_length}
@@ -30,12 +33,10 @@ skipped c =
 
 -- where no packets then went on, the loop is still there
 none_went : {edition : Edition} {segment : Bytes} {before : Outputs} {old firsts : List ℕ} {c : State} {totals : Totals} {k : ℕ}
-    (numbers numbers' out out' lens times : List ℕ) → (numbers' ≡ numbers) × (out' ≡ out)
-    → Running edition segment before (outputs_of out lens times) old firsts c numbers totals k
-    → Running edition segment before (outputs_of out' lens times) old firsts c numbers' totals k
-none_went {edition} {segment} {before} {old} {firsts} {c} {totals} {k} numbers numbers' out out' lens times same inv =
-    subst (λ (o : List ℕ). Running edition segment before (outputs_of o lens times) old firsts c numbers' totals k) (sym same.1)
-    (subst (λ (n : List ℕ). Running edition segment before (outputs_of out lens times) old firsts c n totals k) (sym same.0) inv)
+    (streams streams' : Streams) (out out' lens times : List ℕ) → (streams' ≡ streams) × (out' ≡ out)
+    → Running edition segment before (outputs_of out lens times) old firsts c streams totals k
+    → Running edition segment before (outputs_of out' lens times) old firsts c streams' totals k
+none_went streams streams' out out' lens times same inv = rw (same.0, same.1) inv
 
 -- a packet is left there, which lies within the segment
 there : (s : Bytes) (i : ℕ) → i < length s / 188 → i * 188 + 188 ≤ length s
@@ -44,8 +45,8 @@ there s i h = omega (arith, h)
 pub loop-index-init : goal.loop-index-init
 loop-index-init c =
     let a = c.args in
-    begins a.edition a.segment.now (outputs_of a.out.now a.lens.now a.times.now) a.firsts.now _ _
-    c.fresh_state-state.ensures c.none_yet-totals.ensures
+    begins a.edition a.segment.now (outputs_of a.out.now a.lens.now a.times.now) a.firsts.now _ _ _
+    c.fresh-state.ensures c.fresh-records.ensures c.none_yet-totals.ensures
 
 pub overflow_add-totals : goal.overflow_add-totals
 overflow_add-totals c =
@@ -77,20 +78,21 @@ loop-index-preserved-then-went-ne0 c =
     (subst (λ (n : Totals). Running a.edition a.segment.now before now a.firsts.now l.firsts (state_went l.state w)
     c.go_on-went.new.records n k) (sym c.count_went-totals.ensures) went)
 
-pub returns-in_default : goal.returns-in_default
-returns-in_default c =
+pub returns-in-Err : goal.returns-in-Err
+returns-in-Err c =
     let a = c.args in
     let l = c.loop-index in
     let before = outputs_of a.out.now a.lens.now a.times.now in
-    let s = c.step-stepped in
+    let s = c.step in
     let now = outputs_of s.new.out s.new.lens s.new.times in
     let k = l.index + c.nulls-skipped.result in
     let inv = none_went _ _ _ _ l.lens l.times (c.go_on-went.ensures.unmoved c.if-went-ne0.false)
-    (skipped (goal.at.returns-in_default c).After-nulls-skipped).1 in
+    (skipped (goal.at.returns-in-Err c).After-nulls-skipped).1 in
     let left : k < length a.segment.now / 188 = omega (arith, c.if-count-index.false) in
+    let q = c.in-Err.refused in
     let zero = c.clear.ensures in
-    stops a.edition a.segment.now before a.firsts.now s.result.outcome _ c.in_default.is
-    (refused_there inv left s.result s.new.records now (s.ensures.rules (there a.segment.now k left)) _ c.in_default.is)
+    stops a.edition a.segment.now before a.firsts.now q
+    (refused_there inv left (stepped s.new.self (Err q)) s.new.records now (c.in-Err.ensures.rules (there a.segment.now k left)) q refl)
     c.stopped.result c.stopped.ensures _
     (cleared_as before now.bytes now.lens now.times zero.out_after zero.lens_after zero.times_after
     (s.auto.out ∙ same_bytes inv.stands.extraction) (s.auto.lens ∙ same_lens inv.stands.extraction)
@@ -102,13 +104,13 @@ pub loop-index-preserved : goal.loop-index-preserved
 loop-index-preserved c =
     let a = c.args in
     let l = c.loop-index in
-    let s = c.step-stepped in
+    let s = c.step in
     let now = outputs_of s.new.out s.new.lens s.new.times in
     let k = l.index + c.nulls-skipped.result in
     let inv = none_went _ _ _ _ l.lens l.times (c.go_on-went.ensures.unmoved c.if-went-ne0.false)
     (skipped (goal.at.loop-index-preserved c).After-nulls-skipped).1 in
     let left : k < length a.segment.now / 188 = omega (arith, c.if-count-index.false) in
-    goes_on inv left s.result s.new.records now (s.ensures.rules (there a.segment.now k left)) c.in-Passed.is _
+    goes_on inv left (stepped s.new.self (Ok c.in-Ok.kind)) s.new.records now (c.in-Ok.ensures.rules (there a.segment.now k left)) refl _
     c.count_packet-totals.ensures _ c.note_first.ensures
 
 pub returns : goal.returns

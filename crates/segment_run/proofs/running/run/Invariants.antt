@@ -7,7 +7,7 @@ use Rattle.segment_run.proofs.Looping.{Running}
 use Rattle.segment_run.proofs.running.run.Given as goal
 
 abbrev pub invariant-loop-index : goal.invariant-loop-index
-invariant-loop-index l = Running l.edition l.segment (outputs_of l.initial.out l.initial.lens l.initial.times)
+invariant-loop-index l = Running l.fn.edition l.segment (outputs_of l.initial.out l.initial.lens l.initial.times)
     (outputs_of l.out l.lens l.times) l.initial.firsts l.firsts l.state l.records l.totals l.index
 
 abbrev pub decreases-loop-index : goal.decreases-loop-index

@@ -1,8 +1,10 @@
 -- The sections stand one behind the other; whether they fit is tried before anything is put. The count of the OBUs is put last.
 use native.Mathlib.Omega.{arith}
-use mathlib.Core.Path.{refl, sym, ◌∙◌}
+use mathlib.Core.Path.{refl, sym, ap, ◌∙◌}
 use lib.ListN.{length}
 use Rattle.refusal.specs.Verdict.{leaves}
+use Rattle.refusal.specs.Number.{refused_by}
+use Rattle.refusal.specs.declared.Refused.{Refused}
 use Rattle.segment_sheet.proofs.Wholes.{sheet_short, sheet_fits, sheet_put}
 use Rattle.segment_sheet.proofs.writing.put_sheet.Goals as goal
 
@@ -11,7 +13,8 @@ unfolding leaves
 returns-then-short_of c =
     let a = c.args in
     record {
-      answers = sheet_short a.map a.count a.firsts.now a.lens.now a.times.now a.bytes.now (length a.sheet.now)
+      answers = ap (λ (q : Refused). refused_by q) c.at.ensures
+          ∙ sheet_short a.map a.count a.firsts.now a.lens.now a.times.now a.bytes.now (length a.sheet.now)
           (sym c.short_of.ensures ∙ c.if-short_of.true);
       written = refl;
     }

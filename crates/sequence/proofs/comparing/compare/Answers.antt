@@ -1,13 +1,14 @@
 -- What reading says, and then the comparison.
-use mathlib.Core.Path.{sym, ap, ◌∙◌}
+use Rattle.std.proofs.Common.{ap, ◌∙◌}
+use Rattle.std.proofs.lemmas.Result.{err_from_is_err_and}
 use Rattle.refusal.specs.Verdict.{passed}
-use Rattle.sequence.specs.Comparison.{read_says}
 use Rattle.sequence.proofs.Headers.{compares, refuses}
 use Rattle.sequence.proofs.comparing.compare.Goals as goal
 
-pub returns-in-Refused : goal.returns-in-Refused
-returns-in-Refused c = refuses _ _ _ _ (ap read_says (sym c.in-Refused.is) ∙ c.read-header.ensures)
+pub returns-in_err-sequence : goal.returns-in_err-sequence
+returns-in_err-sequence c =
+    let p = err_from_is_err_and c.from_residual.result c.from_residual.ensures.1 in
+    rw (p.1, p.2) (refuses _ _ _ _ c.in_err-sequence.ensures)
 
-pub returns-in-Fields : goal.returns-in-Fields
-returns-in-Fields c = ap passed c.differing-difference.ensures
-    ∙ compares _ _ _ (ap read_says (sym c.in-Fields.is) ∙ c.read-header.ensures)
+pub returns : goal.returns
+returns c = ap passed c.differing.ensures ∙ compares _ _ _ c.in_ok-sequence.ensures

@@ -1,9 +1,8 @@
-use Rattle.sequence.proofs.Loops.{repeating_next, repeating_end}
+use Rattle.sequence.proofs.Loops.{no_times, one_time}
 use Rattle.sequence.proofs.points.more_points.Goals as goal
 
-pub loop-left-preserved : goal.loop-left-preserved
-loop-left-preserved c =
-    repeating_next c.loop-left.invariant c.loop-left-test.true c.operating_point-point.ensures
+pub loop-init : goal.loop-init
+loop-init c = no_times _
 
-pub returns : goal.returns
-returns c = repeating_end c.loop-left.invariant c.loop-left-test.false
+pub loop-preserved : goal.loop-preserved
+loop-preserved c = one_time _ _ c.loop.invariant c.operating_point.ensures

@@ -1,10 +1,8 @@
--- The points to come say what the whole says.
+-- The points so far are read as the definition reads so many.
+use Rattle.sequence.specs.Bits.{times}
 use Rattle.sequence.specs.Header.{operating_point}
-use Rattle.sequence.proofs.Loops.{Repeating}
+use Rattle.sequence.specs.Parts.{Reads}
 use Rattle.sequence.proofs.points.more_points.Given as goal
 
-abbrev pub invariant-loop-left : goal.invariant-loop-left
-invariant-loop-left l = Repeating l.payload l.initial.next l.count (operating_point l.length l.delay_present) l.next l.left
-
-abbrev pub decreases-loop-left : goal.decreases-loop-left
-decreases-loop-left l = l.left
+abbrev pub invariant-loop : goal.invariant-loop
+invariant-loop l = Reads l.initial.reader (times l.counter (operating_point l.length l.delay_present)) tt l.reader

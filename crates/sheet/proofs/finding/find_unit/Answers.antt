@@ -1,37 +1,32 @@
 -- The check says whether the sheet is bad, and where the rows of its units stand.
+use Rattle.std.specs.Prelude.{Some}
 use native.Mathlib.Omega.{arith}
-use mathlib.Core.Option.{some}
-use mathlib.Core.Path.{sym, ap, ◌∙◌}
+use mathlib.Core.Path.{ap, ◌∙◌}
 use Rattle.refusal.specs.Verdict.{passed}
-use Rattle.sheet.specs.Passing.{checked_says}
+use Rattle.refusal.specs.Number.{refused_by}
 use Rattle.sheet.proofs.Measures.{checked_within}
 use Rattle.sheet.proofs.Readings.{find_refused, find_none, find_row}
 use Rattle.sheet.proofs.finding.find_unit.Goals as goal
 
 pub returns-in_default : goal.returns-in_default
-returns-in_default c = find_refused _ (ap checked_says (sym c.in_default.is) ∙ c.check-checked.ensures) _
+returns-in_default c = ap refused_by c.at.ensures ∙ find_refused _ c.in_default.ensures _
 
 pub returns-then-sections-unit : goal.returns-then-sections-unit
 returns-then-sections-unit c =
-    let told = ap checked_says (sym c.in-Sections.is) ∙ c.check-checked.ensures in
-    find_none _ _ told _ c.if-sections-unit.true
+    find_none _ _ c.in-Some.ensures _ c.if-sections-unit.true
 
 pub overflow_mul-unit : goal.overflow_mul-unit
 overflow_mul-unit c =
-    let told = ap checked_says (sym c.in-Sections.is) ∙ c.check-checked.ensures in
-    omega (arith, (checked_within _ _ told).4, c.if-sections-unit.false)
+    omega (arith, (checked_within _ _ c.in-Some.ensures).4, c.if-sections-unit.false)
 
 pub overflow_add-sections : goal.overflow_add-sections
 overflow_add-sections c =
-    let told = ap checked_says (sym c.in-Sections.is) ∙ c.check-checked.ensures in
-    omega (arith, (checked_within _ _ told).1, c.if-sections-unit.false)
+    omega (arith, (checked_within _ _ c.in-Some.ensures).1, c.if-sections-unit.false)
 
-pub unit_row-row-requires : goal.unit_row-row-requires
-unit_row-row-requires c =
-    let told = ap checked_says (sym c.in-Sections.is) ∙ c.check-checked.ensures in
-    omega (arith, (checked_within _ _ told).1, c.if-sections-unit.false)
+pub unit_row-requires : goal.unit_row-requires
+unit_row-requires c =
+    omega (arith, (checked_within _ _ c.in-Some.ensures).1, c.if-sections-unit.false)
 
 pub returns : goal.returns
 returns c =
-    let told = ap checked_says (sym c.in-Sections.is) ∙ c.check-checked.ensures in
-    ap (λ u. passed (some u)) c.unit_row-row.ensures ∙ find_row _ _ told _ c.if-sections-unit.false
+    ap (λ u. passed (Some u)) c.unit_row.ensures ∙ find_row _ _ c.in-Some.ensures _ c.if-sections-unit.false

@@ -1,21 +1,16 @@
+-- The bytes are the eight from the number's place on.
 use native.Mathlib.Omega.{arith}
-use Rattle.sheet.proofs.Digits.{joining_start, joining_room, joining_next, joining_end}
+use Prim.Native.Nat.{ℕ, ◌+◌, ◌-◌, ◌*◌}
+use mathlib.Core.Path.{◌≡◌, ap, ◌∙◌}
+use lib.ListN.{take, drop}
+use Rattle.sheet.specs.Reading.{value_from, number}
+use Rattle.sheet.proofs.Digits.{eight_joined}
 use Rattle.sheet.proofs.numbers.number.Goals as goal
 
-pub loop-k-init : goal.loop-k-init
-loop-k-init c = (joining_start _ _, omega arith)
-
-pub overflow_mul-value : goal.overflow_mul-value
-overflow_mul-value c = omega (arith, joining_room c.loop-k.invariant.0 c.loop-k-test.true)
-
-pub overflow_add-value : goal.overflow_add-value
-overflow_add-value c = omega (arith, joining_room c.loop-k.invariant.0 c.loop-k-test.true)
-
-pub loop-k-preserved : goal.loop-k-preserved
-loop-k-preserved c =
-    let inv = c.loop-k.invariant in
-    let b = c.byte_at-b.ensures in
-    (rw b (joining_next inv.0 c.loop-k-test.true inv.1 (omega (arith, b))), inv.1)
-
 pub returns : goal.returns
-returns c = joining_end c.loop-k.invariant.0 c.loop-k-test.false
+unfolding number
+returns c =
+    let at = 8 * c.args.i in
+    let e : at + 8 - at ≡ 8 = omega arith in
+    c.from_be_bytes.ensures ∙ eight_joined c.copy_from_slice.new.self c.copy_from_slice.ensures.len
+    ∙ ap (value_from 0) (c.copy_from_slice.ensures.after ∙ ap (λ (n : ℕ). take n (drop at c.args.sheet.now)) e)

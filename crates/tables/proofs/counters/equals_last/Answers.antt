@@ -10,5 +10,5 @@ returns-in_default c s kept lies =
 pub returns : goal.returns
 returns c s kept lies =
     let a = c.args in
-    equals_packet a.segment.now s lies a.last kept a.packet.now _ _ _ c.in-Packet.is
+    equals_packet a.segment.now s lies a.last kept a.packet.now _ c.in-Some.is
     c.packet_at.result.now c.packet_at.ensures c.same_bytes.result c.same_bytes.ensures

@@ -1,9 +1,13 @@
 -- What the judge of the first bytes says, with the bytes dropped beside a header.
-use Rattle.tsobu.proofs.TsObus.{figures_refused, figures_passed}
+use Rattle.std.proofs.Common.{rules}
+use Rattle.refusal.specs.Verdict.{◌>>=◌}
+use Rattle.tsobu.specs.Parts.{first_figures}
 use Rattle.tsobu.proofs.judging.judge_first.Goals as goal
 
-pub returns-in-Refused : goal.returns-in-Refused
-returns-in-Refused c = figures_refused _ _ _ _ c.judge-judged.ensures _ c.in-Refused.is
+pub returns-in_err-header : goal.returns-in_err-header
+unfolding first_figures ◌>>=◌
+returns-in_err-header c = search rules
 
-pub returns-in-Passed : goal.returns-in-Passed
-returns-in-Passed c = figures_passed _ _ _ _ c.judge-judged.ensures _ c.in-Passed.is
+pub returns : goal.returns
+unfolding first_figures ◌>>=◌
+returns c = search rules

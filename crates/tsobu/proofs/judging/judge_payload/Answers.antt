@@ -1,21 +1,23 @@
--- 3 and 10 are tried here, 4, 5 and 6 by `judge_obu`.
+-- 3 and 10 are tried here, 4, 5, 6 and 42 by `judge_obu`.
+use Rattle.std.proofs.Common.{rules}
 use mathlib.Core.Path.{◌∙◌}
+use Rattle.lists.specs.Lists.{pick}
+use Rattle.refusal.specs.Verdict.{◌>>◌, given}
+use Rattle.tsobu.specs.TsObu.{tsobu_refusal, tsobu_figures}
 use Rattle.emulation.proofs.Answers.{judged_legal, judged_illegal}
-use Rattle.tsobu.proofs.TsObus.{tsobu_empty, tsobu_illegal, tsobu_legal}
+use Rattle.tsobu.proofs.TsObus.{tsobu_legal, tsobu_illegal}
 use Rattle.tsobu.proofs.judging.judge_payload.Goals as goal
 
 pub returns-then-payload-eq0 : goal.returns-then-payload-eq0
-returns-then-payload-eq0 c = tsobu_empty _ c.if-payload-eq0.true
+unfolding tsobu_figures tsobu_refusal ◌>>◌ given pick
+returns-then-payload-eq0 c = search rules
 
 pub judge_obu-requires : goal.judge_obu-requires
-judge_obu-requires c = (judged_legal _ _ _ c.judge-judged.ensures c.in-Legal.is).1
+judge_obu-requires c = (judged_legal _ _ _ c.judge.ensures c.in-Ok.is).1
 
-pub returns-in-Illegal : goal.returns-in-Illegal
-returns-in-Illegal c = tsobu_illegal _ c.if-payload-eq0.false
-    (judged_illegal _ _ _ c.judge-judged.ensures c.in-Illegal.is)
+pub returns-in_default : goal.returns-in_default
+returns-in_default c =
+    rw c.at-in_default.ensures (tsobu_illegal _ c.if-payload-eq0.false (judged_illegal _ _ _ c.judge.ensures c.in_default.is))
 
-pub returns-in-Legal : goal.returns-in-Legal
-returns-in-Legal c =
-    c.judge_obu.ensures
-    ∙ tsobu_legal _ c.if-payload-eq0.false
-    (judged_legal _ _ _ c.judge-judged.ensures c.in-Legal.is).0
+pub returns : goal.returns
+returns c = c.judge_obu.ensures ∙ tsobu_legal _ c.if-payload-eq0.false (judged_legal _ _ _ c.judge.ensures c.in-Ok.is).0

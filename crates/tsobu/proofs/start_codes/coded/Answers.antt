@@ -1,28 +1,20 @@
--- A block without two bytes after it counts as one with a start code (`coded_short`); one without 00 00 has none, and of another the places
--- are counted.
-use native.Mathlib.Omega.{arith}
-use Prim.Native.Nat.{ℕ}
-use mathlib.Core.Path.{sym, ap, ◌∙◌}
-use mathlib.Core.Bool.{not}
-use lib.Dec.{eqb}
-use lib.ListN.{drop}
-use Rattle.emulation.specs.Blocks.{block, paired}
-use Rattle.emulation.proofs.Hits.{none_either, is_free}
+-- Where 00 00 stands nowhere, no start code does.
+use Rattle.std.proofs.Common.{sym, ap, ◌∙◌, not, drop, Bool}
+use Rattle.lists.specs.Lists.{Bytes}
+use Rattle.emulation.specs.Blocks.{free_of, paired}
+use Rattle.emulation.proofs.Hits.{free_either}
 use Rattle.tsobu.specs.StartCodes.{at_start_code}
-use Rattle.tsobu.proofs.Scanning.{coded_short, coded_counted, unpaired_uncoded}
+use Rattle.tsobu.specs.Parts.{coded}
+use Rattle.tsobu.proofs.Scanning.{unpaired_uncoded, is_code}
 use Rattle.tsobu.proofs.start_codes.coded.Goals as goal
 
-pub returns-then-s-i : goal.returns-then-s-i
-returns-then-s-i c = sym (coded_short c.args.s.now c.args.i (omega arith))
+pub returns-then-not-unpaired : goal.returns-then-not-unpaired
+unfolding coded
+returns-then-not-unpaired c =
+    ap not (c.free_of.ensures ∙ ap (λ (test : Bytes → Bool). free_of test (drop c.args.i c.args.s.now)) is_code)
 
-pub returns-then-unpaired : goal.returns-then-unpaired
-returns-then-unpaired c =
-    let s = c.args.s.now in
-    let i = c.args.i in
-    let free = is_free paired s i (sym c.unpaired.ensures ∙ c.if-unpaired.true) in
-    let none = none_either paired at_start_code unpaired_uncoded block (drop i s) free.1 in
-    sym (coded_counted s i (omega (arith, c.if-s-i.false)) ∙ ap (λ (n : ℕ). not (eqb n 0)) none)
-
-pub returns : goal.returns
-returns c =
-    ap (λ (n : ℕ). not (eqb n 0)) c.codes.ensures ∙ sym (coded_counted c.args.s.now c.args.i (omega arith))
+pub returns-else-not-unpaired : goal.returns-else-not-unpaired
+unfolding coded
+returns-else-not-unpaired c =
+    let free = free_either paired at_start_code unpaired_uncoded c.args.s.now c.args.i in
+    ap not (c.if-not-unpaired.false ∙ sym (free (sym c.unpaired.ensures ∙ c.if-not-unpaired.false)))

@@ -1,8 +1,7 @@
 -- The payload runs from behind the start code to the next one, which `scan` gives; it is empty, illegal, or handed out.
 use borrow.Author.Tests.{not-true, not-false}
 use native.Mathlib.Omega.{arith}
-use mathlib.Core.Path.{refl, sym, ap, ◌∙◌}
-use Rattle.tsobu.specs.Walk.{step_says}
+use mathlib.Core.Path.{refl, sym, ◌∙◌}
 use Rattle.tsobu.proofs.Places.{code_fits}
 use Rattle.tsobu.proofs.Steps.{step_empty, step_illegal, step_legal, part_is}
 use Rattle.tsobu.proofs.walking.payload_step.Goals as goal
@@ -11,24 +10,21 @@ pub overflow_add-start : goal.overflow_add-start
 overflow_add-start c = omega (arith, code_fits c.args.unit.now c.args.at c.requires)
 
 pub refused-requires : goal.refused-requires
-refused-requires c =
-    omega (arith, code_fits c.args.unit.now c.args.at c.requires)
+refused-requires c = omega (arith, code_fits c.args.unit.now c.args.at c.requires)
 
 pub returns-then-next-start : goal.returns-then-next-start
 returns-then-next-start c =
-    ap step_says c.refused.ensures
-    ∙ step_empty c.args.unit.now c.args.at (omega (arith, c.scan-scanned.ensures.ends))
+    rw c.refused.ensures (step_empty c.args.unit.now c.args.at (omega (arith, c.scan-scanned.ensures.ends)))
 
 pub refused-requires-then-not-scanned : goal.refused-requires-then-not-scanned
-refused-requires-then-not-scanned c =
-    omega (arith, code_fits c.args.unit.now c.args.at c.requires)
+refused-requires-then-not-scanned c = omega (arith, code_fits c.args.unit.now c.args.at c.requires)
 
 pub returns-then-not-scanned : goal.returns-then-not-scanned
 returns-then-not-scanned c =
     let found = c.scan-scanned.ensures in
-    ap step_says c.refused-then-not-scanned.ensures
-    ∙ step_illegal c.args.unit.now c.args.at (omega (arith, found.ends, c.if-next-start.false))
-    (sym found.lawful ∙ not-true _ c.if-not-scanned.true)
+    rw c.refused-then-not-scanned.ensures
+    (step_illegal c.args.unit.now c.args.at (omega (arith, found.ends, c.if-next-start.false))
+    (sym found.lawful ∙ not-true _ c.if-not-scanned.true))
 
 pub returns : goal.returns
 returns c =

@@ -11,5 +11,4 @@ returns-then-code_at c = step_code _ _ (sym c.code_at.ensures ∙ c.if-code_at.t
 
 pub returns : goal.returns
 returns c =
-    step_other _ _ (sym c.at_end.ensures ∙ c.if-at_end.false)
-    (sym c.code_at.ensures ∙ c.if-code_at.false)
+    rw c.at.ensures (step_other _ _ (sym c.at_end.ensures ∙ c.if-at_end.false) (sym c.code_at.ensures ∙ c.if-code_at.false))

@@ -13,8 +13,13 @@ use Rattle.tsobu.specs.StartCodes.{payloads}
 use Rattle.tsobu.proofs.Places.{next_code, payload_at, next_fits}
 use Rattle.unit.proofs.Readings.{passing_code, passing_end, dropped_left, Copying, copying_room}
 use Rattle.unit.proofs.Readings.{copying_step, copying_done}
+use Rattle.unit.specs.declared.reading.Note.{Note}
 use Rattle.unit.proofs.reading.copy_obus.Goals.{After-copy_obu-written, In-loop-k}
 use Rattle.unit.proofs.reading.copy_obus.Goals as goal
+
+-- the note behind the end
+abbrev no_note : Note
+no_note = record { end = 0; width = 0 }
 
 -- ---- in a turn
 left : (c : In-loop-k)
@@ -22,11 +27,11 @@ left : (c : In-loop-k)
 left c = omega (arith, c.loop-k-test.true, c.requires.measured.obus)
 
 end_is : (c : In-loop-k)
-    → get_or c.args.ends.now c.loop-k.k 0
+    → (get_or c.args.notes.now c.loop-k.k no_note).end
     ≡ next_code c.args.unit.now c.loop-k.code
 end_is c =
     let left : c.loop-k.k < length (payloads c.args.unit.now) = omega (arith, c.loop-k-test.true, c.requires.measured.obus) in
-    passing_end c.loop-k.invariant.0.passing (left)
+    passing_end c.loop-k.invariant.0.passing (left) no_note
 
 fits : (c : In-loop-k)
     → next_code c.args.unit.now c.loop-k.code ≤ length
@@ -40,12 +45,12 @@ fits c =
 lent : (c : In-loop-k)
     → let s = c.args.unit.now in
     let code = c.loop-k.code in
-    take (get_or c.args.ends.now c.loop-k.k 0 - (code + 3)) (drop (code + 3) s)
+    take ((get_or c.args.notes.now c.loop-k.k no_note).end - (code + 3)) (drop (code + 3) s)
     ≡ payload_at s code
 lent c =
     let left : c.loop-k.k < length (payloads c.args.unit.now) = omega (arith, c.loop-k-test.true, c.requires.measured.obus) in
-    let end_is : get_or c.args.ends.now c.loop-k.k 0
-    ≡ next_code c.args.unit.now c.loop-k.code = passing_end c.loop-k.invariant.0.passing (left) in
+    let end_is : (get_or c.args.notes.now c.loop-k.k no_note).end
+    ≡ next_code c.args.unit.now c.loop-k.code = passing_end c.loop-k.invariant.0.passing (left) no_note in
     let s = c.args.unit.now in
     let code = c.loop-k.code in
     ap (λ (e : ℕ). take (e - (code + 3)) (drop (code + 3) s)) (end_is)
@@ -65,11 +70,11 @@ called : (c : After-copy_obu-written)
     → c.copy_obu-written.result ≡ length (unescape (payload_at c.args.unit.now c.loop-k.code))
 called c =
     let left : c.loop-k.k < length (payloads c.args.unit.now) = omega (arith, c.loop-k-test.true, c.requires.measured.obus) in
-    let end_is : get_or c.args.ends.now c.loop-k.k 0
-    ≡ next_code c.args.unit.now c.loop-k.code = passing_end c.loop-k.invariant.0.passing (left) in
+    let end_is : (get_or c.args.notes.now c.loop-k.k no_note).end
+    ≡ next_code c.args.unit.now c.loop-k.code = passing_end c.loop-k.invariant.0.passing (left) no_note in
     let lent : let s = c.args.unit.now in
     let code = c.loop-k.code in
-    take (get_or c.args.ends.now c.loop-k.k 0 - (code + 3)) (drop (code + 3) s)
+    take ((get_or c.args.notes.now c.loop-k.k no_note).end - (code + 3)) (drop (code + 3) s)
     ≡ payload_at s code = let s = c.args.unit.now in
     let code = c.loop-k.code in
     ap (λ (e : ℕ). take (e - (code + 3)) (drop (code + 3) s)) (end_is) in
@@ -82,11 +87,11 @@ written : (c : After-copy_obu-written)
     ≡ placed out n (unescape (payload_at c.args.unit.now c.loop-k.code))
 written c =
     let left : c.loop-k.k < length (payloads c.args.unit.now) = omega (arith, c.loop-k-test.true, c.requires.measured.obus) in
-    let end_is : get_or c.args.ends.now c.loop-k.k 0
-    ≡ next_code c.args.unit.now c.loop-k.code = passing_end c.loop-k.invariant.0.passing (left) in
+    let end_is : (get_or c.args.notes.now c.loop-k.k no_note).end
+    ≡ next_code c.args.unit.now c.loop-k.code = passing_end c.loop-k.invariant.0.passing (left) no_note in
     let lent : let s = c.args.unit.now in
     let code = c.loop-k.code in
-    take (get_or c.args.ends.now c.loop-k.k 0 - (code + 3)) (drop (code + 3) s)
+    take ((get_or c.args.notes.now c.loop-k.k no_note).end - (code + 3)) (drop (code + 3) s)
     ≡ payload_at s code = let s = c.args.unit.now in
     let code = c.loop-k.code in
     ap (λ (e : ℕ). take (e - (code + 3)) (drop (code + 3) s)) (end_is) in
@@ -138,7 +143,7 @@ pub loop-k-preserved : goal.loop-k-preserved
 loop-k-preserved c =
     let r = c.copy_obu-written.result in
     let s = c.args.unit.now in (
-      subst₂ (λ (o : Bytes) (e : ℕ). Copying s c.args.ends.now c.args.out.now c.args.lens.now o
+      subst₂ (λ (o : Bytes) (e : ℕ). Copying s c.args.notes.now c.args.out.now c.args.lens.now o
           (set c.loop-k.lens c.loop-k.k r) e (c.loop-k.n + r) (c.loop-k.k + 1))
           (sym (written (goal.at.loop-k-preserved c).After-copy_obu-written)) (sym (end_is (goal.at.loop-k-preserved c).In-loop-k))
           (copying_step c.loop-k.invariant.0 (left (goal.at.loop-k-preserved c).In-loop-k) c.requires.unit_in_bounds.0

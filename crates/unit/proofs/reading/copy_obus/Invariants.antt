@@ -1,6 +1,6 @@
 -- One OBU a turn: what stands in the outputs, then the OBUs of the payloads from the next start code on, and their lengths, are all of
 -- them.
-use Prim.Native.Nat.{◌-◌, ◌≤◌}
+use Prim.Native.Nat.{◌≤◌}
 use mathlib.Core.List.{map}
 use lib.ListN.{drop}
 use Rattle.emulation.specs.Payload.{dropped as payload_dropped}
@@ -10,8 +10,5 @@ use Rattle.unit.proofs.Readings.{Copying}
 use Rattle.unit.proofs.reading.copy_obus.Given as goal
 
 abbrev pub invariant-loop-k : goal.invariant-loop-k
-invariant-loop-k l = Copying l.unit l.ends l.initial.out l.initial.lens l.out l.lens l.code l.n l.k ×
+invariant-loop-k l = Copying l.unit l.notes l.initial.out l.initial.lens l.out l.lens l.code l.n l.k ×
     (sum (map payload_dropped (payloads (drop l.code l.unit))) ≤ dropped_in l.unit)
-
-abbrev pub decreases-loop-k : goal.decreases-loop-k
-decreases-loop-k l = l.count - l.k

@@ -1,17 +1,17 @@
+use Rattle.std.specs.Prelude.{Ok}
+use Rattle.refusal.specs.Number.{says}
 use native.Mathlib.Omega.{arith}
 use Prim.Native.Nat.{ℕ, ◌+◌, ◌-◌, ◌≤◌, ◌<◌}
 use mathlib.Core.Bool.{true}
-use mathlib.Core.Path.{◌≡◌, sym, ap, subst, ◌∙◌}
+use mathlib.Core.Path.{◌≡◌, refl, sym, ap, subst, ◌∙◌}
 use borrow.Author.Tests.{ltb-true, ltb-false}
 use lib.ListN.{length, drop, set}
 use Rattle.emulation.proofs.Steps.{given_or_dropped}
 use Rattle.unit.specs.Unit.{most_obus}
-use Rattle.tsobu.specs.Parts.{Place}
 use Rattle.tsobu.specs.StartCodes.{at_start_code, payloads}
-use Rattle.tsobu.specs.TsObu.{tsobu_figures, tsobu_says}
+use Rattle.tsobu.specs.TsObu.{tsobu_figures}
 use Rattle.tsobu.specs.declared.judging.Figures.{Figures}
-use Rattle.tsobu.specs.declared.judging.TsObu.TheVariants as TsObu
-use Rattle.tsobu.proofs.Places.{next_code, payload_at, payload_is, payload_length, next_fits, next_place}
+use Rattle.tsobu.proofs.Places.{next_code, payload_at, payload_is, payload_length, next_fits}
 use Rattle.tsobu.proofs.TsObus.{Passes, tsobu_refused, tsobu_passed}
 use Rattle.unit.proofs.Readings.{Judging, ending_code, judging_step, judging_count, judging_past, judging_refused}
 use Rattle.unit.proofs.Readings.{judging_done, refused_judges, counted_many}
@@ -41,7 +41,7 @@ few c = omega (arith, c.if-count-ge-MOST_OBUS.false)
 
 -- what was said of the payload
 said : (c : After-judge_from-found)
-    → tsobu_says c.judge_from-found.result.tsobu
+    → says c.judge_from-found.result.tsobu
     ≡ tsobu_figures (payload_at c.args.unit.now c.loop-code.code)
 said c =
     c.judge_from-found.ensures.tsobu_value
@@ -49,26 +49,26 @@ said c =
     (payload_is c.args.unit.now c.loop-code.code))
 
 -- a payload that passed
-fine : (c : After-judge_from-found) (f : Figures) → c.judge_from-found.result.tsobu ≡ TsObu.Passed f
+fine : (c : After-judge_from-found) (f : Figures) → c.judge_from-found.result.tsobu ≡ Ok f
     → Passes (payload_at c.args.unit.now c.loop-code.code) f
 fine c f e =
-    let said : tsobu_says c.judge_from-found.result.tsobu
+    let said : says c.judge_from-found.result.tsobu
     ≡ tsobu_figures (payload_at c.args.unit.now c.loop-code.code) = c.judge_from-found.ensures.tsobu_value
     ∙ ap tsobu_figures (sym
     (payload_is c.args.unit.now c.loop-code.code)) in
     tsobu_passed _ _ f (said) e
 
 -- the bytes dropped are fewer than the payload's
-fewer : (c : After-judge_from-found) (f : Figures) → c.judge_from-found.result.tsobu ≡ TsObu.Passed f
+fewer : (c : After-judge_from-found) (f : Figures) → c.judge_from-found.result.tsobu ≡ Ok f
     → c.loop-code.code + 3 + f.dropped ≤ c.judge_from-found.result.end
 fewer c f e =
     let end_is : c.judge_from-found.result.end
     ≡ next_code c.args.unit.now c.loop-code.code = c.judge_from-found.ensures.end_value in
-    let said : tsobu_says c.judge_from-found.result.tsobu
+    let said : says c.judge_from-found.result.tsobu
     ≡ tsobu_figures (payload_at c.args.unit.now c.loop-code.code) = c.judge_from-found.ensures.tsobu_value
     ∙ ap tsobu_figures (sym
     (payload_is c.args.unit.now c.loop-code.code)) in
-    let fine : (f : Figures) → c.judge_from-found.result.tsobu ≡ TsObu.Passed f
+    let fine : (f : Figures) → c.judge_from-found.result.tsobu ≡ Ok f
     → Passes (payload_at c.args.unit.now c.loop-code.code) f = λ f e. tsobu_passed _ _ f (said) e in
     let s = c.args.unit.now in
     let code = c.loop-code.code in
@@ -88,41 +88,42 @@ counted c =
 
 pub returns-then-count-ge-MOST_OBUS : goal.returns-then-count-ge-MOST_OBUS
 returns-then-count-ge-MOST_OBUS c =
-    refused_judges _ _ _ _ c.loop-code.invariant.kinds_noted.long c.stopped.ensures
-    (judging_past c.loop-code.invariant c.loop-code-test.true c.if-count-ge-MOST_OBUS.true)
+    rw c.at.ensures
+    (refused_judges _ _ _ c.loop-code.invariant.kinds_noted.long
+    (judging_past c.loop-code.invariant c.loop-code-test.true c.if-count-ge-MOST_OBUS.true))
 
 pub too_many-requires : goal.too_many-requires
-too_many-requires c =
-    let s = c.args.unit.now in (
-      omega (arith, end_is (goal.at.too_many-requires c).After-judge_from-found, fits (goal.at.too_many-requires c).After-judge_from-found),
-      subst (Place s) (sym (end_is (goal.at.too_many-requires c).After-judge_from-found))
-          (next_place s c.loop-code.code (here (goal.at.too_many-requires c).After-judge_from-found)),
-    )
+too_many-requires c = (
+  omega (arith, end_is (goal.at.too_many-requires c).After-judge_from-found, fits (goal.at.too_many-requires c).After-judge_from-found),
+  omega (arith, few (goal.at.too_many-requires c).After-judge_from-found),
+)
 
 pub returns-then-too_many : goal.returns-then-too_many
 returns-then-too_many c =
     let s = c.args.unit.now in
     let n = c.loop-code.count + 1 + length (payloads (drop c.judge_from-found.result.end s)) in
     let more = ltb-true most_obus n (sym c.too_many.ensures ∙ c.if-too_many.true) in
-    refused_judges _ _ _ _ c.loop-code.invariant.kinds_noted.long c.stopped-then-too_many.ensures
-    (counted_many s (omega (arith, counted (goal.at.returns-then-too_many c).After-judge_from-found, more)))
+    rw c.at-then-too_many.ensures
+    (refused_judges _ _ _ c.loop-code.invariant.kinds_noted.long
+    (counted_many s (omega (arith, counted (goal.at.returns-then-too_many c).After-judge_from-found, more))))
 
-pub returns-in-Refused : goal.returns-in-Refused
-returns-in-Refused c =
+pub returns-in-Err : goal.returns-in-Err
+returns-in-Err c =
     let n = c.loop-code.count + 1 + length
     (payloads (drop c.judge_from-found.result.end c.args.unit.now)) in
     let most = ltb-false most_obus n (sym c.too_many.ensures ∙ c.if-too_many.false) in
-    let r = tsobu_refused _ _ _ (said (goal.at.returns-in-Refused c).After-judge_from-found) c.in-Refused.is in
-    refused_judges _ _ _ _ c.loop-code.invariant.kinds_noted.long c.stopped-in-Refused.ensures
-    (judging_refused c.loop-code.invariant c.loop-code-test.true c.in-Refused.refused r
-    (omega (arith, counted (goal.at.returns-in-Refused c).After-judge_from-found, most)))
+    let r = tsobu_refused _ _ _ (said (goal.at.returns-in-Err c).After-judge_from-found) c.in-Err.is in
+    rw c.at-in-Err.ensures
+    (refused_judges _ _ _ c.loop-code.invariant.kinds_noted.long
+    (judging_refused c.loop-code.invariant c.loop-code-test.true c.in-Err.refused r
+    (omega (arith, counted (goal.at.returns-in-Err c).After-judge_from-found, most))))
 
-pub overflow_sub-bytes-in-Passed : goal.overflow_sub-bytes-in-Passed
-overflow_sub-bytes-in-Passed c =
+pub overflow_sub-bytes-in-Ok : goal.overflow_sub-bytes-in-Ok
+overflow_sub-bytes-in-Ok c =
     omega (
       arith,
-      fewer (goal.at.overflow_sub-bytes-in-Passed c).After-judge_from-found _
-          c.in-Passed.is,
+      fewer (goal.at.overflow_sub-bytes-in-Ok c).After-judge_from-found _
+          c.in-Ok.is,
     )
 
 pub overflow_add-dropped : goal.overflow_add-dropped
@@ -133,24 +134,23 @@ overflow_add-dropped c =
       fits (goal.at.overflow_add-dropped c).After-judge_from-found,
       c.loop-code.invariant.small,
       fewer (goal.at.overflow_add-dropped c).After-judge_from-found _
-          c.in-Passed.is,
+          c.in-Ok.is,
     )
 
 pub loop-code-preserved : goal.loop-code-preserved
 loop-code-preserved c =
     let s = c.args.unit.now in
-    let f = c.in-Passed.figures in
-    let kind = c.kind_number.result in
+    let f = c.in-Ok.figures in
+    let kind = c.kind_of.result in
     let width = c.size_bytes.result in
     subst
-    (λ (e : ℕ). Judging s (set c.loop-code.ends c.loop-code.count e) (set c.loop-code.kinds c.loop-code.count kind)
-    (set c.loop-code.widths c.loop-code.count width)
+    (λ (e : ℕ). Judging s (set c.loop-code.kinds c.loop-code.count kind)
+    (set c.loop-code.notes c.loop-code.count (record { end = e; width = width }))
     (c.loop-code.bytes + (e - (c.loop-code.code + 3) - f.dropped)) (c.loop-code.dropped + f.dropped) e (c.loop-code.count + 1))
     (sym (end_is (goal.at.loop-code-preserved c).After-judge_from-found))
     (judging_step c.loop-code.invariant c.loop-code-test.true f
-    (fine (goal.at.loop-code-preserved c).After-judge_from-found f c.in-Passed.is)
-    (few (goal.at.loop-code-preserved c).After-judge_from-found) kind width
-    c.kind_number.ensures
+    (fine (goal.at.loop-code-preserved c).After-judge_from-found f c.in-Ok.is)
+    (few (goal.at.loop-code-preserved c).After-judge_from-found) kind c.kind_of.ensures (record { end = _; width = width }) refl
     c.size_bytes.ensures)
 
 pub returns : goal.returns

@@ -6,7 +6,7 @@ use Rattle.unit.proofs.Readings.{Judging}
 use Rattle.unit.proofs.reading.judge_payloads.Given as goal
 
 abbrev pub invariant-loop-code : goal.invariant-loop-code
-invariant-loop-code l = Judging l.unit l.ends l.kinds l.widths l.bytes l.dropped l.code l.count
+invariant-loop-code l = Judging l.unit l.kinds l.notes l.bytes l.dropped l.code l.count
 
 abbrev pub decreases-loop-code : goal.decreases-loop-code
 decreases-loop-code l = length l.unit - l.code

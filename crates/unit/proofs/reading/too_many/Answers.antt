@@ -1,16 +1,26 @@
-use native.Mathlib.Omega.{arith}
-use Prim.Native.Nat.{ℕ, ◌+◌}
-use mathlib.Core.Path.{sym, subst}
-use Rattle.unit.proofs.Readings.{Counting, counting_step, counting_past, counting_done}
+use Rattle.std.proofs.Common.{◌≡◌, ℕ, ◌+◌, List, length, take, drop, ltb, ap, ◌∙◌, length-take, arith}
+use Rattle.std.proofs.lemmas.Bool.Decides.{nat_tests}
+use Rattle.std.proofs.lemmas.List.{take_rest}
+use Rattle.std.proofs.lemmas.Iterator.{YieldsList-from_take}
+use Rattle.std.proofs.lemmas.Iterator.Consumers.{YieldsList-from_first, count_from_yields_List}
+use Rattle.lists.specs.Lists.{Bytes}
+use Rattle.tsobu.specs.StartCodes.{payloads}
+use Rattle.tsobu.specs.Payloads.{payloads_left}
+use Rattle.unit.specs.Unit.{most_obus}
+use Rattle.unit.proofs.reading.too_many.Goals.{After-count-behind}
 use Rattle.unit.proofs.reading.too_many.Goals as goal
 
-pub returns-then-count-ge-MOST_OBUS : goal.returns-then-count-ge-MOST_OBUS
-returns-then-count-ge-MOST_OBUS c = counting_past c.loop-code.invariant c.loop-code-test.true c.if-count-ge-MOST_OBUS.true
+-- at most one more than 64 is counted, which is past the limit already
+counted_up_to : (ps : List Bytes) (before n : ℕ) → n ≡ length (take 65 ps) → ltb 64 (before + n) ≡ ltb most_obus (before + length ps)
+counted_up_to ps before n e = let m = length-take 65 ps in grind (arith, nat_tests)
 
-pub loop-code-preserved : goal.loop-code-preserved
-loop-code-preserved c =
-    subst (λ (n : ℕ). Counting c.args.unit.now c.args.at c.args.before n (c.loop-code.count + 1)) (sym c.find-code.ensures)
-    (counting_step c.loop-code.invariant c.loop-code-test.true)
+left : (c : After-count-behind) → payloads_left c.take.result.iter ≡ payloads (drop c.args.at c.args.unit.now)
+left c =
+    ap payloads_left c.take.ensures.source ∙ c.of.ensures
+    ∙ ap payloads (take_rest c.args.unit.now c.args.at)
 
 pub returns : goal.returns
-returns c = counting_done c.loop-code.invariant (omega (arith, c.loop-code-test.false))
+returns c =
+    counted_up_to (payloads (drop c.args.at c.args.unit.now)) _ _
+    (count_from_yields_List c.take.result _ c.count-behind.ensures.ran
+    (YieldsList-from_take 65 (YieldsList-from_first (λ p. p.now) payloads_left _ (left c)) c.take.ensures.count))

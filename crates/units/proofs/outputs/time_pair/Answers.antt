@@ -3,10 +3,10 @@ use mathlib.Core.Path.{sym, ap}
 use Rattle.segment_rules.specs.Check.{pts_and_dts}
 use Rattle.units.proofs.outputs.time_pair.Goals as goal
 
-pub returns-in-Absent : goal.returns-in-Absent
+pub returns-in-None : goal.returns-in-None
 unfolding pts_and_dts
-returns-in-Absent c = ap pts_and_dts (sym c.in-Absent.is)
+returns-in-None c = ap pts_and_dts (sym c.in-None.is)
 
-pub returns-in-Stamps : goal.returns-in-Stamps
+pub returns-in-Some : goal.returns-in-Some
 unfolding pts_and_dts
-returns-in-Stamps c = ap pts_and_dts (sym c.in-Stamps.is)
+returns-in-Some c = ap pts_and_dts (sym c.in-Some.is)

@@ -1,9 +1,0 @@
-use Rattle.answers.proofs.Queues.{filling_next, filling_done}
-use Rattle.answers.proofs.queueing.state_of.Goals as goal
-
-pub loop-i-preserved : goal.loop-i-preserved
-loop-i-preserved c =
-    filling_next _ c.loop-i.invariant c.loop-i-test.true _ c.mark.ensures
-
-pub returns : goal.returns
-returns c = filling_done _ c.loop-i.invariant c.loop-i-test.false

@@ -1,9 +1,0 @@
--- The index stays within the arrays.
-use Rattle.std.proofs.Common.{◌-◌, ◌≤◌}
-use Rattle.segment_report.proofs.print_units.Given as goal
-
-abbrev pub invariant-loop-i : goal.invariant-loop-i
-invariant-loop-i g l = l.i ≤ 1024
-
-abbrev pub decreases-loop-i : goal.decreases-loop-i
-decreases-loop-i g l = 1024 - l.i
