@@ -1,13 +1,12 @@
 -- Loops over the tsOBUs of a string: what is done, then the definition of the rest, is the definition of the whole. Assumes nothing.
 use Prim.Native.Nat.{ℕ, zero, suc, ◌+◌, ◌-◌, ◌≤◌, ◌<◌}
-use mathlib.Core.Bool.{true}
 use mathlib.Core.Path.{◌≡◌, refl, sym, ap, subst, subst₂, ◌∙◌}
+use mathlib.Core.Logic.{◌⊎◌, inl, inr}
 use mathlib.Core.List.{List, [], ◌∷◌, ◌++◌, map, flatten, append-nil, append_assoc, map-append}
 use native.Mathlib.Omega.{arith}
 use native.Mathlib.Numerals.{add-one}
-use borrow.Author.Tests.{lt-ltb, le-ltb}
+use borrow.Author.Tests.{le-ltb}
 use borrow.Rule.Slice.PartMut.{mid_of, put_mid}
-use lib.Dec.{ltb}
 use lib.ListN.{length, take, set, length-set, length-append, length-drop}
 use lib.Seq.{take-set-le, take-suc-set, append_snoc}
 use Rattle.lists.specs.Lists.{Bytes, those, over}
@@ -72,6 +71,18 @@ measuring_start all rest marks kinds l k e =
       sized = omega arith;
     })
 
+-- a turn has room for a tsOBU, or none is left
+pub record Turn (all rest : List Bytes) (m : Measured) : Type 0 where
+  pub measured : Measuring all rest m
+  pub room : (m.count < 64) ⊎ (length rest ≡ 0)
+
+pub turn_room : {all rest ps : List Bytes} {p : Bytes} {m : Measured} → Turn all rest m → rest ≡ p ∷ ps → m.count < 64
+turn_room {all} {rest} {ps} {p} {m} t q =
+    elim t.room [
+      | inl k ↦ k
+      | inr e ↦ absurd (omega (arith, e, ap length q))
+    ]
+
 -- what is kept, tsOBU by tsOBU, in numbers
 bytes_append : (a b : List Bytes) → bytes_of (a ++ b) ≡ bytes_of a + bytes_of b
 unfolding sum
@@ -107,9 +118,6 @@ pub forms_within : (s : Bytes) → length (forms (payloads s)) ≤ length s
 forms_within s = omega (arith, never_longer s, ap length (salvaged_is s))
 
 module _ {all rest ps : List Bytes} {p : Bytes} {m : Measured} (g : Measuring all rest m) (q : rest ≡ p ∷ ps) where
-  pub measuring_past : 64 ≤ m.count → true ≡ ltb most_obus (length all)
-  measuring_past k = sym (lt-ltb most_obus (length all) (omega (arith, g.total, ap length q)))
-
   module _ (k : m.count < 64) (one : One) (o : OneOf p one) where
     summed_next : m.bytes + one.bytes + length (forms ps) ≡ length (forms all)
     unfolding flatten

@@ -159,11 +159,13 @@ fn measure(s: &[u8]) -> Option<Measured>
         kinds: [Kind::Reserved; MOST_OBUS],
         size: 0,
     };
-    for payload in Payloads::of(s) {
-        if MOST_OBUS <= measured.count {
+    let mut payloads = Payloads::of(s);
+    while let Some(payload) = payloads.next() {
+        measured.add(judge_one(payload));
+        // The end of a 65th payload is not searched: the rest of the string may be its bytes.
+        if MOST_OBUS <= measured.count && !payloads.is_empty() {
             return None;
         }
-        measured.add(judge_one(payload));
     }
     Some(measured)
 }

@@ -1,5 +1,5 @@
 // The payloads of a string, one after the other.
-ghost use Rattle.std.specs.Prelude.{◌≡◌};
+ghost use Rattle.std.specs.Prelude.{◌≡◌, eqb, length};
 ghost use Rattle.std.specs.Iterator.{YieldsFirstRef, item_count};
 ghost use Rattle.tsobu.specs.StartCodes.{split, payloads};
 ghost use Rattle.tsobu.specs.Payloads.{payloads_behind, payloads_left};
@@ -28,6 +28,13 @@ impl<'a> Payloads<'a> {
     {
         let (_, behind) = split(s);
         Payloads { behind }
+    }
+
+    // Returns whether no payload is left. Unlike `next`, it does not search for the end of a payload.
+    pub fn is_empty(&self) -> bool
+        ensures { result ≡ eqb (length (payloads_left self.now)) 0 }
+    {
+        self.behind.is_none()
     }
 }
 

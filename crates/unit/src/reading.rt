@@ -37,8 +37,14 @@ fn too_many(unit: &[u8], at: usize, before: usize) -> bool
     requires { (at ≤ length unit.now) × (before ≤ most_obus) }
     ensures { result ≡ ltb most_obus (before + length (payloads (drop at unit.now))) }
 {
-    let behind = Payloads::of(&unit[at..]).take(MOST_OBUS + 1).count();
-    MOST_OBUS < before + behind
+    let mut behind = Payloads::of(&unit[at..]);
+    for _ in before..MOST_OBUS {
+        if behind.next().is_none() {
+            return false;
+        }
+    }
+    // The end of a 65th payload is not searched: the rest of the unit may be its bytes.
+    !behind.is_empty()
 }
 
 // Judges the payloads in turn, and writes of each the kind of its OBU over the front of `kinds` and its note over the
