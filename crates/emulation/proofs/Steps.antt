@@ -96,12 +96,18 @@ dropped_plain a [] e = refl
 dropped_plain a (b ∷ []) e = refl
 dropped_plain a (b ∷ c ∷ s) e = chosen_false (suc (dropped s)) (dropped (b ∷ c ∷ s)) e
 
+pub marked_long : (l : Bytes) → marked l ≡ true → 3 ≤ length l
+marked_long = three_long marked_three
+
 forbidden_three : AsksThree forbidden
 unfolding forbidden
 forbidden_three = record { none = refl; one = λ a. refl; two = λ a b. refl }
 
 pub forbidden_long : (l : Bytes) → forbidden l ≡ true → 3 ≤ length l
 forbidden_long = three_long forbidden_three
+
+pub marked3_rest : (a b c : ℕ) → a ≡ 0 → b ≡ 0 → marked3 a b c ≡ eqb c 3
+marked3_rest a b c p q = rw (p, q)
 
 -- ---- the same at the code's place i
 pub unescape_at_marked : (s : Bytes) (i : ℕ) → marked (drop i s) ≡ true → unescape (drop i s) ≡ 0 ∷ 0 ∷ unescape (drop (i + 3) s)

@@ -17,7 +17,7 @@ use Rattle.lists.proofs.Tests.{case}
 use Rattle.emulation.specs.Payload.{escape}
 use Rattle.emulation.specs.Blocks.{block}
 use Rattle.emulation.specs.Parts.{critical}
-use Rattle.escaping.specs.Parts.{laid, Flags, Fills}
+use Rattle.escaping.specs.Parts.{laid, Flags, Fills, Lays}
 use Rattle.emulation.proofs.Theorems.{escape_longer}
 use Rattle.emulation.proofs.Hits.{one_most}
 use Rattle.emulation.proofs.Machine.{stuffed_is}
@@ -249,3 +249,7 @@ pub laid_room : {s out now : Bytes} {i n j count last : ℕ} → n + block + blo
     → Laid s i out n j count last now
     → count + 3 < length now
 laid_room h k a = omega (arith, a.most, a.written.long)
+
+pub laid_end : {s out now : Bytes} {i n j count last : ℕ} → i + block + 2 ≤ length s → Laid s i out n j count last now
+    → Lays s i out n (i + j - last) (count - last) now
+laid_end h a = record { within = omega (arith, a.within); written = a.back }

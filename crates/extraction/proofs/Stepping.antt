@@ -2,14 +2,14 @@
 use Rattle.ticks.specs.declared.Ticks27.{Ticks27}
 use Rattle.std.specs.Prelude.{Result, Ok, Err, Option, Some, None, is_some}
 use Prim.Native.Nat.{ℕ, ◌+◌, ◌*◌, ◌/◌, ◌≤◌, ◌<◌}
-use mathlib.Core.Bool.{Bool, true, false, not, ◌||◌}
+use mathlib.Core.Bool.{Bool, true, false, not, ◌&&◌}
 use mathlib.Core.Path.{◌≡◌, refl, sym, ap, ap₂, subst, ◌∙◌}
 use mathlib.Core.List.{List}
 use native.Mathlib.Omega.{arith}
 use borrow.Author.Tests.{le-ltb}
-use lib.ListN.{length}
-use Rattle.lists.specs.Lists.{Bytes, pick}
-use Rattle.lists.proofs.Tests.{case, clash}
+use lib.ListN.{length, replicate}
+use Rattle.lists.specs.Lists.{Bytes, pick, zeros}
+use Rattle.lists.proofs.Tests.{case, clash, and_both}
 use Rattle.refusal.specs.Verdict.{Verdict, passed, refused, ◌>>=◌, ◌>>◌, at_place, NoValue}
 use Rattle.refusal.specs.Number.{refused_by}
 use Rattle.refusal.specs.declared.Refused.{Refused}
@@ -294,14 +294,17 @@ module _ (edition : rules.Edition) (rooms : Rooms) (i : ℕ) (p : Bytes) (k : st
         (next, goes ∙ repeated p carries next (sym after_24.2.1 ∙ b), next_stands)
 
     -- what it carries
-    pub with_content : repeat ≡ false → (x : Result NoValue Refused) (S : State → Type 0) → Refines x (carries next) S → Refines x whole S
-    with_content b x S t = refines_as _ S whole x (sym (goes ∙ not_repeated p carries next (sym after_24.2.1 ∙ b))) t
+    pub with_content : (has_payload p && not repeat) ≡ true → (x : Result NoValue Refused) (S : State → Type 0) → Refines x (carries next) S
+        → Refines x whole S
+    with_content e x S t =
+        let b : repeat ≡ false = case repeat (λ u. clash (and_both (has_payload p) (not repeat) e).1 (ap not u)) (λ u. u) in
+        refines_as _ S whole x (sym (goes ∙ not_repeated p carries next (sym after_24.2.1 ∙ b))) t
 
   -- what it carries is not taken
-  pub passed_over : o ≡ (Ok tt) → (repeat || not (has_payload p)) ≡ true → Refines o whole Stands
+  pub passed_over : o ≡ (Ok tt) → (has_payload p && not repeat) ≡ false → Refines o whole Stands
   passed_over f e =
       case repeat (no_more f)
-      (λ u. case (has_payload p) (λ t. clash e (ap₂ (λ (a b : Bool). a || not b) u t)) (no_content f))
+      (λ u. case (has_payload p) (λ t. clash (ap₂ (λ (a b : Bool). a && not b) t u) e) (no_content f))
 
 -- ---- a packet
 -- the code's test of the index: the segment has it
@@ -386,6 +389,20 @@ module _ (r : Stepped) (edition : Edition) (s : Stepped) (back : r ≡ handed_ba
   -- where it refuses, what there was before the first packet
   pub back_refused : (q : Refused) → r.outcome ≡ Err q → r ≡ refused_step edition q
   back_refused q k = back ∙ ap (λ (o : Result NoValue Refused). handed_back edition o s) (sym back_outcome ∙ k)
+
+-- by the outcome of the packet
+pub fresh_back : (edition : Edition) (s : Stepped) (q : Refused) → s.outcome ≡ Err q → (c : code.State)
+    → c ≡ fresh_state edition
+    → record { state = c; kind = kinds.Unlisted; outcome = s.outcome } ≡ handed_back edition s.outcome s
+fresh_back edition s q k c fresh =
+    ap₂ (λ (x : code.State) (o : Result NoValue Refused). record { state = x; kind = kinds.Unlisted; outcome = o }) fresh k
+    ∙ sym (ap (λ (o : Result NoValue Refused). handed_back edition o s) k)
+
+pub zeros_back : (o : Result NoValue Refused) (q : Refused) → o ≡ Err q → (streams streams' : Streams) → length streams.numbers ≡ 42
+    → streams'.numbers ≡ zeros streams.numbers → streams' ≡ numbers_back o streams
+zeros_back o q k streams streams' long z =
+    ap (λ (l : List ℕ). record { numbers = l }) (z ∙ ap (λ (n : ℕ). replicate n 0) long)
+    ∙ sym (ap (λ (x : Result NoValue Refused). numbers_back x streams) k)
 
 -- what `step` promises, by what was left before it was handed back
 pub steps_back : (edition : Edition) (segment : Bytes) (i : ℕ) (c : code.State) (streams : Streams) (now after : Outputs) (s : Stepped)

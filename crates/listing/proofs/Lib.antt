@@ -4,3 +4,4 @@ pub mod Walked
 pub mod Texts
 pub mod Printed
 pub mod Loans
+pub mod Again

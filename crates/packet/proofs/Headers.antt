@@ -3,14 +3,17 @@
 use Rattle.std.specs.Prelude.{Some, None, is_some}
 use Prim.Native.Nat.{ℕ}
 use mathlib.Core.Bool.{Bool, true, false, not, ◌&&◌, ◌||◌}
-use mathlib.Core.Path.{◌≡◌, refl, sym}
+use mathlib.Core.Path.{◌≡◌, refl, sym, ap}
+use mathlib.Core.List.{[]}
 use borrow.Author.Tests.{ne_eqb}
 use lib.Dec.{eqb, ltb}
+use lib.ListN.{drop}
+use Rattle.std.proofs.lemmas.Option.{none-some, same_Some}
 use Rattle.lists.specs.Lists.{Bytes, pick}
 use Rattle.refusal.specs.Verdict.{passed}
 use Rattle.refusal.proofs.Verdicts.{passed_after, passed_same}
 use Rattle.packet.specs.declared.header.Header.{Header}
-use Rattle.packet.specs.Header.{has_payload}
+use Rattle.packet.specs.Header.{has_payload, payload}
 use Rattle.packet.specs.Header.{header_length, payload_place, fields, header_of}
 
 -- ---- the payload
@@ -22,6 +25,15 @@ has_place p = go (has_payload p)
     go : (b : Bool) → b ≡ is_some (pick b (Some (header_length p)) None)
     go true = refl
     go false = refl
+
+-- what lies from its place on is the payload
+pub payload_from : (p : Bytes) (n : ℕ) → payload_place p ≡ Some n → payload p ≡ drop n p
+unfolding payload payload_place pick
+payload_from p n = go (has_payload p)
+  where
+    go : (b : Bool) → pick b (Some (header_length p)) None ≡ Some n → pick b (drop (header_length p) p) [] ≡ drop n p
+    go true e = ap (λ (k : ℕ). drop k p) (same_Some (header_length p) n e)
+    go false e = absurd (none-some n e)
 
 -- ---- a packet that passed
 -- it says what its fields are

@@ -24,6 +24,17 @@ use Rattle.pmt.specs.declared.entries.Av1.TheVariants.{Missing, One, Wrong}
 use Rattle.pmt.specs.declared.entries.Listed.{Listed}
 use Rattle.pmt.specs.declared.section.ProgramMap.{ProgramMap}
 
+-- ---- one entry's kind, as the code takes it in
+module _ (k : Kind) (slot : ℕ) (a : Av1) where
+  pub take_other : k ≡ Other → a ≡ with_kind k slot a
+  take_other e = rw e
+
+  pub take_misplaced : k ≡ Misplaced → Wrong ≡ with_kind k slot a
+  take_misplaced e = rw e
+
+  pub take_first : (v : Option Bytes) → k ≡ Right v → a ≡ Missing → One slot v ≡ with_kind k slot a
+  take_first v e f = rw (e, f)
+
 -- ---- a list's first element, by a test of it
 module _ {A : Type 0} (f : A → Bool) (a : A) (s : List A) where
   pub first_in : f a ≡ true → first_of f (a ∷ s) ≡ 0

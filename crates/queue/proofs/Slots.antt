@@ -4,8 +4,8 @@ use mathlib.Core.Path.{◌≡◌, refl, sym, ap, ap₂, ◌∙◌}
 use mathlib.Core.List.{List, [], ◌∷◌, ◌++◌, map, flatten, append-nil, append_assoc}
 use native.Mathlib.Omega.{arith}
 use native.Mathlib.Numerals.{add-one}
-use lib.ListN.{length, take, drop, set, get_or, replicate, length-append, length-drop, drop_of_length-le}
-use lib.Seq.{take_all, drop-cons, set-append_seam}
+use lib.ListN.{length, take, drop, set, get_or, replicate, length-append, length-drop, length-set, take-append-drop, drop_of_length-le}
+use lib.Seq.{drop-drop, take-suc-set, take-suc, drop-set-lt, get_or-drop, take_all, drop-cons, set-append_seam}
 use Rattle.lists.specs.Lists.{Bytes}
 use Rattle.queue.specs.declared.records.Queued.{Queued}
 use Rattle.queue.specs.declared.records.Queue.{Queue}
@@ -56,6 +56,37 @@ first_gone u us h =
     (append_assoc (map record_of us) (drop (length us) (replicate 7 no_record)) (no_record ∷ [])
     ∙ ap (λ (l : List Queued). map record_of us ++ l) (all_none (length us) 7 (omega arith)))
     (omega (arith, length-append u.carried (queued_bytes us)))
+
+-- one record moves down
+pub record Moved (l units : List Queued) (i : ℕ) : Type 0 where
+  pub long : length units ≡ 8
+  pub front : take i units ≡ take i (drop 1 l)
+  pub back : drop i units ≡ drop i (replicate 8 no_record)
+
+pub moved_start : (l units : List Queued) → units ≡ replicate 8 no_record → Moved l units 0
+moved_start l units e = record { long = ap length e; front = refl; back = e }
+
+pub moved_next : {l units : List Queued} {i : ℕ} (d r : Queued) → length l ≡ 8 → i < 7 → r ≡ get_or l (i + 1) d → Moved l units i
+    → Moved l (set units i r) (i + 1)
+moved_next {l} {units} {i} d r h k e m =
+    let n : i + 1 ≡ 1 + i = omega arith in
+    let g : get_or (drop 1 l) i d ≡ r = get_or-drop 1 l i d ∙ ap (λ (j : ℕ). get_or l j d) (sym n) ∙ sym e in
+    record {
+      long = length-set units i r ∙ m.long;
+      front =
+          rw add-one
+          (take-suc-set units i r (omega (arith, m.long)) ∙ ap (λ (x : List Queued). x ++ (r ∷ [])) m.front
+          ∙ ap (λ (x : Queued). take i (drop 1 l) ++ (x ∷ [])) (sym g) ∙ sym (take-suc (drop 1 l) i d (omega (arith, length-drop 1 l))));
+      back =
+          drop-set-lt (i + 1) units i r (omega arith) ∙ sym (drop-drop 1 i units) ∙ ap (λ (x : List Queued). drop 1 x) m.back
+          ∙ drop-drop 1 i (replicate 8 no_record);
+    }
+
+pub moved_done : {l units : List Queued} (i : ℕ) → length l ≡ 8 → i ≡ 7 → Moved l units i → units ≡ drop 1 l ++ (no_record ∷ [])
+moved_done {l} {units} i h e m =
+    sym (take-append-drop i units)
+    ∙ ap (λ (x : List Queued). x ++ drop i units) (m.front ∙ take_all i (drop 1 l) (omega (arith, length-drop 1 l)))
+    ∙ ap (λ (x : List Queued). drop 1 l ++ x) (m.back ∙ ap (λ (k : ℕ). drop k (replicate 8 no_record)) e)
 
 -- the records behind the first one move down, one after the other
 one_down : (a : Queued) (l : List Queued) (i : ℕ) (r : Queued) → i < length l

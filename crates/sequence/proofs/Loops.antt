@@ -1,5 +1,5 @@
 -- Loops over bits: one bit more of a number, of a skip, and of a run of zeros. Assumes nothing.
-use Prim.Native.Nat.{ℕ, zero, suc, ◌+◌, ◌*◌, ◌^◌, ◌<◌, ◌≤◌, min}
+use Prim.Native.Nat.{ℕ, zero, suc, ◌+◌, ◌-◌, ◌*◌, ◌^◌, ◌<◌, ◌≤◌, min}
 use mathlib.Core.Bool.{true}
 use mathlib.Core.Path.{◌≡◌, refl, ap}
 use mathlib.Core.List.{List, [], ◌∷◌}
@@ -39,6 +39,16 @@ byte_room x i h k = let small : i ≤ 7 = omega arith in lt_of_lt_of_le k (pow_m
 pub below_more : (x b i : ℕ) → x < 2 ^ i → b < 2 → x * 2 + b < 2 ^ (i + 1)
 below_more x b i h k = let e : 2 ^ suc i ≡ 2 ^ i * 2 = pow-suc 2 i in rw add-one (omega (arith, e))
 
+-- a loop that reads a number: `left` bits are to come behind `value`, and what they say is what the whole says
+pub record Counting (r : BitReader) (n value : ℕ) (s : BitReader) (left : ℕ) : Type 0 where
+  pub below : value < 2 ^ (n - left)
+  pub fits : left ≤ n
+  pub rest : (v : ℕ) (t : BitReader) → Reads s (f_from value left) v t → Reads r (f n) v t
+
+module _ {r s : BitReader} {n value left : ℕ} (h : Counting r n value s left) where
+  pub counting_room : n ≤ 8 → 0 < left → value < 128
+  counting_room m p = byte_room value (n - left) (omega arith) h.below
+
 -- ---- bits that are not looked at
 more_skipped : (x y i : ℕ) (l : List ℕ)
     → ((f_from x i >> return {A = NoValue} tt) >> (f 1 >> return {A = NoValue} tt)) l ≡ (f_from y (suc i) >> return {A = NoValue} tt) l
@@ -75,6 +85,13 @@ module _ {A : Type 0} (m : Reader A) where
 
   pub one_time : {r s t : BitReader} {v : A} (i : ℕ) → Reads r (times i m) tt s → Reads s m v t → Reads r (times (i + 1) m) tt t
   one_time i p q = rw add-one (alike (more_times i) (before p (before q done)))
+
+-- a loop over reads of one form
+pub record Repeating {A : Type 0} (r : BitReader) (n : ℕ) (m : Reader A) (s : BitReader) (left : ℕ) : Type 0 where
+  pub rest : (t : BitReader) → Reads s (times left m) tt t → Reads r (times n m) tt t
+
+pub repeating_start : {A : Type 0} (r : BitReader) (n : ℕ) (m : Reader A) → Repeating r n m r n
+repeating_start r n m = record { rest = λ t h. h }
 
 -- ---- a flag
 pub flagged : {r s : BitReader} {b : ℕ} → Reads r (f 1) b s → Reads r flag (eqb b 1) s
