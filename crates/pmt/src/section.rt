@@ -14,7 +14,7 @@ use refusal::{Refusal, Refused};
 
 // What a PMT says: the PCR PID; how many entries, and the entries in the first slots; the AV1 entry's slot, and the
 // four bytes that its video descriptor has after its tag and length, if it has one.
-#[derive(Drop)]
+#[derive(Clone, Copy)]
 pub struct ProgramMap {
     pub pcr_pid: u16,
     // Stays: the count and the slots are two fields of a map, as `map_of` (specs/Answer.antt) states each of them.

@@ -27,7 +27,7 @@ pub struct Summary {
 }
 
 // An accepted segment: its summary, and its map.
-#[derive(Drop)]
+#[derive(Clone, Copy)]
 pub struct Accepted {
     pub summary: Summary,
     pub map: ProgramMap,

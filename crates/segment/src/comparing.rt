@@ -11,7 +11,7 @@ use descriptor::fields_of;
 use refusal::Refused;
 
 // An accepted segment: its summary, and the first disagreement of a sequence header with the video descriptor.
-#[derive(Drop)]
+#[derive(Clone, Copy)]
 pub struct Compared {
     pub summary: Summary,
     pub disagreement: Option<Disagreement>,
