@@ -170,7 +170,7 @@ impl QueuedAnswer {
             Err(refused) => QueuedAnswer {
                 number: refused.why.number() as u64,
                 place: refused.place as u64,
-                empty: 0,
+                empty: 0, // only drop finds it so
                 queue,
             },
         }

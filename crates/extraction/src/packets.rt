@@ -1,5 +1,5 @@
 // One packet of the segment, by the table of document 01 in its sequence.
-ghost use Rattle.std.specs.Prelude.{◌≡◌};
+ghost use Rattle.std.specs.Prelude.{◌≡◌, ◌&&◌, not};
 ghost use Rattle.refusal.specs.Number.{says};
 ghost use Rattle.refusal.specs.Verdict.{at_place};
 ghost use Rattle.packet.specs.Header.{packet_at, header_of};
@@ -26,6 +26,13 @@ fn header_at(segment: &[u8], index: usize) -> Result<Header, Refused>
     ensures { says result ≡ at_place index (header_of (packet_at segment.now index)) }
 {
     packet::read(packet_at(segment, index)).map_err(|refused| refused.why.at(index))
+}
+
+// Returns whether what a packet carries is taken: there is a payload, and the packet is no repeat.
+fn is_taken(carries: bool, repeat: bool) -> bool
+    ensures { result ≡ (carries && not repeat) }
+{
+    carries && !repeat
 }
 
 // Stays: `out`, `lens`, `times` are parameters, since `State::step` is promised of each (docs/PROMISES.md).
@@ -90,7 +97,7 @@ impl State {
     {
         self.tables.pcr = self.tables.last_pcr(packet.header);
         let repeat = check_counter(segment, packet, records)?;
-        if repeat || packet.header.payload.is_none() {
+        if !is_taken(packet.header.payload.is_some(), repeat) {
             return Ok(());
         }
         self.take_content(segment, packet, records, out, lens, times)

@@ -1,9 +1,10 @@
 -- The PCR is noted and the counter is checked; where that passed, a packet with payload that is no repeat goes on with what it carries.
 use Rattle.std.specs.Prelude.{Ok, Err}
-use mathlib.Core.Bool.{Bool, true, false, not, ◌||◌, or-true}
-use mathlib.Core.Path.{◌≡◌, refl, ap, ◌∙◌}
+use mathlib.Core.Bool.{Bool, true, false, not, ◌&&◌}
+use mathlib.Core.Path.{◌≡◌, refl, sym, ap, ◌∙◌}
 use Rattle.std.proofs.lemmas.Result.{err_from_is_err_and}
 use Rattle.lists.specs.Lists.{Bytes}
+use Rattle.lists.proofs.Tests.{and_both}
 use Rattle.descriptor.specs.Naming.{edition_says}
 use Rattle.packet.specs.Header.{fields, has_payload}
 use Rattle.packet.proofs.Headers.{passed_fields}
@@ -13,7 +14,6 @@ use Rattle.extraction.specs.declared.packets.State.{State}
 use Rattle.extraction.specs.Packets.{StateKept}
 use Rattle.extraction.specs.Parts.{with_clock}
 use Rattle.extraction.proofs.Stepping.{counted, counter_wrong, has_payload_so, next_stands, passed_over, with_content}
-use Rattle.extraction.proofs.packets.State.step_read.Goals.{then-repeat-via-then-repeat, then-repeat-via-else-repeat+then-is_none}
 use Rattle.extraction.proofs.packets.State.step_read.Goals as goal
 
 pub returns-in_err-repeat : goal.returns-in_err-repeat
@@ -32,19 +32,16 @@ returns-in_err-repeat c =
       ((λ k p. (refl, refl)), (λ q k. refl)),
     )
 
-pub returns-then-repeat : goal.returns-then-repeat
-returns-then-repeat c =
+pub returns-then-not-is_taken : goal.returns-then-not-is_taken
+returns-then-not-is_taken c =
     let a = c.args in
     let k = a.packet in
     let repeat = c.in_ok-repeat.repeat in
     let next : State = with_clock a.self.now c.last_pcr-self.result in
     let now = outputs_of a.out.now a.lens.now a.times.now in
-    let over : (p : Bytes) → k.header ≡ fields p → (repeat || not (has_payload p)) ≡ true =
-    λ p e. elim c.then-repeat.branch [
-      | then-repeat-via-then-repeat w ↦ ap (λ (b : Bool). b || not (has_payload p)) w.if-repeat.true
-      | then-repeat-via-else-repeat+then-is_none w ↦
-          ap (λ (b : Bool). repeat || not b) (has_payload_so p k.header e ∙ w.is_none.ensures ∙ ap not w.if-is_none.true) ∙ or-true repeat
-    ] in (
+    let over : (p : Bytes) → k.header ≡ fields p → (has_payload p && not repeat) ≡ false =
+    λ p e. ap (λ (b : Bool). b && not repeat) (has_payload_so p k.header e ∙ sym c.is_some.ensures) ∙ sym c.is_taken.ensures
+    ∙ c.if-not-is_taken.true in (
       (λ edition before p st same right there s.
           let fits = passed_fields p _ right in
           passed_over (edition_says edition) (rooms_of before) k.index p (kind_says k.kind) st k.header right (Ok tt) repeat
@@ -60,16 +57,19 @@ returns c =
     let k = a.packet in
     let repeat = c.in_ok-repeat.repeat in
     let next : State = with_clock a.self.now c.last_pcr-self.result in
-    let now = outputs_of a.out.now a.lens.now a.times.now in (
+    let now = outputs_of a.out.now a.lens.now a.times.now in
+    let taken : (p : Bytes) → k.header ≡ fields p → (has_payload p && not repeat) ≡ true =
+    λ p e. ap (λ (b : Bool). b && not repeat) (has_payload_so p k.header e ∙ sym c.is_some.ensures) ∙ sym c.is_taken.ensures
+    ∙ c.if-not-is_taken.false in (
       (λ edition before p st same right there s.
           let fits = passed_fields p _ right in
           let Stands = StateKept edition a.segment.now before now next c.check_counter.new.records in
           let counts = counted s k p next (counter_result (Ok repeat)) c.check_counter.new.records same fits there
           (refl, c.last_pcr-self.ensures) c.in_ok-repeat.ensures.counter_refines in
           with_content (edition_says edition) (rooms_of before) k.index p (kind_says k.kind) st k.header right (Ok tt) repeat Stands counts
-          refl c.if-repeat.false c.take_content.result _
+          refl (taken p fits) c.take_content.result _
           (c.take_content.ensures.0 edition before p _ same fits
-          (has_payload_so p k.header fits ∙ c.is_none.ensures ∙ ap not c.if-is_none.false)
+          (and_both (has_payload p) (not repeat) (taken p fits)).0
           (next_stands (edition_says edition) (rooms_of before) k.index p (kind_says k.kind) st k.header right (Ok tt) repeat Stands counts
           refl))),
       c.take_content.ensures.1,
