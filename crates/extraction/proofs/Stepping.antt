@@ -9,7 +9,7 @@ use native.Mathlib.Omega.{arith}
 use borrow.Author.Tests.{le-ltb}
 use lib.ListN.{length, replicate}
 use Rattle.lists.specs.Lists.{Bytes, pick, zeros}
-use Rattle.lists.proofs.Tests.{case, clash, and_both}
+use Rattle.lists.proofs.Tests.{case, clash}
 use Rattle.refusal.specs.Verdict.{Verdict, passed, refused, ◌>>=◌, ◌>>◌, at_place, NoValue}
 use Rattle.refusal.specs.Number.{refused_by}
 use Rattle.refusal.specs.declared.Refused.{Refused}
@@ -241,6 +241,12 @@ module _ {edition : Edition} {segment : Bytes} {before now : Outputs} {c : code.
         u.1,
       ))
 
+-- a packet whose content is taken has payload and is no repeat
+pub taken_both : (carries repeat : Bool) → (carries && not repeat) ≡ true → (carries ≡ true) × (repeat ≡ false)
+taken_both true true e = clash e refl
+taken_both true false e = (refl, refl)
+taken_both false repeat e = clash e refl
+
 module _ (edition : rules.Edition) (rooms : Rooms) (i : ℕ) (p : Bytes) (k : state.Kind) (st : State) (h : Header)
     (right : header_of p ≡ passed h) (o : Result NoValue Refused) (repeat : Bool) (Stands : State → Type 0)
     (counts : Refines o (checked i p (clocked i p st.tables))
@@ -294,11 +300,8 @@ module _ (edition : rules.Edition) (rooms : Rooms) (i : ℕ) (p : Bytes) (k : st
         (next, goes ∙ repeated p carries next (sym after_24.2.1 ∙ b), next_stands)
 
     -- what it carries
-    pub with_content : (has_payload p && not repeat) ≡ true → (x : Result NoValue Refused) (S : State → Type 0) → Refines x (carries next) S
-        → Refines x whole S
-    with_content e x S t =
-        let b : repeat ≡ false = case repeat (λ u. clash (and_both (has_payload p) (not repeat) e).1 (ap not u)) (λ u. u) in
-        refines_as _ S whole x (sym (goes ∙ not_repeated p carries next (sym after_24.2.1 ∙ b))) t
+    pub with_content : repeat ≡ false → (x : Result NoValue Refused) (S : State → Type 0) → Refines x (carries next) S → Refines x whole S
+    with_content b x S t = refines_as _ S whole x (sym (goes ∙ not_repeated p carries next (sym after_24.2.1 ∙ b))) t
 
   -- what it carries is not taken
   pub passed_over : o ≡ (Ok tt) → (has_payload p && not repeat) ≡ false → Refines o whole Stands

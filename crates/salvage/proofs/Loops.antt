@@ -1,12 +1,14 @@
 -- Loops over the tsOBUs of a string: what is done, then the definition of the rest, is the definition of the whole. Assumes nothing.
 use Prim.Native.Nat.{ℕ, zero, suc, ◌+◌, ◌-◌, ◌≤◌, ◌<◌}
+use mathlib.Core.Bool.{true}
 use mathlib.Core.Path.{◌≡◌, refl, sym, ap, subst, subst₂, ◌∙◌}
 use mathlib.Core.Logic.{◌⊎◌, inl, inr}
 use mathlib.Core.List.{List, [], ◌∷◌, ◌++◌, map, flatten, append-nil, append_assoc, map-append}
 use native.Mathlib.Omega.{arith}
 use native.Mathlib.Numerals.{add-one}
-use borrow.Author.Tests.{le-ltb}
+use borrow.Author.Tests.{lt-ltb, le-ltb}
 use borrow.Rule.Slice.PartMut.{mid_of, put_mid}
+use lib.Dec.{ltb}
 use lib.ListN.{length, take, set, length-set, length-append, length-drop}
 use lib.Seq.{take-set-le, take-suc-set, append_snoc}
 use Rattle.lists.specs.Lists.{Bytes, those, over}
@@ -118,6 +120,9 @@ pub forms_within : (s : Bytes) → length (forms (payloads s)) ≤ length s
 forms_within s = omega (arith, never_longer s, ap length (salvaged_is s))
 
 module _ {all rest ps : List Bytes} {p : Bytes} {m : Measured} (g : Measuring all rest m) (q : rest ≡ p ∷ ps) where
+  pub measuring_past : 64 ≤ m.count → true ≡ ltb most_obus (length all)
+  measuring_past k = sym (lt-ltb most_obus (length all) (omega (arith, g.total, ap length q)))
+
   module _ (k : m.count < 64) (one : One) (o : OneOf p one) where
     summed_next : m.bytes + one.bytes + length (forms ps) ≡ length (forms all)
     unfolding flatten

@@ -4,7 +4,6 @@ use mathlib.Core.Bool.{Bool, true, false, not, ◌&&◌}
 use mathlib.Core.Path.{◌≡◌, refl, sym, ap, ◌∙◌}
 use Rattle.std.proofs.lemmas.Result.{err_from_is_err_and}
 use Rattle.lists.specs.Lists.{Bytes}
-use Rattle.lists.proofs.Tests.{and_both}
 use Rattle.descriptor.specs.Naming.{edition_says}
 use Rattle.packet.specs.Header.{fields, has_payload}
 use Rattle.packet.proofs.Headers.{passed_fields}
@@ -13,7 +12,7 @@ use Rattle.tables.specs.Tables.{kind_says, counter_result}
 use Rattle.extraction.specs.declared.packets.State.{State}
 use Rattle.extraction.specs.Packets.{StateKept}
 use Rattle.extraction.specs.Parts.{with_clock}
-use Rattle.extraction.proofs.Stepping.{counted, counter_wrong, has_payload_so, next_stands, passed_over, with_content}
+use Rattle.extraction.proofs.Stepping.{counted, counter_wrong, has_payload_so, next_stands, passed_over, taken_both, with_content}
 use Rattle.extraction.proofs.packets.State.step_read.Goals as goal
 
 pub returns-in_err-repeat : goal.returns-in_err-repeat
@@ -58,18 +57,19 @@ returns c =
     let repeat = c.in_ok-repeat.repeat in
     let next : State = with_clock a.self.now c.last_pcr-self.result in
     let now = outputs_of a.out.now a.lens.now a.times.now in
-    let taken : (p : Bytes) → k.header ≡ fields p → (has_payload p && not repeat) ≡ true =
-    λ p e. ap (λ (b : Bool). b && not repeat) (has_payload_so p k.header e ∙ sym c.is_some.ensures) ∙ sym c.is_taken.ensures
-    ∙ c.if-not-is_taken.false in (
+    let taken : (p : Bytes) → k.header ≡ fields p → (has_payload p ≡ true) × (repeat ≡ false) =
+    λ p e. taken_both (has_payload p) repeat
+    (ap (λ (b : Bool). b && not repeat) (has_payload_so p k.header e ∙ sym c.is_some.ensures) ∙ sym c.is_taken.ensures
+    ∙ c.if-not-is_taken.false) in (
       (λ edition before p st same right there s.
           let fits = passed_fields p _ right in
           let Stands = StateKept edition a.segment.now before now next c.check_counter.new.records in
           let counts = counted s k p next (counter_result (Ok repeat)) c.check_counter.new.records same fits there
           (refl, c.last_pcr-self.ensures) c.in_ok-repeat.ensures.counter_refines in
           with_content (edition_says edition) (rooms_of before) k.index p (kind_says k.kind) st k.header right (Ok tt) repeat Stands counts
-          refl (taken p fits) c.take_content.result _
+          refl (taken p fits).1 c.take_content.result _
           (c.take_content.ensures.0 edition before p _ same fits
-          (and_both (has_payload p) (not repeat) (taken p fits)).0
+          (taken p fits).0
           (next_stands (edition_says edition) (rooms_of before) k.index p (kind_says k.kind) st k.header right (Ok tt) repeat Stands counts
           refl))),
       c.take_content.ensures.1,
